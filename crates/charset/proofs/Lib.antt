@@ -1,0 +1,3 @@
+-- Laws of the character classes.
+pub mod BitLaws
+pub mod RunLaws

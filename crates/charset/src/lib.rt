@@ -1,0 +1,121 @@
+// Character classes: a set of bytes in four 64-bit words, and its normal ranges.
+// (01, "The book": a class of characters is a set of bytes held as one record.)
+ghost use mathlib.Core.Path.{_≡_};
+ghost use mathlib.Core.Bool.{Bool, false, _||_};
+ghost use mathlib.Core.List.{List};
+ghost use Prim.Native.Nat.{ℕ, _+_, _-_, _<_, _≤_, min};
+ghost use lib.Dec.{eqb};
+ghost use lib.ListN.{getD};
+ghost use Rattle.charset.specs.Set.{bit, has, inRange};
+ghost use Rattle.charset.specs.Runs.{runs, firstRun};
+ghost use Rattle.charset.specs.Sought.{Sought};
+
+// How many characters there are.
+pub const CHARACTERS: usize = 256;
+
+pub struct CharSet {
+    pub words: [u64; 4],
+}
+
+// What reading the normal ranges one after the other finds.
+pub enum NextRun {
+    // The next range, its ends included.
+    Run(usize, usize),
+    End,
+}
+
+impl CharSet {
+    // The set with no byte in it.
+    pub fn empty() -> Self
+        ensures { λ r. ⌜ ((c : ℕ) → c < 256 → has (r .words) c ≡ false) ⌝ }
+    {
+        CharSet { words: [0u64; 4] }
+    }
+
+    // Whether the byte is in the set.
+    pub fn contains(self, c: u8) -> bool
+        ensures { λ r. ⌜ r ≡ has (self .words) c ⌝ }
+    {
+        let at = (c / 64) as usize;
+        (self.words[at] >> (c % 64)) % 2 == 1
+    }
+
+    // The set with one byte more.
+    pub fn insert(self, c: u8) -> Self
+        ensures { λ r. ⌜ ((b : ℕ) → b < 256 → has (r .words) b ≡ (has (self .words) b || inRange c c b)) ⌝ }
+    {
+        self.insert_range(c, c)
+    }
+
+    // The set with the bytes from low to high more.
+    pub fn insert_range(self, low: u8, high: u8) -> Self
+        ensures { λ r. ⌜ ((b : ℕ) → b < 256 → has (r .words) b ≡ (has (self .words) b || inRange low high b)) ⌝ }
+    {
+        let w = self.words;
+        CharSet {
+            words: [
+                w[0] | range_mask(low, high, 0),
+                w[1] | range_mask(low, high, 64),
+                w[2] | range_mask(low, high, 128),
+                w[3] | range_mask(low, high, 192),
+            ],
+        }
+    }
+
+    // The first of the normal ranges of the bytes from `from` on.
+    pub fn next_run(self, from: usize) -> NextRun
+        ensures { λ r. ⌜ r ≡ firstRun (runs (has (self .words)) from (256 - from)) ⌝ }
+    {
+        let low = self.seek(from, true);
+        if 256 <= low {
+            return NextRun::End;
+        }
+        NextRun::Run(low, self.seek(low, false) - 1)
+    }
+
+    // The first place from `from` on whose membership is as wanted, 256 if there is none.
+    fn seek(self, from: usize, wanted: bool) -> usize
+        ensures { λ r. ⌜ Sought (has (self .words)) wanted from r ⌝ }
+    {
+        let mut at = from;
+        while at < 256 {
+            if self.contains(at as u8) == wanted {
+                return at;
+            }
+            at += 1;
+        }
+        at
+    }
+}
+
+// The bits of the word of the 64 bytes from `base` on at which a byte of the range stands.
+fn range_mask(low: u8, high: u8, base: u8) -> u64
+    requires { ⌜ base ≤ 192 ⌝ }
+    ensures { λ r. ⌜ ((b : ℕ) → b < 64 → bit r b ≡ inRange low high (base + b)) ⌝ }
+{
+    if high < low {
+        return 0;
+    }
+    if high < base {
+        return 0;
+    }
+    if base + 63 < low {
+        return 0;
+    }
+    let from = above(low, base);
+    let to = at_most_63(high - base);
+    (0xffff_ffff_ffff_ffffu64 >> (63 - (to - from))) << from
+}
+
+// How far x is above y, 0 if it is not.
+fn above(x: u8, y: u8) -> u8
+    ensures { λ r. ⌜ r ≡ x - y ⌝ }
+{
+    if x < y { 0 } else { x - y }
+}
+
+fn at_most_63(x: u8) -> u8
+    ensures { λ r. ⌜ r ≡ min x 63 ⌝ }
+{
+    if x < 63 { x } else { 63 }
+}
