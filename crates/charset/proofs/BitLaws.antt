@@ -1,18 +1,19 @@
 -- Laws of the bits of a word: of `or`, and of a block of ones.
-use Prim.Native.Nat.{ℕ, zero, suc, _+_, _-_, _*_, _/_, _%_, _^_, _<_, _≤_, min, max}
-use mathlib.Core.Path.{_≡_, refl, sym, ap, ap₂, subst, _∙_}
-use mathlib.Core.Bool.{Bool, true, false, _||_, _&&_}
+use Prim.Native.Nat.{ℕ, zero, suc, _+_, _-_, _*_, _/_, _%_, _^_, min, max, _≤_, _<_}
+use mathlib.Core.Path.{_≡_, refl, sym, _∙_, ap}
+use mathlib.Core.Bool.{false, _&&_, _||_}
 use mathlib.Core.List.{List, [], _∷_}
 use mathlib.Core.Logic.{by-cases}
 use native.Mathlib.Omega.{arith}
 use native.Mathlib.Decide.{decLe, decLt}
-use native.Mathlib.Nat.{mul-assoc, div-eq-of-lt, not-le-of-lt}
-use borrow.Author.Tests.{lt-ltb, le-ltb, le-leb, lt-leb, eq-eqb, ne-eqb}
+use native.Mathlib.Nat.{mul-assoc, not-le-of-lt, div-eq-of-lt}
 use lib.Dec.{leb, ltb, eqb}
 use lib.ListN.{getD}
-use lib.Bits.{bitOr, or-shr, or-step}
-use lib.Pow.{pow-add, pow-pos, pow-mono, shl-shr, shr-shr, shl-exact, ones-split, high as high-part, ones-lt}
+use lib.Pow.{pow-pos, pow-mono, pow-add, shl-exact, shl-shr, shr-shr, split, high, low, ones-lt, ones-split}
+use lib.Bits.{bitOr, or-step, or-shr}
+use borrow.Author.Tests.{lt-ltb, le-ltb, le-leb, lt-leb}
 use Rattle.charset.specs.Set.{bit, has, inRange}
+use lib.Pow.{pow-add, pow-pos, pow-mono, shl-shr, shr-shr, shl-exact, ones-split, high as high-part, ones-lt}
 
 max-bit : (u v : ℕ) → u < 2 → v < 2 → eqb (max u v) 1 ≡ (eqb u 1 || eqb v 1)
 max-bit zero zero p q = refl

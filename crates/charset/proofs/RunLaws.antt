@@ -1,18 +1,19 @@
 -- Laws of normal ranges: how a run is read off, and that `runs` is the one normal form of a set (000, Proposition 3.2).
-use Prim.Native.Nat.{ℕ, zero, suc, _+_, _-_, _<_, _≤_}
-use mathlib.Core.Path.{_≡_, refl, sym, ap, subst, _∙_}
-use mathlib.Core.Bool.{Bool, true, false, _||_, _&&_, Bool·beq, not, cond, true≢false}
+use Prim.Native.Nat.{ℕ, zero, suc, _+_, _-_, _≤_, _<_}
+use mathlib.Core.Path.{_≡_, refl, sym, _∙_, ap, subst}
+use mathlib.Core.Bool.{Bool, false, true, cond, not, _||_, Bool·beq, true≢false}
 use mathlib.Core.List.{List, [], _∷_}
 use mathlib.Core.Logic.{by-cases}
 use native.Mathlib.Omega.{arith}
-use native.Mathlib.Decide.{decLe, decLt, ℕ-discrete}
-use native.Mathlib.Nat.{add-zero, add-suc, suc-add, zero-add, le-antisymm, le-refl}
+use native.Mathlib.Decide.{ℕ-discrete, decLt}
+use native.Mathlib.Nat.{add-zero, add-suc, zero-add, suc-add, le-refl}
+use lib.Dec.{eqb}
+use lib.ListN.{take}
+use lib.Pow.{high, low}
 use borrow.Author.Tests.{le-leb, lt-leb, eq-eqb, ne-eqb}
-use lib.Dec.{leb, eqb}
+use Rattle.charset.specs.Runs.{Range, range, joined, runs, Apart, covered, Normal, firstRun}
 use Rattle.charset.specs.Set.{inRange}
-use Rattle.charset.specs.Runs.{Range, range, joined, runs, firstRun, Apart, covered, Normal}
 use Rattle.charset.specs.Sought.{Sought}
-use Rattle.charset.specs.declared.NextRun.{NextRun}
 use Rattle.charset.specs.declared.NextRun.the-variants.{Run, End}
 
 -- ---- reading a run off

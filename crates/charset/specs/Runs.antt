@@ -1,6 +1,6 @@
 -- Normal form of a set of numbers: rising ranges that do not touch (01, "The book"; 000, Proposition 3.2).
-use Prim.Native.Nat.{ℕ, zero, suc, _<_, _≤_}
-use mathlib.Core.Bool.{Bool, false, _||_, cond}
+use Prim.Native.Nat.{ℕ, zero, suc, _≤_, _<_}
+use mathlib.Core.Bool.{Bool, false, cond, _||_}
 use mathlib.Core.List.{List, [], _∷_}
 use lib.Dec.{eqb}
 use Rattle.charset.specs.Set.{inRange}

@@ -1,9 +1,10 @@
 -- Sets of bytes, and ranges of characters (01, "The book"; 000, Definition 3.1).
 use Prim.Native.Nat.{ℕ, _/_, _%_, _^_}
-use mathlib.Core.Bool.{Bool, true, false, _&&_}
+use mathlib.Core.Bool.{Bool, _&&_}
 use mathlib.Core.List.{List}
 use lib.Dec.{leb, eqb}
 use lib.ListN.{getD}
+use lib.Pow.{high, low}
 
 -- Bit b of a word, the lowest is bit 0.
 unfoldable pub bit : ℕ → ℕ → Bool

@@ -2,8 +2,8 @@
 use Prim.Native.Nat.{_-_, min}
 use mathlib.Core.Path.{_≡_}
 use native.Mathlib.Omega.{arith}
-use Rattle.charset.proofs.BitLaws.{mask-none, mask-block}
 use borrow.Author.Needs.{needs}
+use Rattle.charset.proofs.BitLaws.{mask-none, mask-block}
 use Rattle.charset.proofs.range_mask.Statement.{statement}
 use Rattle.charset.proofs.range_mask.Tie as tie
 

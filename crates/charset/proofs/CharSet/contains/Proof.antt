@@ -1,7 +1,7 @@
 -- `contains` meets its contract: the shift and the remainder are the bit of the definition.
 use mathlib.Core.Path.{refl}
-use Rattle.charset.specs.Set.{has, bit}
 use borrow.Author.Needs.{needs}
+use Rattle.charset.specs.Set.{bit, has}
 use Rattle.charset.proofs.CharSet.contains.Statement.{statement}
 use Rattle.charset.proofs.CharSet.contains.Tie as tie
 

@@ -1,6 +1,6 @@
 -- `insert_range` meets its contract: each word is joined with its mask.
-use Rattle.charset.proofs.BitLaws.{has-joined}
 use borrow.Author.Needs.{needs}
+use Rattle.charset.proofs.BitLaws.{has-joined}
 use Rattle.charset.proofs.CharSet.insert_range.Statement.{statement}
 use Rattle.charset.proofs.CharSet.insert_range.Tie as tie
 

@@ -1,8 +1,8 @@
 -- `next_run` meets its contract: the first member, and the end of its run.
 use native.Mathlib.Omega.{arith}
-use Rattle.charset.proofs.RunLaws.{first-run, first-run-end, stop-above}
-use Rattle.charset.specs.Set.{has}
 use borrow.Author.Needs.{needs}
+use Rattle.charset.proofs.RunLaws.{first-run-end, stop-above, first-run}
+use Rattle.charset.specs.Set.{has}
 use Rattle.charset.proofs.CharSet.next_run.Statement.{statement}
 use Rattle.charset.proofs.CharSet.next_run.Tie as tie
 

@@ -1,13 +1,12 @@
 -- `seek` meets its contract: all places passed are not as wanted.
-use mathlib.Core.Logic.{by-cases}
-use native.Mathlib.Decide.{decLt}
-use mathlib.Core.Path.{_≡_, sym, subst, _∙_}
-use Rattle.charset.proofs.RunLaws.{beq-true, beq-false}
-use borrow.Author.Needs.{needs}
-use native.Mathlib.Omega.{arith}
+use Prim.Native.Nat.{ℕ, _-_, max, _≤_, _<_}
+use mathlib.Core.Path.{_≡_, sym, _∙_, subst}
 use mathlib.Core.Bool.{Bool, not}
-use mathlib.Core.Path.{_≡_}
-use Prim.Native.Nat.{ℕ, _-_, _<_, _≤_, max}
+use mathlib.Core.Logic.{by-cases}
+use native.Mathlib.Omega.{arith}
+use native.Mathlib.Decide.{decLt}
+use borrow.Author.Needs.{needs}
+use Rattle.charset.proofs.RunLaws.{beq-true, beq-false}
 use Rattle.charset.specs.Set.{has}
 use Rattle.charset.proofs.CharSet.seek.Statement.{statement}
 use Rattle.charset.proofs.CharSet.seek.Tie as tie

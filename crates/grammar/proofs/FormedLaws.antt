@@ -1,0 +1,132 @@
+-- In a frame that stands, each part lies within the bytes.
+use Prim.Native.Nat.{ℕ, zero, suc, _+_, _*_, _≤_, _<_}
+use mathlib.Core.Path.{_≡_, refl, _∙_, subst}
+use mathlib.Core.Bool.{Bool, false, true, _||_, true≢false}
+use mathlib.Core.List.{List, [], _∷_}
+use mathlib.Core.Logic.{by-cases}
+use native.Mathlib.Omega.{arith}
+use native.Mathlib.Decide.{decLt}
+use lib.Dec.{leb, ltb, eqb}
+use lib.ListN.{length}
+use borrow.Author.Tests.{ltb-false, leb-false, eqb-true, not-false}
+use Rattle.grammar.proofs.LayoutLaws.{production-first, class-first, declaration-first, production-within, production-after, class-within, class-after-productions, declaration-within, declaration-after-classes, needed-is-end}
+use Rattle.grammar.proofs.VerdictLaws.{refuse-accepted, and-first, and-second, first-all}
+use Rattle.grammar.specs.Check.{outside, shortHeader, headerLines, headerBytes, badHeader, shortContents, badArgumentCount, badRangeCount, badLength, namesArgument, badArgument, badArguments, badProduction, badRange, badClass, declarationLines, declarationBytes, badDeclaration, anyBelow, sameProduction, repeatedProduction, frameLines, frameCheck, bodiesLines, bodiesCheck}
+use Rattle.grammar.specs.Formed.{Framed, WellFormed}
+use Rattle.grammar.specs.Layout.{byteAt, sorts, productions, classes, declarations, startSort, argumentCount, rangeCount, bodiesAt, productionAt, result, argument, classAt, low, high, declarationAt, kind, first, second, neededLength}
+use Rattle.grammar.specs.Limits.{sortLimit, productionLimit, classLimit, argumentLimit, rangeLimit, headerLength}
+use Rattle.grammar.specs.Verdict.{refuseIf, inOrder}
+use Rattle.grammar.specs.declared.Verdict.{Verdict}
+use Rattle.grammar.specs.declared.Verdict.the-variants.{Accepted}
+
+module _ (b : List ℕ) (f : Framed b) where
+  end : length b ≡ declarationAt b (declarations b)
+  end = f .lengthIs ∙ needed-is-end b
+
+  pub declaration-in : (d : ℕ) → d < declarations b → declarationAt b d + 3 ≤ length b
+  declaration-in d h = omega (arith, end, declaration-within b d h)
+
+  pub class-in : (k : ℕ) → k < classes b → classAt b k + 2 * rangeCount b k ≤ length b
+  class-in k h = omega (arith, end, class-within b k h, declaration-after-classes b (declarations b))
+
+  pub production-in : (p : ℕ) → p < productions b → productionAt b p + (1 + argumentCount b p) ≤ length b
+  production-in p h =
+      omega (arith, end, production-within b p h, class-after-productions b (classes b), declaration-first b, declaration-after-classes b (declarations b))
+
+  pub bodies-in : bodiesAt b ≤ length b
+  bodies-in =
+      omega (arith, end, production-first b, production-after b (productions b), class-first b, class-after-productions b (classes b), declaration-first b, declaration-after-classes b (declarations b))
+
+-- ---- what the checks that accept say
+
+or-left : (a b : Bool) → (a || b) ≡ false → a ≡ false
+or-left true b e = e
+or-left false b e = refl
+
+or-right : (a b : Bool) → (a || b) ≡ false → b ≡ false
+or-right true b e = absurd (true≢false e)
+or-right false b e = e
+
+module _ (low high x : ℕ) (e : outside low high x ≡ false) where
+  inside-low : low ≤ x
+  inside-low = ltb-false x low (or-left (ltb x low) (ltb high x) e)
+
+  inside-high : x ≤ high
+  inside-high = ltb-false high x (or-right (ltb x low) (ltb high x) e)
+
+-- each check of a row that accepts accepts
+abbrev EachAccepted : List Verdict → Type 0
+EachAccepted [] = Unit {0}
+EachAccepted (v ∷ vs) = (v ≡ Accepted) × EachAccepted vs
+
+pub each-accepted : (vs : List Verdict) → inOrder vs ≡ Accepted → EachAccepted vs
+each-accepted [] e = tt
+each-accepted (v ∷ []) e = (e, tt)
+each-accepted (v ∷ w ∷ vs) e = (and-first v (inOrder (w ∷ vs)) e, each-accepted (w ∷ vs) (and-second v (inOrder (w ∷ vs)) e))
+
+header-inside : (s p k a l : ℕ) → headerBytes s p k a l ≡ Accepted
+    → (1 ≤ s) × (s ≤ sortLimit) × (1 ≤ p) × (p ≤ productionLimit) × (k ≤ classLimit) × (a < s)
+unfolding headerBytes
+header-inside s p k a l e =
+    let each = each-accepted (headerLines s p k a l) e in
+    let sorts = refuse-accepted (outside 1 sortLimit s) 2 0 (each .0) in
+    let productions = refuse-accepted (outside 1 productionLimit p) 2 1 (each .1 .0) in
+    (inside-low 1 sortLimit s sorts, inside-high 1 sortLimit s sorts, inside-low 1 productionLimit p productions, inside-high 1 productionLimit p productions, ltb-false classLimit k (refuse-accepted (ltb classLimit k) 2 2 (each .1 .1 .0)), leb-false s a (refuse-accepted (leb s a) 2 4 (each .1 .1 .1 .0)))
+
+pub framed : (b : List ℕ) → frameCheck b ≡ Accepted → Framed b
+unfolding frameCheck shortHeader badHeader shortContents badArgumentCount badRangeCount badLength
+framed b e =
+    let a = each-accepted (frameLines b) e in
+    let h = header-inside (sorts b) (productions b) (classes b) (startSort b) (byteAt b 5) (a .1 .0) in
+    record {
+      header = ltb-false (length b) headerLength (refuse-accepted (ltb (length b) headerLength) 1 (length b) (a .0));
+      someSort = h .0;
+      fewSorts = h .1;
+      someProduction = h .2;
+      fewProductions = h .3;
+      fewClasses = h .4;
+      startNamed = h .5;
+      fewArguments = λ p l. ltb-false argumentLimit (argumentCount b p) (refuse-accepted _ 3 _ (first-all (badArgumentCount b) (productions b) (a .1 .1 .1 .0) p l));
+      fewRanges = λ k l. ltb-false rangeLimit (rangeCount b k) (refuse-accepted _ 3 _ (first-all (badRangeCount b) (classes b) (a .1 .1 .1 .1 .0) k l));
+      lengthIs = eqb-true (length b) (neededLength b) (not-false (eqb (length b) (neededLength b)) (refuse-accepted _ 4 _ (a .1 .1 .1 .1 .1 .0)));
+    }
+
+any-all : (f : ℕ → Bool) (n : ℕ) → anyBelow n f ≡ false → (i : ℕ) → i < n → f i ≡ false
+unfolding anyBelow
+any-all f zero e i l = absurd (omega arith)
+any-all f (suc n) e i l =
+    by-cases (decLt i n)
+    (λ m. any-all f n (or-left (anyBelow n f) (f n) e) i m)
+    (λ m. let q : n ≡ i = omega arith in subst (λ (j : ℕ). f j ≡ false) q (or-right (anyBelow n f) (f n) e))
+
+module _ (b : List ℕ) (d : ℕ) (e : badDeclaration b d ≡ Accepted) where
+  parts : EachAccepted (declarationLines (declarationAt b d) (productions b) (kind b d) (first b d) (second b d))
+  unfolding badDeclaration declarationBytes
+  parts = each-accepted (declarationLines (declarationAt b d) (productions b) (kind b d) (first b d) (second b d)) e
+
+  kind-inside : outside 1 4 (kind b d) ≡ false
+  kind-inside = refuse-accepted _ 7 _ (parts .0)
+
+  first-there : first b d < productions b
+  first-there = leb-false (productions b) (first b d) (refuse-accepted _ 7 _ (parts .1 .0))
+
+  second-there : second b d < productions b
+  second-there = leb-false (productions b) (second b d) (refuse-accepted _ 7 _ (parts .1 .1 .0))
+
+pub well-formed : (b : List ℕ) → frameCheck b ≡ Accepted → bodiesCheck b ≡ Accepted → WellFormed b
+unfolding bodiesCheck badProduction badArgument badRange repeatedProduction
+well-formed b e f =
+    let a = each-accepted (bodiesLines b) f in
+    let production = first-all (badProduction b) (productions b) (a .0) in
+    let declaration = first-all (badDeclaration b) (declarations b) (a .1 .1 .0) in
+    record {
+      framed = framed b e;
+      resultNamed = λ p l. leb-false (sorts b) (result b p) (refuse-accepted _ 5 _ (and-first _ (badArguments b p) (production p l)));
+      argumentNamed = λ p i l m. not-false (namesArgument b (argument b p i)) (refuse-accepted _ 5 _ (first-all (badArgument b p) (argumentCount b p) (and-second (refuseIf (leb (sorts b) (result b p)) 5 (productionAt b p)) _ (production p l)) i m));
+      rangesRise = λ k r l m. ltb-false (high b k r) (low b k r) (refuse-accepted _ 6 _ (first-all (badRange b k) (rangeCount b k) (first-all (badClass b) (classes b) (a .1 .0) k l) r m));
+      someKind = λ d l. inside-low 1 4 (kind b d) (kind-inside b d (declaration d l));
+      fewKinds = λ d l. inside-high 1 4 (kind b d) (kind-inside b d (declaration d l));
+      firstThere = λ d l. first-there b d (declaration d l);
+      secondThere = λ d l. second-there b d (declaration d l);
+      different = λ p q l m. any-all (sameProduction b p) p (refuse-accepted _ 8 _ (first-all (repeatedProduction b) (productions b) (a .1 .1 .1 .0) p l)) q m;
+    }

@@ -1,0 +1,116 @@
+-- Laws of the layout: each part begins where the one before ends, and all of them end at the length called for.
+use Prim.Native.Nat.{ℕ, zero, suc, _+_, _*_, _≤_, _<_}
+use mathlib.Core.Path.{_≡_, refl, sym, subst}
+use mathlib.Core.List.{List}
+use mathlib.Core.Logic.{by-cases}
+use native.Mathlib.Omega.{arith}
+use native.Mathlib.Decide.{decLt}
+use native.Mathlib.Nat.{le-refl}
+use native.Mathlib.Numerals.{add-one}
+use Rattle.grammar.specs.Layout.{sumBelow, byteAt, productions, classes, declarations, argumentCount, rangeCount, bodiesAt, productionAt, classAt, declarationAt, neededLength}
+
+-- ---- sums
+
+pub sum-none : (f : ℕ → ℕ) → sumBelow 0 f ≡ 0
+unfolding sumBelow
+sum-none f = refl
+
+pub sum-more : (n : ℕ) (f : ℕ → ℕ) → sumBelow (n + 1) f ≡ sumBelow n f + f n
+unfolding sumBelow
+sum-more n f = rw add-one refl
+
+pub sum-bound : (m : ℕ) (f : ℕ → ℕ) → ((k : ℕ) → f k ≤ m) → (n : ℕ) → sumBelow n f ≤ n * m
+unfolding sumBelow
+sum-bound m f h zero = omega arith
+sum-bound m f h (suc n) = omega (arith, h n, sum-bound m f h n)
+
+pub sum-grows : (f : ℕ → ℕ) (m n : ℕ) → m < n → sumBelow m f + f m ≤ sumBelow n f
+unfolding sumBelow
+sum-grows f m zero h = absurd (omega arith)
+sum-grows f m (suc n) h =
+    by-cases (decLt m n)
+    (λ l. omega (arith, sum-grows f m n l))
+    (λ k. let e : m ≡ n = omega arith in subst (λ (j : ℕ). sumBelow j f + f j ≤ sumBelow (suc n) f) (sym e) (le-refl (sumBelow n f + f n)))
+
+pub sum-double : (f : ℕ → ℕ) (n : ℕ) → sumBelow n (λ k. 2 * f k) ≡ 2 * sumBelow n f
+unfolding sumBelow
+sum-double f zero = refl
+sum-double f (suc n) = omega (arith, sum-double f n)
+
+-- ---- the bodies follow one another
+
+module _ (b : List ℕ) where
+  pub production-first : productionAt b 0 ≡ bodiesAt b
+  unfolding productionAt sumBelow
+  production-first = omega arith
+
+  pub production-next : (p : ℕ) → productionAt b (p + 1) ≡ productionAt b p + (1 + argumentCount b p)
+  unfolding productionAt
+  production-next p = rw (sum-more p (λ q. 1 + argumentCount b q)) (omega arith)
+
+  pub class-first : classAt b 0 ≡ productionAt b (productions b)
+  unfolding classAt sumBelow
+  class-first = omega arith
+
+  pub class-next : (k : ℕ) → classAt b (k + 1) ≡ classAt b k + 2 * rangeCount b k
+  unfolding classAt
+  class-next k = rw (sum-more k (λ j. 2 * rangeCount b j)) (omega arith)
+
+  pub declaration-first : declarationAt b 0 ≡ classAt b (classes b)
+  unfolding declarationAt
+  declaration-first = omega arith
+
+  pub declaration-next : (d : ℕ) → declarationAt b (d + 1) ≡ declarationAt b d + 3
+  unfolding declarationAt
+  declaration-next d = omega arith
+
+  -- each part ends before the next kind of part begins
+  pub production-within : (p : ℕ) → p < productions b → productionAt b p + (1 + argumentCount b p) ≤ classAt b 0
+  unfolding productionAt classAt
+  production-within p h = omega (arith, sum-grows (λ q. 1 + argumentCount b q) p (productions b) h)
+
+  pub production-after : (p : ℕ) → productionAt b 0 ≤ productionAt b p
+  unfolding productionAt sumBelow
+  production-after p = omega arith
+
+  pub class-within : (k : ℕ) → k < classes b → classAt b k + 2 * rangeCount b k ≤ declarationAt b 0
+  unfolding classAt declarationAt
+  class-within k h = omega (arith, sum-grows (λ j. 2 * rangeCount b j) k (classes b) h)
+
+  pub class-after-productions : (k : ℕ) → classAt b 0 ≤ classAt b k
+  unfolding classAt sumBelow
+  class-after-productions k = omega arith
+
+  pub declaration-within : (d : ℕ) → d < declarations b → declarationAt b d + 3 ≤ declarationAt b (declarations b)
+  unfolding declarationAt
+  declaration-within d h = omega arith
+
+  pub declaration-after-classes : (d : ℕ) → declarationAt b 0 ≤ declarationAt b d
+  unfolding declarationAt
+  declaration-after-classes d = omega arith
+
+  pub needed-is-end : neededLength b ≡ declarationAt b (declarations b)
+  unfolding neededLength declarationAt classAt productionAt
+  needed-is-end = omega (arith, sum-double (λ k. rangeCount b k) (classes b))
+
+  -- ---- no sum wraps: counts are bytes
+  module _ (bytes : (k : ℕ) → byteAt b k < 256) where
+    pub count-small : (p : ℕ) → argumentCount b p < 256
+    unfolding argumentCount
+    count-small p = bytes (6 + p)
+
+    pub range-count-small : (k : ℕ) → rangeCount b k < 256
+    unfolding rangeCount
+    range-count-small k = bytes (6 + productions b + k)
+
+    pub production-small : (p : ℕ) → productionAt b p ≤ 516 + p * 256
+    unfolding productionAt
+    production-small p = omega (arith, bytes 1, bytes 2, sum-bound 256 (λ q. 1 + argumentCount b q) (λ k. omega (arith, count-small k)) p)
+
+    pub class-small : (k : ℕ) → classAt b k ≤ 516 + 255 * 256 + k * 510
+    unfolding classAt
+    class-small k = omega (arith, bytes 1, production-small (productions b), sum-bound 510 (λ j. 2 * rangeCount b j) (λ j. omega (arith, range-count-small j)) k)
+
+    pub declaration-small : (d : ℕ) → declarationAt b d ≤ 200000 + 3 * d
+    unfolding declarationAt
+    declaration-small d = omega (arith, bytes 2, class-small (classes b))

@@ -1,0 +1,4 @@
+-- Laws of the grammar's bytes.
+pub mod LayoutLaws
+pub mod VerdictLaws
+pub mod FormedLaws

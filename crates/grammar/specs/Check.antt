@@ -1,0 +1,138 @@
+-- The refusals 1 to 8 of a grammar, a definition to a line of the table (01, "Refused because of the input").
+use Prim.Native.Nat.{ℕ, zero, suc, _+_, min}
+use mathlib.Core.Bool.{Bool, false, true, not, _&&_, _||_}
+use mathlib.Core.List.{List, [], _∷_}
+use lib.Dec.{leb, ltb, eqb}
+use lib.ListN.{length}
+use Rattle.grammar.specs.Layout.{byteAt, sorts, productions, classes, declarations, startSort, argumentCountAt, rangeCountAt, argumentCount, rangeCount, bodiesAt, productionAt, argumentAt, result, argument, rangeAt, low, high, declarationAt, kind, first, second, neededLength}
+use Rattle.grammar.specs.Limits.{sortLimit, productionLimit, classLimit, argumentLimit, rangeLimit, classBase, headerLength}
+use Rattle.grammar.specs.Verdict.{refuseIf, andThen, firstRefusal, inOrder}
+use Rattle.grammar.specs.declared.Verdict.{Verdict}
+
+-- x is not one of low, low + 1, … high
+abbrev pub outside : ℕ → ℕ → ℕ → Bool
+outside low high x = ltb x low || ltb high x
+
+-- 1, first half: fewer than 6 bytes
+unfoldable pub shortHeader : List ℕ → Verdict
+shortHeader b = refuseIf (ltb (length b) headerLength) 1 (length b)
+
+-- 2: bytes 0, 1, 2, 4 or 5 outside their range; the place is the lowest such byte
+abbrev pub headerLines : ℕ → ℕ → ℕ → ℕ → ℕ → List Verdict
+headerLines sorts productions classes start last =
+    refuseIf (outside 1 sortLimit sorts) 2 0
+    ∷ refuseIf (outside 1 productionLimit productions) 2 1
+    ∷ refuseIf (ltb classLimit classes) 2 2
+    ∷ refuseIf (leb sorts start) 2 4
+    ∷ refuseIf (ltb 0 last) 2 5
+    ∷ []
+
+unfoldable pub headerBytes : ℕ → ℕ → ℕ → ℕ → ℕ → Verdict
+headerBytes sorts productions classes start last = inOrder (headerLines sorts productions classes start last)
+
+unfoldable pub badHeader : List ℕ → Verdict
+badHeader b = headerBytes (sorts b) (productions b) (classes b) (startSort b) (byteAt b 5)
+
+-- 1, second half: fewer than 6 + R + K bytes
+unfoldable pub shortContents : List ℕ → Verdict
+shortContents b = refuseIf (ltb (length b) (bodiesAt b)) 1 (length b)
+
+-- 3: an argument or range count too large; the place is the lowest such byte
+unfoldable pub badArgumentCount : List ℕ → ℕ → Verdict
+badArgumentCount b p = refuseIf (ltb argumentLimit (argumentCount b p)) 3 (argumentCountAt b p)
+
+unfoldable pub badRangeCount : List ℕ → ℕ → Verdict
+badRangeCount b k = refuseIf (ltb rangeLimit (rangeCount b k)) 3 (rangeCountAt b k)
+
+abbrev pub badArgumentCounts : List ℕ → Verdict
+badArgumentCounts b = firstRefusal (productions b) (badArgumentCount b)
+
+abbrev pub badRangeCounts : List ℕ → Verdict
+badRangeCounts b = firstRefusal (classes b) (badRangeCount b)
+
+-- 4: the length is not the one called for; the place is the smaller of the two
+unfoldable pub badLength : List ℕ → Verdict
+badLength b = refuseIf (not (eqb (length b) (neededLength b))) 4 (min (length b) (neededLength b))
+
+-- an argument byte that names something: a sort, or a class
+unfoldable pub namesArgument : List ℕ → ℕ → Bool
+namesArgument b x = ltb x (sorts b) || leb classBase x && ltb x (classBase + classes b)
+
+-- 5: a result or argument byte that names nothing; the place is that byte
+unfoldable pub badArgument : List ℕ → ℕ → ℕ → Verdict
+badArgument b p i = refuseIf (not (namesArgument b (argument b p i))) 5 (argumentAt b p i)
+
+abbrev pub badArguments : List ℕ → ℕ → Verdict
+badArguments b p = firstRefusal (argumentCount b p) (badArgument b p)
+
+unfoldable pub badProduction : List ℕ → ℕ → Verdict
+badProduction b p = andThen (refuseIf (leb (sorts b) (result b p)) 5 (productionAt b p)) (badArguments b p)
+
+abbrev pub badProductions : List ℕ → Verdict
+badProductions b = firstRefusal (productions b) (badProduction b)
+
+-- 6: a range with low above high; the place is the low byte
+unfoldable pub badRange : List ℕ → ℕ → ℕ → Verdict
+badRange b k r = refuseIf (ltb (high b k r) (low b k r)) 6 (rangeAt b k r)
+
+abbrev pub badClass : List ℕ → ℕ → Verdict
+badClass b k = firstRefusal (rangeCount b k) (badRange b k)
+
+abbrev pub badClasses : List ℕ → Verdict
+badClasses b = firstRefusal (classes b) (badClass b)
+
+-- 7: a kind that is not 1 to 4, or a production that isn't there; the place is that byte
+abbrev pub declarationLines : ℕ → ℕ → ℕ → ℕ → ℕ → List Verdict
+declarationLines at productions kind first second =
+    refuseIf (outside 1 4 kind) 7 at
+    ∷ refuseIf (leb productions first) 7 (at + 1)
+    ∷ refuseIf (leb productions second) 7 (at + 2)
+    ∷ []
+
+unfoldable pub declarationBytes : ℕ → ℕ → ℕ → ℕ → ℕ → Verdict
+declarationBytes at productions kind first second = inOrder (declarationLines at productions kind first second)
+
+unfoldable pub badDeclaration : List ℕ → ℕ → Verdict
+badDeclaration b d = declarationBytes (declarationAt b d) (productions b) (kind b d) (first b d) (second b d)
+
+abbrev pub badDeclarations : List ℕ → Verdict
+badDeclarations b = firstRefusal (declarations b) (badDeclaration b)
+
+-- f holds at each of, at one of, 0, 1, … n - 1
+unfoldable pub allBelow : ℕ → (ℕ → Bool) → Bool
+allBelow zero f = true
+allBelow (suc n) f = allBelow n f && f n
+
+unfoldable pub anyBelow : ℕ → (ℕ → Bool) → Bool
+anyBelow zero f = false
+anyBelow (suc n) f = anyBelow n f || f n
+
+-- an argument of one production is the same as that of another: the bytes are
+abbrev pub sameArgument : List ℕ → ℕ → ℕ → Bool
+sameArgument b x y = eqb x y
+
+-- two productions are equal: result and argument bytes are the same
+unfoldable pub sameProduction : List ℕ → ℕ → ℕ → Bool
+sameProduction b p q =
+    eqb (result b p) (result b q) && eqb (argumentCount b p) (argumentCount b q) && allBelow (argumentCount b p) (λ i. sameArgument b (argument b p i) (argument b q i))
+
+-- 8: a production equal to an earlier one; the place is the result byte of the first such
+unfoldable pub repeatedProduction : List ℕ → ℕ → Verdict
+repeatedProduction b p = refuseIf (anyBelow p (sameProduction b p)) 8 (productionAt b p)
+
+abbrev pub repeatedProductions : List ℕ → Verdict
+repeatedProductions b = firstRefusal (productions b) (repeatedProduction b)
+
+-- 1 to 4: the frame of the bytes
+abbrev pub frameLines : List ℕ → List Verdict
+frameLines b = shortHeader b ∷ badHeader b ∷ shortContents b ∷ badArgumentCounts b ∷ badRangeCounts b ∷ badLength b ∷ []
+
+unfoldable pub frameCheck : List ℕ → Verdict
+frameCheck b = inOrder (frameLines b)
+
+-- 5 to 8: what stands in the frame
+abbrev pub bodiesLines : List ℕ → List Verdict
+bodiesLines b = badProductions b ∷ badClasses b ∷ badDeclarations b ∷ repeatedProductions b ∷ []
+
+unfoldable pub bodiesCheck : List ℕ → Verdict
+bodiesCheck b = inOrder (bodiesLines b)

@@ -1,0 +1,34 @@
+-- What holds of a grammar's bytes that refusals 1 to 8 let through.
+use Prim.Native.Nat.{ℕ, _≤_, _<_}
+use mathlib.Core.Path.{_≡_}
+use mathlib.Core.Bool.{false, true}
+use mathlib.Core.List.{List}
+use lib.ListN.{length}
+use Rattle.grammar.specs.Check.{namesArgument, sameProduction}
+use Rattle.grammar.specs.Layout.{sorts, productions, classes, declarations, startSort, argumentCount, rangeCount, result, argument, low, high, kind, first, second, neededLength}
+use Rattle.grammar.specs.Limits.{sortLimit, productionLimit, classLimit, argumentLimit, rangeLimit, headerLength}
+
+-- The frame stands: refusals 1 to 4 do not hold.
+pub record Framed (b : List ℕ) : Type 0 where
+  pub header : headerLength ≤ length b
+  pub someSort : 1 ≤ sorts b
+  pub fewSorts : sorts b ≤ sortLimit
+  pub someProduction : 1 ≤ productions b
+  pub fewProductions : productions b ≤ productionLimit
+  pub fewClasses : classes b ≤ classLimit
+  pub startNamed : startSort b < sorts b
+  pub fewArguments : (p : ℕ) → p < productions b → argumentCount b p ≤ argumentLimit
+  pub fewRanges : (k : ℕ) → k < classes b → rangeCount b k ≤ rangeLimit
+  pub lengthIs : length b ≡ neededLength b
+
+-- All bytes are as they should be: refusals 1 to 8 do not hold.
+pub record WellFormed (b : List ℕ) : Type 0 where
+  pub framed : Framed b
+  pub resultNamed : (p : ℕ) → p < productions b → result b p < sorts b
+  pub argumentNamed : (p i : ℕ) → p < productions b → i < argumentCount b p → namesArgument b (argument b p i) ≡ true
+  pub rangesRise : (k r : ℕ) → k < classes b → r < rangeCount b k → low b k r ≤ high b k r
+  pub someKind : (d : ℕ) → d < declarations b → 1 ≤ kind b d
+  pub fewKinds : (d : ℕ) → d < declarations b → kind b d ≤ 4
+  pub firstThere : (d : ℕ) → d < declarations b → first b d < productions b
+  pub secondThere : (d : ℕ) → d < declarations b → second b d < productions b
+  pub different : (p q : ℕ) → p < productions b → q < p → sameProduction b p q ≡ false

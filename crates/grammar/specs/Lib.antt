@@ -1,0 +1,6 @@
+-- What the contracts of the grammar's bytes cite.
+pub mod Limits
+pub mod Layout
+pub mod Verdict
+pub mod Check
+pub mod Formed

@@ -1,0 +1,399 @@
+// Refusals 1 to 8, in the order of 01: the frame of the bytes, then what stands in it.
+use crate::Verdict;
+use crate::layout::argument_count;
+use crate::layout::bodies_at;
+use crate::layout::byte_at;
+use crate::layout::class_at;
+use crate::layout::class_count;
+use crate::layout::declaration_at;
+use crate::layout::declaration_count;
+use crate::layout::production_count;
+use crate::layout::range_count;
+use crate::layout::sort_count;
+use crate::layout::start_sort;
+use crate::limits::ARGUMENT_LIMIT;
+use crate::limits::CLASS_BASE;
+use crate::limits::CLASS_LIMIT;
+use crate::limits::HEADER_LENGTH;
+use crate::limits::PRODUCTION_LIMIT;
+use crate::limits::RANGE_LIMIT;
+use crate::limits::SORT_LIMIT;
+ghost use mathlib.Core.Path.{_≡_};
+ghost use mathlib.Core.Bool.{Bool, _||_};
+ghost use Prim.Native.Nat.{_+_, _*_, _<_, _≤_};
+ghost use lib.Dec.{ltb, leb, eqb};
+ghost use lib.ListN.{length, getD};
+ghost use Rattle.grammar.specs.Layout.{sorts, productions, classes, declarations, bodiesAt, productionAt, classAt, declarationAt};
+ghost use Rattle.grammar.specs.Check.{badHeader, headerBytes, badArgumentCounts, badRangeCounts, badLength, frameCheck, badProductions, badProduction, badArguments, namesArgument, badClasses, badClass, badDeclarations, badDeclaration, declarationBytes, repeatedProductions, anyBelow, allBelow, sameProduction, sameArgument, bodiesCheck};
+ghost use Rattle.grammar.specs.Formed.{Framed};
+
+// Refusals 1 to 4.
+pub fn check_frame(book: &[u8]) -> Verdict
+    ensures { λ r. ⌜ r ≡ frameCheck (now (book .entry)) ⌝ }
+{
+    if book.len() < HEADER_LENGTH {
+        return Verdict::Refused(1, book.len());
+    }
+    let header = check_header(book);
+    let Verdict::Accepted = header else {
+        return header;
+    };
+    if book.len() < bodies_at(book) {
+        return Verdict::Refused(1, book.len());
+    }
+    let arguments = check_argument_counts(book);
+    let Verdict::Accepted = arguments else {
+        return arguments;
+    };
+    let ranges = check_range_counts(book);
+    let Verdict::Accepted = ranges else {
+        return ranges;
+    };
+    check_length(book)
+}
+
+// 2: the lowest header byte outside its range.
+fn check_header(book: &[u8]) -> Verdict
+    requires { ⌜ 6 ≤ length (now book) ⌝ }
+    ensures { λ r. ⌜ r ≡ badHeader (now (book .entry)) ⌝ }
+{
+    check_header_bytes(
+        sort_count(book),
+        production_count(book),
+        class_count(book),
+        start_sort(book),
+        byte_at(book, 5),
+    )
+}
+
+fn check_header_bytes(
+    sorts: usize,
+    productions: usize,
+    classes: usize,
+    start: usize,
+    last: usize,
+) -> Verdict
+    ensures { λ r. ⌜ r ≡ headerBytes sorts productions classes start last ⌝ }
+{
+    if sorts < 1 {
+        return Verdict::Refused(2, 0);
+    }
+    if SORT_LIMIT < sorts {
+        return Verdict::Refused(2, 0);
+    }
+    if productions < 1 {
+        return Verdict::Refused(2, 1);
+    }
+    if PRODUCTION_LIMIT < productions {
+        return Verdict::Refused(2, 1);
+    }
+    if CLASS_LIMIT < classes {
+        return Verdict::Refused(2, 2);
+    }
+    if sorts <= start {
+        return Verdict::Refused(2, 4);
+    }
+    if 0 < last {
+        return Verdict::Refused(2, 5);
+    }
+    Verdict::Accepted
+}
+
+// 3, for the productions.
+fn check_argument_counts(book: &[u8]) -> Verdict
+    requires { ⌜ bodiesAt (now book) ≤ length (now book) ⌝ }
+    ensures { λ r. ⌜ r ≡ badArgumentCounts (now (book .entry)) ⌝ }
+{
+    let count = production_count(book);
+    let mut p = 0;
+    while p < count {
+        if ARGUMENT_LIMIT < argument_count(book, p) {
+            return Verdict::Refused(3, HEADER_LENGTH + p);
+        }
+        p += 1;
+    }
+    Verdict::Accepted
+}
+
+// 3, for the classes.
+fn check_range_counts(book: &[u8]) -> Verdict
+    requires { ⌜ bodiesAt (now book) ≤ length (now book) ⌝ }
+    ensures { λ r. ⌜ r ≡ badRangeCounts (now (book .entry)) ⌝ }
+{
+    let count = class_count(book);
+    let mut k = 0;
+    while k < count {
+        if RANGE_LIMIT < range_count(book, k) {
+            return Verdict::Refused(3, HEADER_LENGTH + production_count(book) + k);
+        }
+        k += 1;
+    }
+    Verdict::Accepted
+}
+
+// 4: the length is not the one called for.
+fn check_length(book: &[u8]) -> Verdict
+    requires { ⌜ bodiesAt (now book) ≤ length (now book) ⌝ }
+    ensures { λ r. ⌜ r ≡ badLength (now (book .entry)) ⌝ }
+{
+    let needed = declaration_at(book, declaration_count(book));
+    if book.len() < needed {
+        return Verdict::Refused(4, book.len());
+    }
+    if needed < book.len() {
+        return Verdict::Refused(4, needed);
+    }
+    Verdict::Accepted
+}
+
+// Refusals 5 to 8.
+pub fn check_bodies(book: &[u8]) -> Verdict
+    requires { ⌜ Framed (now book) ⌝ }
+    ensures { λ r. ⌜ r ≡ bodiesCheck (now (book .entry)) ⌝ }
+{
+    let productions = check_productions(book);
+    let Verdict::Accepted = productions else {
+        return productions;
+    };
+    let classes = check_classes(book);
+    let Verdict::Accepted = classes else {
+        return classes;
+    };
+    let declarations = check_declarations(book);
+    let Verdict::Accepted = declarations else {
+        return declarations;
+    };
+    check_repeated(book)
+}
+
+// 5: a byte that names nothing.
+fn check_productions(book: &[u8]) -> Verdict
+    requires { ⌜ Framed (now book) ⌝ }
+    ensures { λ r. ⌜ r ≡ badProductions (now (book .entry)) ⌝ }
+{
+    let count = production_count(book);
+    let mut at = bodies_at(book);
+    let mut p = 0;
+    while p < count {
+        let found = check_production(book, p, at);
+        let Verdict::Accepted = found else {
+            return found;
+        };
+        at += 1 + argument_count(book, p);
+        p += 1;
+    }
+    Verdict::Accepted
+}
+
+// 5 in production p, which stands at `at`.
+fn check_production(book: &[u8], p: usize, at: usize) -> Verdict
+    requires { ⌜ Framed (now book) ⌝ }
+    requires { ⌜ p < productions (now book) ⌝ }
+    requires { ⌜ at ≡ productionAt (now book) p ⌝ }
+    ensures { λ r. ⌜ r ≡ badProduction (now (book .entry)) p ⌝ }
+{
+    if sort_count(book) <= byte_at(book, at) {
+        return Verdict::Refused(5, at);
+    }
+    check_arguments(book, p, at)
+}
+
+fn check_arguments(book: &[u8], p: usize, at: usize) -> Verdict
+    requires { ⌜ Framed (now book) ⌝ }
+    requires { ⌜ p < productions (now book) ⌝ }
+    requires { ⌜ at ≡ productionAt (now book) p ⌝ }
+    ensures { λ r. ⌜ r ≡ badArguments (now (book .entry)) p ⌝ }
+{
+    let count = argument_count(book, p);
+    let mut i = 0;
+    while i < count {
+        if !names_argument(book, byte_at(book, at + 1 + i)) {
+            return Verdict::Refused(5, at + 1 + i);
+        }
+        i += 1;
+    }
+    Verdict::Accepted
+}
+
+// Whether an argument byte names a sort or a class.
+fn names_argument(book: &[u8], x: usize) -> bool
+    requires { ⌜ 6 ≤ length (now book) ⌝ }
+    ensures { λ r. ⌜ r ≡ namesArgument (now (book .entry)) x ⌝ }
+{
+    if x < sort_count(book) {
+        return true;
+    }
+    if x < CLASS_BASE {
+        return false;
+    }
+    x < CLASS_BASE + class_count(book)
+}
+
+// 6: low above high.
+fn check_classes(book: &[u8]) -> Verdict
+    requires { ⌜ Framed (now book) ⌝ }
+    ensures { λ r. ⌜ r ≡ badClasses (now (book .entry)) ⌝ }
+{
+    let count = class_count(book);
+    let mut at = class_at(book, 0);
+    let mut k = 0;
+    while k < count {
+        let found = check_class(book, k, at);
+        let Verdict::Accepted = found else {
+            return found;
+        };
+        at += 2 * range_count(book, k);
+        k += 1;
+    }
+    Verdict::Accepted
+}
+
+// 6 in class k, which stands at `at`.
+fn check_class(book: &[u8], k: usize, at: usize) -> Verdict
+    requires { ⌜ Framed (now book) ⌝ }
+    requires { ⌜ k < classes (now book) ⌝ }
+    requires { ⌜ at ≡ classAt (now book) k ⌝ }
+    ensures { λ r. ⌜ r ≡ badClass (now (book .entry)) k ⌝ }
+{
+    let count = range_count(book, k);
+    let mut r = 0;
+    while r < count {
+        if byte_at(book, at + 2 * r + 1) < byte_at(book, at + 2 * r) {
+            return Verdict::Refused(6, at + 2 * r);
+        }
+        r += 1;
+    }
+    Verdict::Accepted
+}
+
+// 7: a kind or a production that isn't there.
+fn check_declarations(book: &[u8]) -> Verdict
+    requires { ⌜ Framed (now book) ⌝ }
+    ensures { λ r. ⌜ r ≡ badDeclarations (now (book .entry)) ⌝ }
+{
+    let count = declaration_count(book);
+    let mut at = declaration_at(book, 0);
+    let mut d = 0;
+    while d < count {
+        let found = check_declaration(book, d, at);
+        let Verdict::Accepted = found else {
+            return found;
+        };
+        at += 3;
+        d += 1;
+    }
+    Verdict::Accepted
+}
+
+// 7 in declaration d, which stands at `at`.
+fn check_declaration(book: &[u8], d: usize, at: usize) -> Verdict
+    requires { ⌜ Framed (now book) ⌝ }
+    requires { ⌜ d < declarations (now book) ⌝ }
+    requires { ⌜ at ≡ declarationAt (now book) d ⌝ }
+    ensures { λ r. ⌜ r ≡ badDeclaration (now (book .entry)) d ⌝ }
+{
+    check_declaration_bytes(
+        at,
+        production_count(book),
+        byte_at(book, at),
+        byte_at(book, at + 1),
+        byte_at(book, at + 2),
+    )
+}
+
+fn check_declaration_bytes(
+    at: usize,
+    productions: usize,
+    kind: usize,
+    first: usize,
+    second: usize,
+) -> Verdict
+    requires { ⌜ at < 1000000 ⌝ }
+    ensures { λ r. ⌜ r ≡ declarationBytes at productions kind first second ⌝ }
+{
+    if kind < 1 {
+        return Verdict::Refused(7, at);
+    }
+    if 4 < kind {
+        return Verdict::Refused(7, at);
+    }
+    if productions <= first {
+        return Verdict::Refused(7, at + 1);
+    }
+    if productions <= second {
+        return Verdict::Refused(7, at + 2);
+    }
+    Verdict::Accepted
+}
+
+// 8: a production equal to an earlier one.
+fn check_repeated(book: &[u8]) -> Verdict
+    requires { ⌜ Framed (now book) ⌝ }
+    ensures { λ r. ⌜ r ≡ repeatedProductions (now (book .entry)) ⌝ }
+{
+    let count = production_count(book);
+    let mut at = bodies_at(book);
+    let mut p = 0;
+    while p < count {
+        if repeats(book, p, at) {
+            return Verdict::Refused(8, at);
+        }
+        at += 1 + argument_count(book, p);
+        p += 1;
+    }
+    Verdict::Accepted
+}
+
+// Whether production p, which stands at `at`, is equal to an earlier one.
+fn repeats(book: &[u8], p: usize, at: usize) -> bool
+    requires { ⌜ Framed (now book) ⌝ }
+    requires { ⌜ p < productions (now book) ⌝ }
+    requires { ⌜ at ≡ productionAt (now book) p ⌝ }
+    ensures { λ r. ⌜ r ≡ anyBelow p (sameProduction (now (book .entry)) p) ⌝ }
+{
+    let mut other = bodies_at(book);
+    let mut q = 0;
+    while q < p {
+        if same_production(book, p, at, q, other) {
+            return true;
+        }
+        other += 1 + argument_count(book, q);
+        q += 1;
+    }
+    false
+}
+
+// Whether productions p and q, which stand at `at` and `other`, are equal.
+fn same_production(book: &[u8], p: usize, at: usize, q: usize, other: usize) -> bool
+    requires { ⌜ Framed (now book) ⌝ }
+    requires { ⌜ p < productions (now book) ⌝ }
+    requires { ⌜ at ≡ productionAt (now book) p ⌝ }
+    requires { ⌜ q < productions (now book) ⌝ }
+    requires { ⌜ other ≡ productionAt (now book) q ⌝ }
+    ensures { λ r. ⌜ r ≡ sameProduction (now (book .entry)) p q ⌝ }
+{
+    if byte_at(book, at) != byte_at(book, other) {
+        return false;
+    }
+    let count = argument_count(book, p);
+    if count != argument_count(book, q) {
+        return false;
+    }
+    same_bytes(book, at + 1, other + 1, count)
+}
+
+// Whether the bytes from `at` on are the `count` bytes from `other` on.
+fn same_bytes(book: &[u8], at: usize, other: usize, count: usize) -> bool
+    requires { ⌜ at + count ≤ length (now book) ⌝ }
+    requires { ⌜ other + count ≤ length (now book) ⌝ }
+    ensures { λ r. ⌜ r ≡ allBelow count (λ i. sameArgument (now (book .entry)) (getD (now (book .entry)) (at + i) 0) (getD (now (book .entry)) (other + i) 0)) ⌝ }
+{
+    let mut i = 0;
+    while i < count {
+        if byte_at(book, at + i) != byte_at(book, other + i) {
+            return false;
+        }
+        i += 1;
+    }
+    true
+}

@@ -1,0 +1,11 @@
+// The grammar's bytes (01's book): where each part stands, and refusals 1 to 8.
+pub mod check;
+pub mod layout;
+pub mod limits;
+
+// What checking a grammar gives.
+pub enum Verdict {
+    Accepted,
+    // The refusal's number and its place.
+    Refused(usize, usize),
+}
