@@ -1,7 +1,7 @@
 -- Laws of normal ranges: how a run is read off, and that `runs` is the one normal form of a set (000, Proposition 3.2).
 use Prim.Native.Nat.{ℕ, zero, suc, _+_, _-_, _≤_, _<_}
 use mathlib.Core.Path.{_≡_, refl, sym, _∙_, ap, subst}
-use mathlib.Core.Bool.{Bool, false, true, cond, not, _||_, Bool·beq, true≢false}
+use mathlib.Core.Bool.{Bool, false, true, cond, _||_, true≢false}
 use mathlib.Core.List.{List, [], _∷_}
 use mathlib.Core.Logic.{by-cases}
 use native.Mathlib.Omega.{arith}
@@ -292,17 +292,3 @@ normal-unique (r ∷ rs) (s ∷ ss) n m same =
     let h : r .high ≡ s .high = meets (high-not-below r rs n s ss m same l) (high-not-below s ss m r rs n back (sym l)) in
     let t = normal-unique rs ss (rest-normal r rs n) (rest-normal s ss m) (rest-same r rs n s ss m same h) in
     λ i. record { low = l i; high = h i } ∷ t i
-
--- ---- comparing a membership with the one wanted
-
-pub beq-true : (a b : Bool) → Bool·beq a b ≡ true → a ≡ b
-beq-true true true e = refl
-beq-true true false e = sym e
-beq-true false true e = e
-beq-true false false e = refl
-
-pub beq-false : (a b : Bool) → Bool·beq a b ≡ false → a ≡ not b
-beq-false true true e = e
-beq-false true false e = refl
-beq-false false true e = refl
-beq-false false false e = sym e

@@ -1,17 +1,17 @@
 -- In a frame that stands, each part lies within the bytes.
-use Prim.Native.Nat.{ℕ, zero, suc, _+_, _*_, _≤_, _<_}
-use mathlib.Core.Path.{_≡_, refl, _∙_, subst}
-use mathlib.Core.Bool.{Bool, false, true, _||_, true≢false}
+use Prim.Native.Nat.{ℕ, _+_, _*_, _≤_, _<_}
+use mathlib.Core.Path.{_≡_, _∙_}
+use mathlib.Core.Bool.{false}
 use mathlib.Core.List.{List, [], _∷_}
-use mathlib.Core.Logic.{by-cases}
 use native.Mathlib.Omega.{arith}
-use native.Mathlib.Decide.{decLt}
 use lib.Dec.{leb, ltb, eqb}
 use lib.ListN.{length}
 use borrow.Author.Tests.{ltb-false, leb-false, eqb-true, not-false}
+use Rattle.common.proofs.BelowLaws.{any-never}
+use Rattle.common.proofs.BoolLaws.{or-first-false, or-second-false}
 use Rattle.grammar.proofs.LayoutLaws.{production-first, class-first, declaration-first, production-within, production-after, class-within, class-after-productions, declaration-within, declaration-after-classes, needed-is-end}
 use Rattle.grammar.proofs.VerdictLaws.{refuse-accepted, and-first, and-second, first-all}
-use Rattle.grammar.specs.Check.{outside, shortHeader, headerLines, headerBytes, badHeader, shortContents, badArgumentCount, badRangeCount, badLength, namesArgument, badArgument, badArguments, badProduction, badRange, badClass, declarationLines, declarationBytes, badDeclaration, anyBelow, sameProduction, repeatedProduction, frameLines, frameCheck, bodiesLines, bodiesCheck}
+use Rattle.grammar.specs.Check.{outside, shortHeader, headerLines, headerBytes, badHeader, shortContents, badArgumentCount, badRangeCount, badLength, namesArgument, badArgument, badArguments, badProduction, badRange, badClass, declarationLines, declarationBytes, badDeclaration, sameProduction, repeatedProduction, frameLines, frameCheck, bodiesLines, bodiesCheck}
 use Rattle.grammar.specs.Formed.{Framed, WellFormed}
 use Rattle.grammar.specs.Layout.{byteAt, sorts, productions, classes, declarations, startSort, argumentCount, rangeCount, bodiesAt, productionAt, result, argument, classAt, low, high, declarationAt, kind, first, second, neededLength}
 use Rattle.grammar.specs.Limits.{sortLimit, productionLimit, classLimit, argumentLimit, rangeLimit, headerLength}
@@ -39,20 +39,12 @@ module _ (b : List ℕ) (f : Framed b) where
 
 -- ---- what the checks that accept say
 
-or-left : (a b : Bool) → (a || b) ≡ false → a ≡ false
-or-left true b e = e
-or-left false b e = refl
-
-or-right : (a b : Bool) → (a || b) ≡ false → b ≡ false
-or-right true b e = absurd (true≢false e)
-or-right false b e = e
-
 module _ (low high x : ℕ) (e : outside low high x ≡ false) where
   inside-low : low ≤ x
-  inside-low = ltb-false x low (or-left (ltb x low) (ltb high x) e)
+  inside-low = ltb-false x low (or-first-false (ltb x low) (ltb high x) e)
 
   inside-high : x ≤ high
-  inside-high = ltb-false high x (or-right (ltb x low) (ltb high x) e)
+  inside-high = ltb-false high x (or-second-false (ltb x low) (ltb high x) e)
 
 -- each check of a row that accepts accepts
 abbrev EachAccepted : List Verdict → Type 0
@@ -91,14 +83,6 @@ framed b e =
       lengthIs = eqb-true (length b) (neededLength b) (not-false (eqb (length b) (neededLength b)) (refuse-accepted _ 4 _ (a .1 .1 .1 .1 .1 .0)));
     }
 
-any-all : (f : ℕ → Bool) (n : ℕ) → anyBelow n f ≡ false → (i : ℕ) → i < n → f i ≡ false
-unfolding anyBelow
-any-all f zero e i l = absurd (omega arith)
-any-all f (suc n) e i l =
-    by-cases (decLt i n)
-    (λ m. any-all f n (or-left (anyBelow n f) (f n) e) i m)
-    (λ m. let q : n ≡ i = omega arith in subst (λ (j : ℕ). f j ≡ false) q (or-right (anyBelow n f) (f n) e))
-
 module _ (b : List ℕ) (d : ℕ) (e : badDeclaration b d ≡ Accepted) where
   parts : EachAccepted (declarationLines (declarationAt b d) (productions b) (kind b d) (first b d) (second b d))
   unfolding badDeclaration declarationBytes
@@ -128,5 +112,5 @@ well-formed b e f =
       fewKinds = λ d l. inside-high 1 4 (kind b d) (kind-inside b d (declaration d l));
       firstThere = λ d l. first-there b d (declaration d l);
       secondThere = λ d l. second-there b d (declaration d l);
-      different = λ p q l m. any-all (sameProduction b p) p (refuse-accepted _ 8 _ (first-all (repeatedProduction b) (productions b) (a .1 .1 .1 .0) p l)) q m;
+      different = λ p q l m. any-never (sameProduction b p) p (refuse-accepted _ 8 _ (first-all (repeatedProduction b) (productions b) (a .1 .1 .1 .0) p l)) q m;
     }

@@ -1,41 +1,11 @@
 -- Laws of the layout: each part begins where the one before ends, and all of them end at the length called for.
-use Prim.Native.Nat.{ℕ, zero, suc, _+_, _*_, _≤_, _<_}
-use mathlib.Core.Path.{_≡_, refl, sym, subst}
+use Prim.Native.Nat.{ℕ, _+_, _*_, _≤_, _<_}
+use mathlib.Core.Path.{_≡_}
 use mathlib.Core.List.{List}
-use mathlib.Core.Logic.{by-cases}
 use native.Mathlib.Omega.{arith}
-use native.Mathlib.Decide.{decLt}
-use native.Mathlib.Nat.{le-refl}
-use native.Mathlib.Numerals.{add-one}
-use Rattle.grammar.specs.Layout.{sumBelow, byteAt, productions, classes, declarations, argumentCount, rangeCount, bodiesAt, productionAt, classAt, declarationAt, neededLength}
-
--- ---- sums
-
-pub sum-none : (f : ℕ → ℕ) → sumBelow 0 f ≡ 0
-unfolding sumBelow
-sum-none f = refl
-
-pub sum-more : (n : ℕ) (f : ℕ → ℕ) → sumBelow (n + 1) f ≡ sumBelow n f + f n
-unfolding sumBelow
-sum-more n f = rw add-one refl
-
-pub sum-bound : (m : ℕ) (f : ℕ → ℕ) → ((k : ℕ) → f k ≤ m) → (n : ℕ) → sumBelow n f ≤ n * m
-unfolding sumBelow
-sum-bound m f h zero = omega arith
-sum-bound m f h (suc n) = omega (arith, h n, sum-bound m f h n)
-
-pub sum-grows : (f : ℕ → ℕ) (m n : ℕ) → m < n → sumBelow m f + f m ≤ sumBelow n f
-unfolding sumBelow
-sum-grows f m zero h = absurd (omega arith)
-sum-grows f m (suc n) h =
-    by-cases (decLt m n)
-    (λ l. omega (arith, sum-grows f m n l))
-    (λ k. let e : m ≡ n = omega arith in subst (λ (j : ℕ). sumBelow j f + f j ≤ sumBelow (suc n) f) (sym e) (le-refl (sumBelow n f + f n)))
-
-pub sum-double : (f : ℕ → ℕ) (n : ℕ) → sumBelow n (λ k. 2 * f k) ≡ 2 * sumBelow n f
-unfolding sumBelow
-sum-double f zero = refl
-sum-double f (suc n) = omega (arith, sum-double f n)
+use Rattle.common.proofs.BelowLaws.{sum-more, sum-bound, sum-grows, sum-double}
+use Rattle.common.specs.Below.{sumBelow}
+use Rattle.grammar.specs.Layout.{byteAt, productions, classes, declarations, argumentCount, rangeCount, bodiesAt, productionAt, classAt, declarationAt, neededLength}
 
 -- ---- the bodies follow one another
 

@@ -1,13 +1,12 @@
 -- Laws of verdicts: what stands when a check accepts, and where the first refusal of many comes from.
 use Prim.Native.Nat.{ℕ, zero, suc, _+_, _<_}
 use mathlib.Core.Path.{_≡_, refl, sym, subst}
-use mathlib.Core.Bool.{Bool, false, true, and-false, or-true}
+use mathlib.Core.Bool.{Bool, false, true}
 use mathlib.Core.Logic.{by-cases}
 use native.Mathlib.Omega.{arith}
 use native.Mathlib.Decide.{decLt}
 use native.Mathlib.Numerals.{add-one}
 use borrow.Author.Tests.{lt-ltb, le-ltb, le-leb, lt-leb, eq-eqb, ne-eqb}
-use Rattle.grammar.specs.Check.{allBelow, anyBelow}
 use Rattle.grammar.specs.Verdict.{refuseIf, andThen, firstRefusal}
 use Rattle.grammar.specs.declared.Verdict.{Verdict}
 use Rattle.grammar.specs.declared.Verdict.the-variants.{Accepted, Refused}
@@ -58,37 +57,3 @@ first-all check (suc n) e i l =
     by-cases (decLt i n)
     (λ m. first-all check n (and-first (firstRefusal n check) (check n) e) i m)
     (λ m. let q : n ≡ i = omega arith in subst (λ (j : ℕ). check j ≡ Accepted) q (and-second (firstRefusal n check) (check n) e))
-
--- ---- tests over all numbers below a bound
-
-pub any-none : (f : ℕ → Bool) → anyBelow 0 f ≡ false
-unfolding anyBelow
-any-none f = refl
-
-pub any-more : (f : ℕ → Bool) (i : ℕ) → anyBelow i f ≡ false → f i ≡ false → anyBelow (i + 1) f ≡ false
-unfolding anyBelow
-any-more f i e h = rw (add-one i, e) h
-
-pub any-found : (f : ℕ → Bool) (i n : ℕ) → i < n → f i ≡ true → anyBelow n f ≡ true
-unfolding anyBelow
-any-found f i zero l h = absurd (omega arith)
-any-found f i (suc n) l h =
-    by-cases (decLt i n)
-    (λ m. rw (any-found f i n m h) refl)
-    (λ m. let q : n ≡ i = omega arith in rw (q, h) (or-true (anyBelow i f)))
-
-pub all-none : (f : ℕ → Bool) → allBelow 0 f ≡ true
-unfolding allBelow
-all-none f = refl
-
-pub all-more : (f : ℕ → Bool) (i : ℕ) → allBelow i f ≡ true → f i ≡ true → allBelow (i + 1) f ≡ true
-unfolding allBelow
-all-more f i e h = rw (add-one i, e) h
-
-pub all-lost : (f : ℕ → Bool) (i n : ℕ) → i < n → f i ≡ false → allBelow n f ≡ false
-unfolding allBelow
-all-lost f i zero l h = absurd (omega arith)
-all-lost f i (suc n) l h =
-    by-cases (decLt i n)
-    (λ m. rw (all-lost f i n m h) refl)
-    (λ m. let q : n ≡ i = omega arith in rw (q, h) (and-false (allBelow i f)))

@@ -1,9 +1,10 @@
 -- The refusals 1 to 8 of a grammar, a definition to a line of the table (01, "Refused because of the input").
-use Prim.Native.Nat.{ℕ, zero, suc, _+_, min}
-use mathlib.Core.Bool.{Bool, false, true, not, _&&_, _||_}
+use Prim.Native.Nat.{ℕ, _+_, min}
+use mathlib.Core.Bool.{Bool, not, _&&_, _||_}
 use mathlib.Core.List.{List, [], _∷_}
 use lib.Dec.{leb, ltb, eqb}
 use lib.ListN.{length}
+use Rattle.common.specs.Below.{allBelow, anyBelow}
 use Rattle.grammar.specs.Layout.{byteAt, sorts, productions, classes, declarations, startSort, argumentCountAt, rangeCountAt, argumentCount, rangeCount, bodiesAt, productionAt, argumentAt, result, argument, rangeAt, low, high, declarationAt, kind, first, second, neededLength}
 use Rattle.grammar.specs.Limits.{sortLimit, productionLimit, classLimit, argumentLimit, rangeLimit, classBase, headerLength}
 use Rattle.grammar.specs.Verdict.{refuseIf, andThen, firstRefusal, inOrder}
@@ -97,15 +98,6 @@ badDeclaration b d = declarationBytes (declarationAt b d) (productions b) (kind 
 
 abbrev pub badDeclarations : List ℕ → Verdict
 badDeclarations b = firstRefusal (declarations b) (badDeclaration b)
-
--- f holds at each of, at one of, 0, 1, … n - 1
-unfoldable pub allBelow : ℕ → (ℕ → Bool) → Bool
-allBelow zero f = true
-allBelow (suc n) f = allBelow n f && f n
-
-unfoldable pub anyBelow : ℕ → (ℕ → Bool) → Bool
-anyBelow zero f = false
-anyBelow (suc n) f = anyBelow n f || f n
 
 -- an argument of one production is the same as that of another: the bytes are
 abbrev pub sameArgument : List ℕ → ℕ → ℕ → Bool

@@ -1,13 +1,9 @@
 -- Where each part of a grammar (01's book) stands among its bytes (01, "The book: contents, then bodies").
-use Prim.Native.Nat.{ℕ, zero, suc, _+_, _*_}
+use Prim.Native.Nat.{ℕ, _+_, _*_}
 use mathlib.Core.List.{List}
 use lib.ListN.{getD}
+use Rattle.common.specs.Below.{sumBelow}
 use Rattle.grammar.specs.Limits.{headerLength}
-
--- f 0 + f 1 + … + f (n - 1)
-unfoldable pub sumBelow : ℕ → (ℕ → ℕ) → ℕ
-sumBelow zero f = 0
-sumBelow (suc n) f = sumBelow n f + f n
 
 -- Byte k.
 abbrev pub byteAt : List ℕ → ℕ → ℕ

@@ -23,8 +23,9 @@ ghost use mathlib.Core.Bool.{Bool, _||_};
 ghost use Prim.Native.Nat.{_+_, _*_, _<_, _≤_};
 ghost use lib.Dec.{ltb, leb, eqb};
 ghost use lib.ListN.{length, getD};
+ghost use Rattle.common.specs.Below.{anyBelow, allBelow};
 ghost use Rattle.grammar.specs.Layout.{sorts, productions, classes, declarations, bodiesAt, productionAt, classAt, declarationAt};
-ghost use Rattle.grammar.specs.Check.{badHeader, headerBytes, badArgumentCounts, badRangeCounts, badLength, frameCheck, badProductions, badProduction, badArguments, namesArgument, badClasses, badClass, badDeclarations, badDeclaration, declarationBytes, repeatedProductions, anyBelow, allBelow, sameProduction, sameArgument, bodiesCheck};
+ghost use Rattle.grammar.specs.Check.{badHeader, headerBytes, badArgumentCounts, badRangeCounts, badLength, frameCheck, badProductions, badProduction, badArguments, namesArgument, badClasses, badClass, badDeclarations, badDeclaration, declarationBytes, repeatedProductions, sameProduction, sameArgument, bodiesCheck};
 ghost use Rattle.grammar.specs.Formed.{Framed};
 
 // Refusals 1 to 4.

@@ -6,8 +6,8 @@ use mathlib.Core.Logic.{by-cases}
 use native.Mathlib.Omega.{arith}
 use native.Mathlib.Decide.{decLt}
 use borrow.Author.Needs.{needs}
-use Rattle.charset.proofs.RunLaws.{beq-true, beq-false}
 use Rattle.charset.specs.Set.{has}
+use Rattle.common.proofs.BoolLaws.{beq-true, beq-false}
 use Rattle.charset.proofs.CharSet.seek.Statement.{statement}
 use Rattle.charset.proofs.CharSet.seek.Tie as tie
 

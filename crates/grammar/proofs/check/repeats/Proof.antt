@@ -3,10 +3,11 @@ use Prim.Native.Nat.{ℕ, _-_, _≤_}
 use mathlib.Core.Path.{_≡_, sym, _∙_, subst}
 use mathlib.Core.Bool.{false}
 use native.Mathlib.Omega.{arith}
+use Rattle.common.proofs.BelowLaws.{any-none, any-more, any-here}
+use Rattle.common.specs.Below.{anyBelow}
 use Rattle.grammar.proofs.FormedLaws.{production-in, bodies-in}
 use Rattle.grammar.proofs.LayoutLaws.{production-first, production-next}
-use Rattle.grammar.proofs.VerdictLaws.{any-none, any-more, any-found}
-use Rattle.grammar.specs.Check.{anyBelow, sameProduction}
+use Rattle.grammar.specs.Check.{sameProduction}
 use Rattle.grammar.specs.Layout.{productionAt}
 use Rattle.grammar.proofs.check.repeats.Statement.{statement}
 use Rattle.grammar.proofs.check.repeats.Tie as tie
@@ -27,7 +28,7 @@ same-production-requires : tie.Need-same-production-requires Inv-loop μ-loop
 same-production-requires c κs = (c .before .before .before .before .pre .0, (c .before .before .before .before .pre .1 .0, (c .before .before .before .before .pre .1 .1, (omega arith, c .before .loop .inv .0))))
 
 returns : tie.Need-returns Inv-loop μ-loop
-returns c = sym (any-found (sameProduction (c .before .before .before .before .before .before .args .book .now) (c .before .before .before .before .before .before .args .p)) (c .before .before .before .loop .q) _ (c .before .before .loop-test .taken) (sym (c .before .same-production .ensures) ∙ c .if1 .taken))
+returns c = sym (any-here (sameProduction (c .before .before .before .before .before .before .args .book .now) (c .before .before .before .before .before .before .args .p)) (c .before .before .before .loop .q) _ (c .before .before .loop-test .taken) (sym (c .before .same-production .ensures) ∙ c .if1 .taken))
 
 argument-count-requires : tie.Need-argument-count-requires Inv-loop μ-loop
 argument-count-requires c κs = (bodies-in (c .before .before .before .before .before .before .args .book .now) (c .before .before .before .before .before .before .pre .0), omega arith)

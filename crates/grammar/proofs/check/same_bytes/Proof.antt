@@ -6,8 +6,9 @@ use mathlib.Core.List.{List, count}
 use native.Mathlib.Omega.{arith}
 use lib.ListN.{getD}
 use borrow.Author.Tests.{eq-eqb, ne-eqb}
-use Rattle.grammar.proofs.VerdictLaws.{all-none, all-more, all-lost}
-use Rattle.grammar.specs.Check.{allBelow, sameArgument}
+use Rattle.common.proofs.BelowLaws.{all-none, all-more, all-lost}
+use Rattle.common.specs.Below.{allBelow}
+use Rattle.grammar.specs.Check.{sameArgument}
 use Rattle.grammar.proofs.check.same_bytes.Statement.{statement}
 use Rattle.grammar.proofs.check.same_bytes.Tie as tie
 

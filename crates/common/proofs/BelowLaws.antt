@@ -1,0 +1,108 @@
+-- Laws of sums and tests over the numbers below a bound.
+-- ---- sums
+use Prim.Native.Nat.{ℕ, zero, suc, _+_, _*_, _≤_, _<_}
+use mathlib.Core.Path.{_≡_, refl, sym, subst}
+use mathlib.Core.Bool.{Bool, false, true, _||_, false≢true, and-false, or-true}
+use mathlib.Core.Logic.{⊎-elim, by-cases}
+use native.Mathlib.Omega.{arith}
+use native.Mathlib.Decide.{decLt}
+use native.Mathlib.Nat.{le-refl}
+use native.Mathlib.Numerals.{add-one}
+use Rattle.common.proofs.BoolLaws.{or-cases, or-first-false, or-second-false, and-both, and-first-true, and-second-true}
+use Rattle.common.specs.Below.{sumBelow, allBelow, anyBelow}
+
+pub sum-none : (f : ℕ → ℕ) → sumBelow 0 f ≡ 0
+unfolding sumBelow
+sum-none f = refl
+
+pub sum-more : (n : ℕ) (f : ℕ → ℕ) → sumBelow (n + 1) f ≡ sumBelow n f + f n
+unfolding sumBelow
+sum-more n f = rw add-one refl
+
+pub sum-bound : (m : ℕ) (f : ℕ → ℕ) → ((k : ℕ) → f k ≤ m) → (n : ℕ) → sumBelow n f ≤ n * m
+unfolding sumBelow
+sum-bound m f h zero = omega arith
+sum-bound m f h (suc n) = omega (arith, h n, sum-bound m f h n)
+
+pub sum-grows : (f : ℕ → ℕ) (m n : ℕ) → m < n → sumBelow m f + f m ≤ sumBelow n f
+unfolding sumBelow
+sum-grows f m zero h = absurd (omega arith)
+sum-grows f m (suc n) h =
+    by-cases (decLt m n)
+    (λ l. omega (arith, sum-grows f m n l))
+    (λ k. let e : m ≡ n = omega arith in subst (λ (j : ℕ). sumBelow j f + f j ≤ sumBelow (suc n) f) (sym e) (le-refl (sumBelow n f + f n)))
+
+pub sum-double : (f : ℕ → ℕ) (n : ℕ) → sumBelow n (λ k. 2 * f k) ≡ 2 * sumBelow n f
+unfolding sumBelow
+sum-double f zero = refl
+sum-double f (suc n) = omega (arith, sum-double f n)
+
+-- ---- one of them
+
+pub any-none : (f : ℕ → Bool) → anyBelow 0 f ≡ false
+unfolding anyBelow
+any-none f = refl
+
+pub any-more : (f : ℕ → Bool) (i : ℕ) → anyBelow i f ≡ false → f i ≡ false → anyBelow (i + 1) f ≡ false
+unfolding anyBelow
+any-more f i e h = rw (add-one i, e) h
+
+pub any-next : (f : ℕ → Bool) (i : ℕ) → anyBelow (i + 1) f ≡ (anyBelow i f || f i)
+unfolding anyBelow
+any-next f i = rw add-one refl
+
+pub any-here : (f : ℕ → Bool) (i n : ℕ) → i < n → f i ≡ true → anyBelow n f ≡ true
+unfolding anyBelow
+any-here f i zero l h = absurd (omega arith)
+any-here f i (suc n) l h =
+    by-cases (decLt i n)
+    (λ m. rw (any-here f i n m h) refl)
+    (λ m. let q : n ≡ i = omega arith in rw (q, h) (or-true (anyBelow i f)))
+
+pub any-never : (f : ℕ → Bool) (n : ℕ) → anyBelow n f ≡ false → (i : ℕ) → i < n → f i ≡ false
+unfolding anyBelow
+any-never f zero e i l = absurd (omega arith)
+any-never f (suc n) e i l =
+    by-cases (decLt i n)
+    (λ m. any-never f n (or-first-false (anyBelow n f) (f n) e) i m)
+    (λ m. let q : n ≡ i = omega arith in subst (λ (j : ℕ). f j ≡ false) q (or-second-false (anyBelow n f) (f n) e))
+
+pub any-found : (f : ℕ → Bool) (n : ℕ) → anyBelow n f ≡ true → (i : ℕ) × (i < n) × (f i ≡ true)
+unfolding anyBelow
+any-found f zero e = absurd (false≢true e)
+any-found f (suc n) e =
+    ⊎-elim
+    (λ a. let (i, l, h) = any-found f n a in (i, omega arith, h))
+    (λ a. (n, omega arith, a))
+    (or-cases (anyBelow n f) (f n) e)
+
+-- ---- each of them
+
+pub all-none : (f : ℕ → Bool) → allBelow 0 f ≡ true
+unfolding allBelow
+all-none f = refl
+
+pub all-more : (f : ℕ → Bool) (i : ℕ) → allBelow i f ≡ true → f i ≡ true → allBelow (i + 1) f ≡ true
+unfolding allBelow
+all-more f i e h = rw (add-one i, e) h
+
+pub all-lost : (f : ℕ → Bool) (i n : ℕ) → i < n → f i ≡ false → allBelow n f ≡ false
+unfolding allBelow
+all-lost f i zero l h = absurd (omega arith)
+all-lost f i (suc n) l h =
+    by-cases (decLt i n)
+    (λ m. rw (all-lost f i n m h) refl)
+    (λ m. let q : n ≡ i = omega arith in rw (q, h) (and-false (allBelow i f)))
+
+pub all-here : (f : ℕ → Bool) (n : ℕ) → allBelow n f ≡ true → (i : ℕ) → i < n → f i ≡ true
+unfolding allBelow
+all-here f zero e i l = absurd (omega arith)
+all-here f (suc n) e i l =
+    by-cases (decLt i n)
+    (λ m. all-here f n (and-first-true (allBelow n f) (f n) e) i m)
+    (λ m. let q : n ≡ i = omega arith in subst (λ (j : ℕ). f j ≡ true) q (and-second-true (allBelow n f) (f n) e))
+
+pub all-made : (f : ℕ → Bool) (n : ℕ) → ((i : ℕ) → i < n → f i ≡ true) → allBelow n f ≡ true
+unfolding allBelow
+all-made f zero h = refl
+all-made f (suc n) h = and-both (allBelow n f) (f n) (all-made f n (λ i l. h i (omega arith))) (h n (omega arith))

@@ -1,0 +1,63 @@
+-- Laws of tests: what a true or false test says of its parts, and tests that agree.
+-- ---- or
+use mathlib.Core.Path.{_≡_, refl, sym, _∙_}
+use mathlib.Core.Bool.{Bool, false, true, not, _&&_, _||_, Bool·beq, true≢false, false≢true, or-true}
+use mathlib.Core.Logic.{_⊎_, inl, inr}
+
+pub or-cases : (a b : Bool) → (a || b) ≡ true → (a ≡ true) ⊎ (b ≡ true)
+or-cases true b e = inl refl
+or-cases false b e = inr e
+
+pub or-first : (a b : Bool) → a ≡ true → (a || b) ≡ true
+or-first a b e = rw e refl
+
+pub or-second : (a b : Bool) → b ≡ true → (a || b) ≡ true
+or-second a b e = rw e (or-true a)
+
+pub or-first-false : (a b : Bool) → (a || b) ≡ false → a ≡ false
+or-first-false true b e = e
+or-first-false false b e = refl
+
+pub or-second-false : (a b : Bool) → (a || b) ≡ false → b ≡ false
+or-second-false true b e = absurd (true≢false e)
+or-second-false false b e = e
+
+-- ---- and
+
+pub and-both : (a b : Bool) → a ≡ true → b ≡ true → (a && b) ≡ true
+and-both a b e f = rw (e, f) refl
+
+pub and-first-true : (a b : Bool) → (a && b) ≡ true → a ≡ true
+and-first-true true b e = refl
+and-first-true false b e = e
+
+pub and-second-true : (a b : Bool) → (a && b) ≡ true → b ≡ true
+and-second-true true b e = e
+and-second-true false b e = absurd (false≢true e)
+
+-- ---- comparing two tests
+
+pub beq-true : (a b : Bool) → Bool·beq a b ≡ true → a ≡ b
+beq-true true true e = refl
+beq-true true false e = sym e
+beq-true false true e = e
+beq-true false false e = refl
+
+pub beq-false : (a b : Bool) → Bool·beq a b ≡ false → a ≡ not b
+beq-false true true e = e
+beq-false true false e = refl
+beq-false false true e = refl
+beq-false false false e = sym e
+
+-- two tests that hold together are one
+pub same-test : (a b : Bool) → (a ≡ true → b ≡ true) → (b ≡ true → a ≡ true) → a ≡ b
+same-test true b f g = sym (f refl)
+same-test false true f g = g refl
+same-test false false f g = refl
+
+pub true-or-false : (a : Bool) → (a ≡ true) ⊎ (a ≡ false)
+true-or-false true = inl refl
+true-or-false false = inr refl
+
+pub not-both : {A : Type 0} (a : Bool) → a ≡ true → a ≡ false → A
+not-both a e f = absurd (true≢false (sym e ∙ f))

@@ -1,0 +1,2 @@
+-- Definitions that the crates above share.
+pub mod Below

@@ -1,0 +1,3 @@
+-- Laws of the priorities.
+pub mod ChainLaws
+pub mod TableLaws

@@ -1,0 +1,59 @@
+-- Laws of tables of yes-or-no entries: an empty table, and one entry written.
+use Prim.Native.Nat.{ℕ, _≤_, _<_}
+use mathlib.Core.Path.{_≡_, refl, _∙_}
+use mathlib.Core.Bool.{Bool, false}
+use mathlib.Core.List.{List, []}
+use mathlib.Core.Logic.{by-cases}
+use native.Mathlib.Omega.{arith}
+use native.Mathlib.Decide.{ℕ-discrete, decLt}
+use lib.ListN.{length, getD, set, length-set, replicate, length-replicate, getD-replicate, List·getD-eq-default}
+use lib.Seq.{getD-set-same, getD-set-other}
+use Rattle.priority.specs.Chain.{entry, Square}
+
+pub getD-none : (n i : ℕ) → getD (replicate n false) i false ≡ false
+getD-none n i =
+    by-cases (decLt i n)
+    (λ l. getD-replicate n i false false l)
+    (λ m. List·getD-eq-default (replicate n false) false (omega (arith, length-replicate n false)))
+
+pub entry-out : (t : List (List Bool)) (x y : ℕ) → length t ≤ x → entry t x y ≡ false
+unfolding entry
+entry-out t x y h = rw (List·getD-eq-default t [] h) refl
+
+pub entry-none : (n x y : ℕ) → entry (replicate n (replicate n false)) x y ≡ false
+unfolding entry
+entry-none n x y =
+    by-cases (decLt x n)
+    (λ l. rw (getD-replicate n x (replicate n false) [] l) (getD-none n y))
+    (λ m. entry-out (replicate n (replicate n false)) x y (omega (arith, length-replicate n (replicate n false))))
+
+pub square-none : (n : ℕ) → Square n (replicate n (replicate n false))
+square-none n =
+    record
+    { rows = length-replicate n (replicate n false)
+    ; columns = λ x l. rw (getD-replicate n x (replicate n false) [] l) (length-replicate n false)
+    }
+
+module _ (n : ℕ) (t : List (List Bool)) (f s : ℕ) (v : Bool) (q : Square n t) (hf : f < n) (hs : s < n) where
+
+  pub square-put : Square n (set t f (set (getD t f []) s v))
+  square-put =
+      record
+      { rows = length-set t f (set (getD t f []) s v) ∙ q .rows
+      ; columns = λ x l. elim (ℕ-discrete x f)
+        [ yes e ↦ rw (e, getD-set-same t f (set (getD t f []) s v) [] (omega (arith, q .rows))) (length-set (getD t f []) s v ∙ q .columns f hf)
+        | no e ↦ rw (getD-set-other t f x (set (getD t f []) s v) [] e) (q .columns x l) ]
+      }
+
+  pub entry-put-same : entry (set t f (set (getD t f []) s v)) f s ≡ v
+  unfolding entry
+  entry-put-same =
+      rw (getD-set-same t f (set (getD t f []) s v) [] (omega (arith, q .rows)))
+      (getD-set-same (getD t f []) s v false (omega (arith, q .columns f hf)))
+
+  pub entry-put-other : (x y : ℕ) → ((x ≡ f) × (y ≡ s) → ⊥) → entry (set t f (set (getD t f []) s v)) x y ≡ entry t x y
+  unfolding entry
+  entry-put-other x y h =
+      elim (ℕ-discrete x f)
+      [ yes e ↦ rw (e, getD-set-same t f (set (getD t f []) s v) [] (omega (arith, q .rows))) (getD-set-other (getD t f []) s y v false (λ d. h (e, d)))
+      | no e ↦ rw (getD-set-other t f x (set (getD t f []) s v) [] e) refl ]

@@ -1,0 +1,35 @@
+-- Checking a grammar (01's first operation): refusals 1 to 9 in the order of 01, "Refused because of the input".
+use Prim.Native.Nat.{ℕ}
+use mathlib.Core.List.{List, [], _∷_}
+use Rattle.grammar.specs.Check.{shortHeader, badHeader, shortContents, badArgumentCounts, badRangeCounts, badLength, badProductions, badClasses, badDeclarations, repeatedProductions}
+use Rattle.grammar.specs.Layout.{productions}
+use Rattle.grammar.specs.Verdict.{refuseIf, firstRefusal, inOrder}
+use Rattle.grammar.specs.declared.Verdict.{Verdict}
+use Rattle.priority.specs.Priorities.{isHigher}
+
+-- 9: a circle; the place is the lowest production higher than itself
+unfoldable pub circle : List ℕ → ℕ → Verdict
+circle b p = refuseIf (isHigher b p p) 9 p
+
+abbrev pub circles : List ℕ → Verdict
+circles b = firstRefusal (productions b) (circle b)
+
+-- The table of refusals, a line each: 1 (first half), 2, 1 (second half), 3, 4, then 5, 6 and 7 as the bytes come, 8, 9.
+abbrev pub grammarLines : List ℕ → List Verdict
+grammarLines b =
+    shortHeader b
+    ∷ badHeader b
+    ∷ shortContents b
+    ∷ badArgumentCounts b
+    ∷ badRangeCounts b
+    ∷ badLength b
+    ∷ badProductions b
+    ∷ badClasses b
+    ∷ badDeclarations b
+    ∷ repeatedProductions b
+    ∷ circles b
+    ∷ []
+
+-- What checking a grammar gives: the first refusal of the table, or accepted.
+unfoldable pub checked : List ℕ → Verdict
+checked b = inOrder (grammarLines b)

@@ -1,0 +1,4 @@
+-- What the contracts of the priorities and of the whole check cite.
+pub mod Chain
+pub mod Priorities
+pub mod Check

@@ -1,0 +1,135 @@
+// Priorities: "higher" closed under transitivity in a table of yes-or-no entries, and the whole check of a grammar.
+use grammar::Verdict;
+use grammar::check::{check_bodies, check_frame};
+use grammar::layout::{byte_at, declaration_at, declaration_count, production_count};
+use grammar::limits::PRODUCTION_LIMIT;
+ghost use mathlib.Core.Path.{_≡_};
+ghost use mathlib.Core.Bool.{Bool, true, false, _&&_, _||_};
+ghost use mathlib.Core.Logic.{_↔_};
+ghost use mathlib.Core.List.{List};
+ghost use Prim.Native.Nat.{ℕ, _<_, _≤_};
+ghost use lib.ListN.{getD};
+ghost use Rattle.grammar.specs.Layout.{productions};
+ghost use Rattle.grammar.specs.Formed.{Framed, WellFormed};
+ghost use Rattle.grammar.specs.Verdict.{firstRefusal, refuseIf};
+ghost use Rattle.priority.specs.Chain.{Chain, entry, Square};
+ghost use Rattle.priority.specs.Priorities.{Higher, declared, higher};
+ghost use Rattle.priority.specs.Check.{checked};
+
+// The operation "checking a grammar" (01's checking a book): accepted, or refused with number 1 to 9 and place.
+pub fn check_grammar(book: &[u8]) -> Verdict
+    ensures { λ r. ⌜ r ≡ checked (now (book .entry)) ⌝ }
+{
+    let frame = check_frame(book);
+    let Verdict::Accepted = frame else {
+        return frame;
+    };
+    let bodies = check_bodies(book);
+    let Verdict::Accepted = bodies else {
+        return bodies;
+    };
+    check_circles(priorities(book), production_count(book))
+}
+
+// "Higher" of an accepted frame, closed: row x, column y says whether x is higher than y.
+pub fn priorities(book: &[u8]) -> [[bool; PRODUCTION_LIMIT]; PRODUCTION_LIMIT]
+    requires { ⌜ WellFormed (now book) ⌝ }
+    ensures { λ r. ⌜ ((x y : ℕ) → (entry r x y ≡ true) ↔ Higher (now (book .entry)) x y) ⌝ }
+{
+    closed(declared_higher(book))
+}
+
+// 9: the lowest production higher than itself.
+fn check_circles(table: [[bool; PRODUCTION_LIMIT]; PRODUCTION_LIMIT], count: usize) -> Verdict
+    requires { ⌜ count ≤ 64 ⌝ }
+    ensures { λ r. ⌜ r ≡ firstRefusal count (λ p. refuseIf (entry table p p) 9 p) ⌝ }
+{
+    let mut p = 0;
+    while p < count {
+        if table[p][p] {
+            return Verdict::Refused(9, p);
+        }
+        p += 1;
+    }
+    Verdict::Accepted
+}
+
+// The pairs that declarations of kind 1 name.
+fn declared_higher(book: &[u8]) -> [[bool; PRODUCTION_LIMIT]; PRODUCTION_LIMIT]
+    requires { ⌜ WellFormed (now book) ⌝ }
+    ensures { λ r. ⌜ ((x y : ℕ) → entry r x y ≡ declared (now (book .entry)) higher x y) ⌝ }
+{
+    let mut table = no_pairs();
+    let count = declaration_count(book);
+    let mut at = declaration_at(book, 0);
+    let mut d = 0;
+    while d < count {
+        let first = byte_at(book, at + 1);
+        let second = byte_at(book, at + 2);
+        table[first][second] = either(table[first][second], byte_at(book, at) == 1);
+        at += 3;
+        d += 1;
+    }
+    table
+}
+
+fn no_pairs() -> [[bool; PRODUCTION_LIMIT]; PRODUCTION_LIMIT]
+    ensures { λ r. ⌜ Square 64 r ⌝ }
+    ensures { λ r. ⌜ ((x y : ℕ) → entry r x y ≡ false) ⌝ }
+{
+    [[false; PRODUCTION_LIMIT]; PRODUCTION_LIMIT]
+}
+
+fn either(a: bool, b: bool) -> bool
+    ensures { λ r. ⌜ r ≡ (a || b) ⌝ }
+{
+    a || b
+}
+
+fn both(a: bool, b: bool) -> bool
+    ensures { λ r. ⌜ r ≡ (a && b) ⌝ }
+{
+    a && b
+}
+
+// The closure of a table: an entry is true exactly if a chain of true entries leads there.
+pub fn closed(table: [[bool; PRODUCTION_LIMIT]; PRODUCTION_LIMIT]) -> [[bool; PRODUCTION_LIMIT]; PRODUCTION_LIMIT]
+    ensures { λ r. ⌜ ((x y : ℕ) → (entry r x y ≡ true) ↔ Chain (entry table) x y) ⌝ }
+{
+    let mut closure = table;
+    let mut middle = 0;
+    while middle < PRODUCTION_LIMIT {
+        let wider = with_middle(closure, middle);
+        closure = wider;
+        middle += 1;
+    }
+    closure
+}
+
+// Chains that may also pass through `middle`.
+fn with_middle(table: [[bool; PRODUCTION_LIMIT]; PRODUCTION_LIMIT], middle: usize) -> [[bool; PRODUCTION_LIMIT]; PRODUCTION_LIMIT]
+    requires { ⌜ middle < 64 ⌝ }
+    ensures { λ r. ⌜ ((x y : ℕ) → entry r x y ≡ (entry table x y || entry table x middle && entry table middle y)) ⌝ }
+{
+    let mut wider = table;
+    let beyond = table[middle];
+    let mut x = 0;
+    while x < PRODUCTION_LIMIT {
+        wider[x] = joined(table[x], table[x][middle], beyond);
+        x += 1;
+    }
+    wider
+}
+
+// A row, and where `on` is set the other row with it.
+fn joined(row: [bool; PRODUCTION_LIMIT], on: bool, other: [bool; PRODUCTION_LIMIT]) -> [bool; PRODUCTION_LIMIT]
+    ensures { λ r. ⌜ ((y : ℕ) → getD r y false ≡ (getD row y false || on && getD other y false)) ⌝ }
+{
+    let mut out = row;
+    let mut y = 0;
+    while y < PRODUCTION_LIMIT {
+        out[y] = either(row[y], both(on, other[y]));
+        y += 1;
+    }
+    out
+}
