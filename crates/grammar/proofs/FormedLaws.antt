@@ -1,12 +1,12 @@
 -- In a frame that stands, each part lies within the bytes.
 use Prim.Native.Nat.{ℕ, _+_, _*_, _≤_, _<_}
-use mathlib.Core.Path.{_≡_, _∙_}
+use mathlib.Core.Path.{_≡_, refl, _∙_}
 use mathlib.Core.Bool.{false}
 use mathlib.Core.List.{List, [], _∷_}
 use native.Mathlib.Omega.{arith}
 use lib.Dec.{leb, ltb, eqb}
 use lib.ListN.{length}
-use borrow.Author.Tests.{ltb-false, leb-false, eqb-true, not-false}
+use borrow.Author.Tests.{ltb-false, leb-false, eqb-true, not-false, le-ltb}
 use Rattle.common.proofs.BelowLaws.{any-never}
 use Rattle.common.proofs.BoolLaws.{or-first-false, or-second-false}
 use Rattle.grammar.proofs.LayoutLaws.{production-first, class-first, declaration-first, production-within, production-after, class-within, class-after-productions, declaration-within, declaration-after-classes, needed-is-end}
@@ -46,6 +46,9 @@ module _ (low high x : ℕ) (e : outside low high x ≡ false) where
   inside-high : x ≤ high
   inside-high = ltb-false high x (or-second-false (ltb x low) (ltb high x) e)
 
+pub inside : (low high x : ℕ) → low ≤ x → x ≤ high → outside low high x ≡ false
+inside low high x l h = rw (le-ltb x low l, le-ltb high x h) refl
+
 -- each check of a row that accepts accepts
 abbrev EachAccepted : List Verdict → Type 0
 EachAccepted [] = Unit {0}
@@ -57,13 +60,13 @@ each-accepted (v ∷ []) e = (e, tt)
 each-accepted (v ∷ w ∷ vs) e = (and-first v (inOrder (w ∷ vs)) e, each-accepted (w ∷ vs) (and-second v (inOrder (w ∷ vs)) e))
 
 header-inside : (s p k a l : ℕ) → headerBytes s p k a l ≡ Accepted
-    → (1 ≤ s) × (s ≤ sortLimit) × (1 ≤ p) × (p ≤ productionLimit) × (k ≤ classLimit) × (a < s)
+    → (1 ≤ s) × (s ≤ sortLimit) × (1 ≤ p) × (p ≤ productionLimit) × (k ≤ classLimit) × (a < s) × (l ≤ 0)
 unfolding headerBytes
 header-inside s p k a l e =
     let each = each-accepted (headerLines s p k a l) e in
     let sorts = refuse-accepted (outside 1 sortLimit s) 2 0 (each .0) in
     let productions = refuse-accepted (outside 1 productionLimit p) 2 1 (each .1 .0) in
-    (inside-low 1 sortLimit s sorts, inside-high 1 sortLimit s sorts, inside-low 1 productionLimit p productions, inside-high 1 productionLimit p productions, ltb-false classLimit k (refuse-accepted (ltb classLimit k) 2 2 (each .1 .1 .0)), leb-false s a (refuse-accepted (leb s a) 2 4 (each .1 .1 .1 .0)))
+    (inside-low 1 sortLimit s sorts, inside-high 1 sortLimit s sorts, inside-low 1 productionLimit p productions, inside-high 1 productionLimit p productions, ltb-false classLimit k (refuse-accepted (ltb classLimit k) 2 2 (each .1 .1 .0)), leb-false s a (refuse-accepted (leb s a) 2 4 (each .1 .1 .1 .0)), ltb-false 0 l (refuse-accepted (ltb 0 l) 2 5 (each .1 .1 .1 .1 .0)))
 
 pub framed : (b : List ℕ) → frameCheck b ≡ Accepted → Framed b
 unfolding frameCheck shortHeader badHeader shortContents badArgumentCount badRangeCount badLength
@@ -77,7 +80,8 @@ framed b e =
       someProduction = h .2;
       fewProductions = h .3;
       fewClasses = h .4;
-      startNamed = h .5;
+      startNamed = h .5
+    ; lastZero = omega (arith, h .6);
       fewArguments = λ p l. ltb-false argumentLimit (argumentCount b p) (refuse-accepted _ 3 _ (first-all (badArgumentCount b) (productions b) (a .1 .1 .1 .0) p l));
       fewRanges = λ k l. ltb-false rangeLimit (rangeCount b k) (refuse-accepted _ 3 _ (first-all (badRangeCount b) (classes b) (a .1 .1 .1 .1 .0) k l));
       lengthIs = eqb-true (length b) (neededLength b) (not-false (eqb (length b) (neededLength b)) (refuse-accepted _ 4 _ (a .1 .1 .1 .1 .1 .0)));

@@ -1,13 +1,14 @@
 -- Laws of verdicts: what stands when a check accepts, and where the first refusal of many comes from.
 use Prim.Native.Nat.{ℕ, zero, suc, _+_, _<_}
-use mathlib.Core.Path.{_≡_, refl, sym, subst}
+use mathlib.Core.Path.{_≡_, refl, sym, _∙_, ap, subst, subst₂}
 use mathlib.Core.Bool.{Bool, false, true}
-use mathlib.Core.Logic.{by-cases}
+use mathlib.Core.List.{List, [], _∷_, _++_}
+use mathlib.Core.Logic.{_⊎_, inl, inr, ⊎-elim, by-cases}
 use native.Mathlib.Omega.{arith}
 use native.Mathlib.Decide.{decLt}
 use native.Mathlib.Numerals.{add-one}
 use borrow.Author.Tests.{lt-ltb, le-ltb, le-leb, lt-leb, eq-eqb, ne-eqb}
-use Rattle.grammar.specs.Verdict.{refuseIf, andThen, firstRefusal}
+use Rattle.grammar.specs.Verdict.{refuseIf, andThen, firstRefusal, inOrder}
 use Rattle.grammar.specs.declared.Verdict.{Verdict}
 use Rattle.grammar.specs.declared.Verdict.the-variants.{Accepted, Refused}
 
@@ -28,6 +29,14 @@ and-first (Refused n p) w e = e
 pub and-second : (v w : Verdict) → andThen v w ≡ Accepted → w ≡ Accepted
 and-second Accepted w e = e
 and-second (Refused n p) w e = refused-not-accepted n p e
+
+accepted-last : (v : Verdict) → v ≡ andThen v Accepted
+accepted-last Accepted = refl
+accepted-last (Refused n p) = refl
+
+and-assoc : (u v w : Verdict) → andThen u (andThen v w) ≡ andThen (andThen u v) w
+and-assoc Accepted v w = refl
+and-assoc (Refused n p) v w = refl
 
 -- ---- many checks in order
 
@@ -57,3 +66,56 @@ first-all check (suc n) e i l =
     by-cases (decLt i n)
     (λ m. first-all check n (and-first (firstRefusal n check) (check n) e) i m)
     (λ m. let q : n ≡ i = omega arith in subst (λ (j : ℕ). check j ≡ Accepted) q (and-second (firstRefusal n check) (check n) e))
+
+pub first-same : (f g : ℕ → Verdict) (n : ℕ) → ((i : ℕ) → i < n → f i ≡ g i) → firstRefusal n f ≡ firstRefusal n g
+unfolding firstRefusal
+first-same f g zero h = refl
+first-same f g (suc n) h = rw (first-same f g n (λ i l. h i (omega arith)), h n (omega arith)) refl
+
+-- ---- a list of checks in two parts
+
+pub order-append : (vs ws : List Verdict) → inOrder (vs ++ ws) ≡ andThen (inOrder vs) (inOrder ws)
+order-append [] ws = refl
+order-append (v ∷ []) [] = accepted-last v
+order-append (v ∷ []) (w ∷ ws) = refl
+order-append (v ∷ u ∷ vs) ws = ap (λ (x : Verdict). andThen v x) (order-append (u ∷ vs) ws) ∙ and-assoc v (inOrder (u ∷ vs)) (inOrder ws)
+
+-- ---- what a refusal comes from
+
+-- A refusal that a test gives: the test holds, and number and place are the test's.
+pub refuse-case : (Q : ℕ → ℕ → Type 0) (t : Bool) (n q : ℕ) {k p : ℕ} → refuseIf t n q ≡ Refused k p → (t ≡ true → Q n q) → Q k p
+refuse-case Q true n q {k} {p} e f =
+    let i : n ≡ k = cc in
+    let j : q ≡ p = cc in
+    subst₂ Q i j (f refl)
+refuse-case Q false n q {k} {p} e f = refused-not-accepted k p (sym e)
+
+pub and-refused : (v w : Verdict) {k p : ℕ} → andThen v w ≡ Refused k p → (v ≡ Refused k p) ⊎ ((v ≡ Accepted) × (w ≡ Refused k p))
+and-refused Accepted w e = inr (refl, e)
+and-refused (Refused n q) w e = inl e
+
+-- The first check of a list that refuses, all before it accepting.
+pub data FirstIn : List Verdict → ℕ → ℕ → Type 0 where
+  here : {v : Verdict} {vs : List Verdict} {k p : ℕ} → v ≡ Refused k p → FirstIn (v ∷ vs) k p
+  there : {v : Verdict} {vs : List Verdict} {k p : ℕ} → v ≡ Accepted → FirstIn vs k p → FirstIn (v ∷ vs) k p
+
+pub order-first : (vs : List Verdict) {k p : ℕ} → inOrder vs ≡ Refused k p → FirstIn vs k p
+order-first [] {k} {p} e = refused-not-accepted k p (sym e)
+order-first (v ∷ []) e = here e
+order-first (v ∷ w ∷ vs) e = ⊎-elim (λ a. here a) (λ b. there (b .0) (order-first (w ∷ vs) (b .1))) (and-refused v (inOrder (w ∷ vs)) e)
+
+-- The first of many checks that refuses.
+pub record FirstOf (check : ℕ → Verdict) (n k p : ℕ) : Type 0 where
+  pub index : ℕ
+  pub below : index < n
+  pub refused : check index ≡ Refused k p
+  pub before : (j : ℕ) → j < index → check j ≡ Accepted
+
+pub first-of : (check : ℕ → Verdict) (n : ℕ) {k p : ℕ} → firstRefusal n check ≡ Refused k p → FirstOf check n k p
+unfolding firstRefusal
+first-of check zero {k} {p} e = refused-not-accepted k p (sym e)
+first-of check (suc n) e =
+    ⊎-elim
+    (λ a. let f = first-of check n a in record { index = f .index; below = omega (arith, f .below); refused = f .refused; before = f .before })
+    (λ b. record { index = n; below = omega arith; refused = b .1; before = first-all check n (b .0) })
+    (and-refused (firstRefusal n check) (check n) e)

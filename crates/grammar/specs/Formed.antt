@@ -5,7 +5,7 @@ use mathlib.Core.Bool.{false, true}
 use mathlib.Core.List.{List}
 use lib.ListN.{length}
 use Rattle.grammar.specs.Check.{namesArgument, sameProduction}
-use Rattle.grammar.specs.Layout.{sorts, productions, classes, declarations, startSort, argumentCount, rangeCount, result, argument, low, high, kind, first, second, neededLength}
+use Rattle.grammar.specs.Layout.{byteAt, sorts, productions, classes, declarations, startSort, argumentCount, rangeCount, result, argument, low, high, kind, first, second, neededLength}
 use Rattle.grammar.specs.Limits.{sortLimit, productionLimit, classLimit, argumentLimit, rangeLimit, headerLength}
 
 -- The frame stands: refusals 1 to 4 do not hold.
@@ -17,6 +17,7 @@ pub record Framed (b : List ℕ) : Type 0 where
   pub fewProductions : productions b ≤ productionLimit
   pub fewClasses : classes b ≤ classLimit
   pub startNamed : startSort b < sorts b
+  pub lastZero : byteAt b 5 ≡ 0
   pub fewArguments : (p : ℕ) → p < productions b → argumentCount b p ≤ argumentLimit
   pub fewRanges : (k : ℕ) → k < classes b → rangeCount b k ≤ rangeLimit
   pub lengthIs : length b ≡ neededLength b

@@ -1,10 +1,11 @@
 -- The executable test for chains is the inductive one.
-use Prim.Native.Nat.{ℕ, zero, suc, _<_}
-use mathlib.Core.Path.{_≡_, subst}
-use mathlib.Core.Bool.{Bool, true, _&&_}
+use Prim.Native.Nat.{ℕ, zero, suc, _+_, _<_}
+use mathlib.Core.Path.{_≡_, refl, subst}
+use mathlib.Core.Bool.{Bool, true, _&&_, _||_}
 use mathlib.Core.Logic.{_⊎_, inl, inr, ⊎-elim, by-cases}
 use native.Mathlib.Omega.{arith}
 use native.Mathlib.Decide.{decLt}
+use native.Mathlib.Numerals.{add-one}
 use Rattle.common.proofs.BoolLaws.{or-cases, or-first, or-second, and-both, and-first-true, and-second-true}
 use Rattle.priority.specs.Chain.{Chain, link, more, through}
 
@@ -45,6 +46,10 @@ module _ (r : ℕ → ℕ → Bool) where
   through-cases n x y e =
       ⊎-elim (λ a. inl a) (λ b. inr (and-first-true (through r n x n) (through r n n y) b, and-second-true (through r n x n) (through r n n y) b))
       (or-cases (through r n x y) (through r n x n && through r n n y) e)
+
+  pub through-next : (n x y : ℕ) → through r (n + 1) x y ≡ (through r n x y || through r n x n && through r n n y)
+  unfolding through
+  through-next n x y = rw add-one refl
 
   -- two ways that meet below n are one
   through-trans : (n x y z : ℕ) → y < n → through r n x y ≡ true → through r n y z ≡ true → through r n x z ≡ true

@@ -1,3 +1,6 @@
 -- Laws of the priorities.
 pub mod ChainLaws
 pub mod TableLaws
+pub mod PriorityLaws
+pub mod CheckLaws
+pub mod RefusalLaws

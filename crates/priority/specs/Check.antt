@@ -1,15 +1,21 @@
 -- Checking a grammar (01's first operation): refusals 1 to 9 in the order of 01, "Refused because of the input".
 use Prim.Native.Nat.{ℕ}
+use mathlib.Core.Bool.{Bool}
 use mathlib.Core.List.{List, [], _∷_}
 use Rattle.grammar.specs.Check.{shortHeader, badHeader, shortContents, badArgumentCounts, badRangeCounts, badLength, badProductions, badClasses, badDeclarations, repeatedProductions}
 use Rattle.grammar.specs.Layout.{productions}
 use Rattle.grammar.specs.Verdict.{refuseIf, firstRefusal, inOrder}
 use Rattle.grammar.specs.declared.Verdict.{Verdict}
+use Rattle.priority.specs.Chain.{entry}
 use Rattle.priority.specs.Priorities.{isHigher}
 
 -- 9: a circle; the place is the lowest production higher than itself
 unfoldable pub circle : List ℕ → ℕ → Verdict
 circle b p = refuseIf (isHigher b p p) 9 p
+
+-- the same, read off a table of "higher"
+unfoldable pub onDiagonal : List (List Bool) → ℕ → Verdict
+onDiagonal table p = refuseIf (entry table p p) 9 p
 
 abbrev pub circles : List ℕ → Verdict
 circles b = firstRefusal (productions b) (circle b)

@@ -2,3 +2,4 @@
 pub mod Chain
 pub mod Priorities
 pub mod Check
+pub mod Table

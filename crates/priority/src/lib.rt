@@ -11,10 +11,10 @@ ghost use Prim.Native.Nat.{ℕ, _<_, _≤_};
 ghost use lib.ListN.{getD};
 ghost use Rattle.grammar.specs.Layout.{productions};
 ghost use Rattle.grammar.specs.Formed.{Framed, WellFormed};
-ghost use Rattle.grammar.specs.Verdict.{firstRefusal, refuseIf};
+ghost use Rattle.grammar.specs.Verdict.{firstRefusal};
 ghost use Rattle.priority.specs.Chain.{Chain, entry, Square};
 ghost use Rattle.priority.specs.Priorities.{Higher, declared, higher};
-ghost use Rattle.priority.specs.Check.{checked};
+ghost use Rattle.priority.specs.Check.{checked, onDiagonal};
 
 // The operation "checking a grammar" (01's checking a book): accepted, or refused with number 1 to 9 and place.
 pub fn check_grammar(book: &[u8]) -> Verdict
@@ -42,7 +42,7 @@ pub fn priorities(book: &[u8]) -> [[bool; PRODUCTION_LIMIT]; PRODUCTION_LIMIT]
 // 9: the lowest production higher than itself.
 fn check_circles(table: [[bool; PRODUCTION_LIMIT]; PRODUCTION_LIMIT], count: usize) -> Verdict
     requires { ⌜ count ≤ 64 ⌝ }
-    ensures { λ r. ⌜ r ≡ firstRefusal count (λ p. refuseIf (entry table p p) 9 p) ⌝ }
+    ensures { λ r. ⌜ r ≡ firstRefusal count (onDiagonal table) ⌝ }
 {
     let mut p = 0;
     while p < count {

@@ -1,49 +1,51 @@
+-- `check_circles` meets its contract: no production passed is higher than itself.
+use Prim.Native.Nat.{_-_, _≤_}
+use mathlib.Core.Path.{_≡_, refl, sym}
+use native.Mathlib.Omega.{arith}
+use Rattle.grammar.proofs.VerdictLaws.{first-none, first-more, first-found, first-done}
+use Rattle.grammar.specs.Verdict.{firstRefusal}
+use Rattle.grammar.specs.declared.Verdict.the-variants.{Accepted}
+use Rattle.priority.specs.Chain.{entry}
+use Rattle.priority.specs.Check.{onDiagonal}
 use Rattle.priority.proofs.check_circles.Statement.{statement}
 use Rattle.priority.proofs.check_circles.Tie as tie
 use Rattle.priority.proofs.check_circles.Reads as reads
 use Rattle.priority.proofs.check_circles.Lts as lts
 
 abbrev Inv-loop : tie.InvT-loop
-Inv-loop count table p₀ p = ?
+Inv-loop count table p₀ p = (p ≤ count) × (firstRefusal p (onDiagonal table) ≡ Accepted)
 
 abbrev μ-loop : tie.MeasureT-loop
-μ-loop count table p₀ p = ?
+μ-loop count table p₀ p = count - p
 
--- src/lib.rt:48:5
 loop-holds : tie.Need-loop-holds Inv-loop μ-loop
-loop-holds c = ?
+loop-holds c = (omega arith, first-none (onDiagonal (c .args .t1)))
 
--- src/lib.rt:49:12
 mul-if1 : tie.Need-mul-if1 Inv-loop μ-loop
-mul-if1 c = ?
+mul-if1 c = omega arith
 
--- src/lib.rt:49:12
 index-1-if1 : tie.Need-index-1-if1 Inv-loop μ-loop
-index-1-if1 c = ?
+index-1-if1 c = omega arith
 
--- src/lib.rt:49:12
 index-2-if1 : tie.Need-index-2-if1 Inv-loop μ-loop
-index-2-if1 c = ?
+index-2-if1 c = omega arith
 
--- src/lib.rt:50:13
 returns : tie.Need-returns Inv-loop μ-loop
-returns c = ?
+unfolding onDiagonal entry
+returns c =     sym (first-found (onDiagonal (c .before .before .before .before .args .t1)) (c .before .before .before .loop .p) _ 9 (c .before .before .before .loop .p) (c .before .before .loop-test .taken) (c .before .before .before .loop .inv .1) (rw (c .if1 .taken) refl))
 
--- src/lib.rt:52:9
 add-p : tie.Need-add-p Inv-loop μ-loop
-add-p c = ?
+add-p c = omega arith
 
--- src/lib.rt:48:5
 loop-less : tie.Need-loop-less Inv-loop μ-loop
-loop-less c = ?
+loop-less c = omega arith
 
--- src/lib.rt:48:5
 loop-again : tie.Need-loop-again Inv-loop μ-loop
-loop-again c = ?
+unfolding onDiagonal entry
+loop-again c =     (omega arith, first-more (onDiagonal (c .before .before .before .before .args .t1)) (c .before .before .before .loop .p) (c .before .before .before .loop .inv .1) (rw (c .if1 .left) refl))
 
--- src/lib.rt:43:1
 returns-2 : tie.Need-returns-2 Inv-loop μ-loop
-returns-2 c = ?
+returns-2 c = first-done (onDiagonal (c .before .before .args .t1)) _ _ (c .before .loop .inv .1) (omega arith)
 
 pub check-circles-spec : {M : Type 1} → statement M
 check-circles-spec =

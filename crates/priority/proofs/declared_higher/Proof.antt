@@ -1,3 +1,18 @@
+-- `declared_higher` meets its contract: the table holds the pairs of the declarations passed.
+use Prim.Native.Nat.{ℕ, _+_, _-_, _≤_, _<_}
+use mathlib.Core.Path.{_≡_, sym, _∙_, ap}
+use mathlib.Core.Bool.{Bool, false, _||_}
+use mathlib.Core.List.{List, []}
+use native.Mathlib.Omega.{arith}
+use lib.Dec.{eqb}
+use lib.ListN.{getD}
+use Rattle.grammar.proofs.FormedLaws.{declaration-in, bodies-in}
+use Rattle.grammar.proofs.LayoutLaws.{declaration-next}
+use Rattle.grammar.specs.Formed.{WellFormed}
+use Rattle.grammar.specs.Layout.{declarations, declarationAt, kind, first, second}
+use Rattle.priority.proofs.PriorityLaws.{declaredBelow, declared-none, declared-all, declared-more}
+use Rattle.priority.proofs.TableLaws.{square-put}
+use Rattle.priority.specs.Chain.{entry, Square}
 use Rattle.priority.proofs.declared_higher.Statement.{statement}
 use Rattle.priority.proofs.declared_higher.Tie as tie
 use Rattle.priority.proofs.declared_higher.Reads as reads
@@ -8,95 +23,131 @@ use Rattle.grammar.proofs.layout.declaration_count.Reads as declaration-count-r
 use Rattle.priority.proofs.either.Reads as either-reads
 use Rattle.priority.proofs.no_pairs.Reads as no-pairs-reads
 
+module _ (b : List ℕ) (w : WellFormed b) (d : ℕ) (h : d < declarations b) where
+  small-first : first b d < 64
+  small-first = omega (arith, w .firstThere d h, w .framed .fewProductions)
+
+  small-second : second b d < 64
+  small-second = omega (arith, w .secondThere d h, w .framed .fewProductions)
+
+-- the bytes read are the declaration's
+first-is : (b : List ℕ) (d at x : ℕ) → at ≡ declarationAt b d → x ≡ getD b (at + 1) 0 → x ≡ first b d
+unfolding first
+first-is b d at x e f = f ∙ ap (λ (a : ℕ). getD b (a + 1) 0) e
+
+second-is : (b : List ℕ) (d at x : ℕ) → at ≡ declarationAt b d → x ≡ getD b (at + 2) 0 → x ≡ second b d
+unfolding second
+second-is b d at x e f = f ∙ ap (λ (a : ℕ). getD b (a + 2) 0) e
+
+kind-is : (b : List ℕ) (d at x : ℕ) → at ≡ declarationAt b d → x ≡ getD b at 0 → x ≡ kind b d
+unfolding kind
+kind-is b d at x e f = f ∙ ap (λ (a : ℕ). getD b a 0) e
+
+record Taken (b : List ℕ) (count at d : ℕ) (table : List (List Bool)) : Type 0 where
+  square : Square 64 table
+  place : at ≡ declarationAt b d
+  within : d ≤ count
+  pairs : (x y : ℕ) → entry table x y ≡ declaredBelow b d x y
+
 abbrev Inv-loop : tie.InvT-loop
-Inv-loop book table₀ count at₀ d₀ table at d = ?
+Inv-loop book table₀ count at₀ d₀ table at d = Taken book count at d table
 
 abbrev μ-loop : tie.MeasureT-loop
-μ-loop book table₀ count at₀ d₀ table at d = ?
+μ-loop book table₀ count at₀ d₀ table at d = count - d
 
--- src/lib.rt:62:21
 no-pairs-requires : tie.Need-no-pairs-requires Inv-loop μ-loop
-no-pairs-requires c κs = ?
+no-pairs-requires c κs = tt
 
--- src/lib.rt:63:9
 declaration-count-requires : tie.Need-declaration-count-requires Inv-loop μ-loop
-declaration-count-requires c κs = ?
+declaration-count-requires c κs = c .before .before .pre .framed .header
 
--- src/lib.rt:64:9
 declaration-at-requires : tie.Need-declaration-at-requires Inv-loop μ-loop
-declaration-at-requires c κs = ?
+declaration-at-requires c κs = (bodies-in (c .before .before .before .args .book .now) (c .before .before .before .pre .framed), omega arith)
 
--- src/lib.rt:66:5
 loop-holds : tie.Need-loop-holds Inv-loop μ-loop
-loop-holds c = ?
+loop-holds c =
+    let b = c .before .before .before .before .args .book .now in
+    record
+    { square = c .before .before .no-pairs .ensures .0; place = c .declaration-at .ensures; within = omega arith
+    ; pairs = λ x y. c .before .before .no-pairs .ensures .1 x y ∙ sym (declared-none b x y) }
 
--- src/lib.rt:67:35
 add-byte-at : tie.Need-add-byte-at Inv-loop μ-loop
-add-byte-at c = ?
+add-byte-at c = omega (arith, c .before .loop .inv .place, declaration-in (c .before .before .before .before .before .before .args .book .now) (c .before .before .before .before .before .before .pre .framed) (c .before .loop .d) (omega (arith, c .before .before .before .declaration-count .ensures)))
 
--- src/lib.rt:67:13
 byte-at-requires : tie.Need-byte-at-requires Inv-loop μ-loop
-byte-at-requires c κs = ?
+byte-at-requires c κs = omega (arith, c .before .loop .inv .place, declaration-in (c .before .before .before .before .before .before .args .book .now) (c .before .before .before .before .before .before .pre .framed) (c .before .loop .d) (omega (arith, c .before .before .before .declaration-count .ensures)))
 
--- src/lib.rt:68:36
 add-byte-at-2 : tie.Need-add-byte-at-2 Inv-loop μ-loop
-add-byte-at-2 c = ?
+add-byte-at-2 c = omega (arith, c .before .before .loop .inv .place, declaration-in (c .before .before .before .before .before .before .before .args .book .now) (c .before .before .before .before .before .before .before .pre .framed) (c .before .before .loop .d) (omega (arith, c .before .before .before .before .declaration-count .ensures)))
 
--- src/lib.rt:68:13
 byte-at-requires-2 : tie.Need-byte-at-requires-2 Inv-loop μ-loop
-byte-at-requires-2 c κs = ?
+byte-at-requires-2 c κs = omega (arith, c .before .before .loop .inv .place, declaration-in (c .before .before .before .before .before .before .before .args .book .now) (c .before .before .before .before .before .before .before .pre .framed) (c .before .before .loop .d) (omega (arith, c .before .before .before .before .declaration-count .ensures)))
 
--- src/lib.rt:69:39
 mul-either : tie.Need-mul-either Inv-loop μ-loop
-mul-either c = ?
+mul-either c =
+    let b = c .before .before .before .before .before .before .before .before .args .book .now in
+    omega (arith, first-is b (c .before .before .before .loop .d) (c .before .before .before .loop .at) (c .before .byte-at .result) (c .before .before .before .loop .inv .place) (c .before .byte-at .ensures), small-first b (c .before .before .before .before .before .before .before .before .pre) (c .before .before .before .loop .d) (omega (arith, c .before .before .before .before .before .declaration-count .ensures)))
 
--- src/lib.rt:69:39
 index-1-either : tie.Need-index-1-either Inv-loop μ-loop
-index-1-either c = ?
+index-1-either c =
+    let b = c .before .before .before .before .before .before .before .before .args .book .now in
+    omega (arith, first-is b (c .before .before .before .loop .d) (c .before .before .before .loop .at) (c .before .byte-at .result) (c .before .before .before .loop .inv .place) (c .before .byte-at .ensures), small-first b (c .before .before .before .before .before .before .before .before .pre) (c .before .before .before .loop .d) (omega (arith, c .before .before .before .before .before .declaration-count .ensures)))
 
--- src/lib.rt:69:39
 index-2-either : tie.Need-index-2-either Inv-loop μ-loop
-index-2-either c = ?
+index-2-either c =
+    let b = c .before .before .before .before .before .before .before .before .args .book .now in
+    omega (arith, second-is b (c .before .before .before .loop .d) (c .before .before .before .loop .at) (c .byte-at2 .result) (c .before .before .before .loop .inv .place) (c .byte-at2 .ensures), small-second b (c .before .before .before .before .before .before .before .before .pre) (c .before .before .before .loop .d) (omega (arith, c .before .before .before .before .before .declaration-count .ensures)))
 
--- src/lib.rt:69:61
 byte-at-requires-3 : tie.Need-byte-at-requires-3 Inv-loop μ-loop
-byte-at-requires-3 c κs = ?
+byte-at-requires-3 c κs = omega (arith, c .before .before .before .before .loop .inv .place, declaration-in (c .before .before .before .before .before .before .before .before .before .args .book .now) (c .before .before .before .before .before .before .before .before .before .pre .framed) (c .before .before .before .before .loop .d) (omega (arith, c .before .before .before .before .before .before .declaration-count .ensures)))
 
--- src/lib.rt:69:32
 either-requires : tie.Need-either-requires Inv-loop μ-loop
-either-requires c κs = ?
+either-requires c κs = tt
 
--- src/lib.rt:69:9
 mul-table : tie.Need-mul-table Inv-loop μ-loop
-mul-table c = ?
+mul-table c =
+    let b = c .before .before .before .before .before .before .before .before .before .before .before .args .book .now in
+    omega (arith, first-is b (c .before .before .before .before .before .before .loop .d) (c .before .before .before .before .before .before .loop .at) (c .before .before .before .before .byte-at .result) (c .before .before .before .before .before .before .loop .inv .place) (c .before .before .before .before .byte-at .ensures), small-first b (c .before .before .before .before .before .before .before .before .before .before .before .pre) (c .before .before .before .before .before .before .loop .d) (omega (arith, c .before .before .before .before .before .before .before .before .declaration-count .ensures)))
 
--- src/lib.rt:69:9
 index-1-table : tie.Need-index-1-table Inv-loop μ-loop
-index-1-table c = ?
+index-1-table c =
+    let b = c .before .before .before .before .before .before .before .before .before .before .before .args .book .now in
+    omega (arith, first-is b (c .before .before .before .before .before .before .loop .d) (c .before .before .before .before .before .before .loop .at) (c .before .before .before .before .byte-at .result) (c .before .before .before .before .before .before .loop .inv .place) (c .before .before .before .before .byte-at .ensures), small-first b (c .before .before .before .before .before .before .before .before .before .before .before .pre) (c .before .before .before .before .before .before .loop .d) (omega (arith, c .before .before .before .before .before .before .before .before .declaration-count .ensures)))
 
--- src/lib.rt:69:9
 index-2-table : tie.Need-index-2-table Inv-loop μ-loop
-index-2-table c = ?
+index-2-table c =
+    let b = c .before .before .before .before .before .before .before .before .before .before .before .args .book .now in
+    omega (arith, second-is b (c .before .before .before .before .before .before .loop .d) (c .before .before .before .before .before .before .loop .at) (c .before .before .before .byte-at2 .result) (c .before .before .before .before .before .before .loop .inv .place) (c .before .before .before .byte-at2 .ensures), small-second b (c .before .before .before .before .before .before .before .before .before .before .before .pre) (c .before .before .before .before .before .before .loop .d) (omega (arith, c .before .before .before .before .before .before .before .before .declaration-count .ensures)))
 
--- src/lib.rt:70:9
 add-at : tie.Need-add-at Inv-loop μ-loop
-add-at c = ?
+add-at c = omega (arith, c .before .before .before .before .before .before .loop .inv .place, declaration-in (c .before .before .before .before .before .before .before .before .before .before .before .args .book .now) (c .before .before .before .before .before .before .before .before .before .before .before .pre .framed) (c .before .before .before .before .before .before .loop .d) (omega (arith, c .before .before .before .before .before .before .before .before .declaration-count .ensures)))
 
--- src/lib.rt:71:9
 add-d : tie.Need-add-d Inv-loop μ-loop
-add-d c = ?
+add-d c = omega arith
 
--- src/lib.rt:66:5
 loop-less : tie.Need-loop-less Inv-loop μ-loop
-loop-less c = ?
+loop-less c = omega arith
 
--- src/lib.rt:66:5
 loop-again : tie.Need-loop-again Inv-loop μ-loop
-loop-again c = ?
+unfolding entry
+loop-again c =
+    let b = c .before .before .before .before .before .before .before .before .before .before .before .args .book .now in
+    let d = c .before .before .before .before .before .before .loop .d in
+    let i = c .before .before .before .before .before .before .loop .inv in
+    let f = first-is b d (c .before .before .before .before .before .before .loop .at) (c .before .before .before .before .byte-at .result) (i .place) (c .before .before .before .before .byte-at .ensures) in
+    let s = second-is b d (c .before .before .before .before .before .before .loop .at) (c .before .before .before .byte-at2 .result) (i .place) (c .before .before .before .byte-at2 .ensures) in
+    let k = kind-is b d (c .before .before .before .before .before .before .loop .at) (c .before .byte-at3 .result) (i .place) (c .before .byte-at3 .ensures) in
+    let v : c .either .result ≡ (getD (getD (c .before .before .before .before .before .before .loop .table) (first b d) []) (second b d) false || eqb (kind b d) 1) = rw (f, s, k) at (c .either .ensures) in
+    let h : d < declarations b = omega (arith, c .before .before .before .before .before .before .before .before .declaration-count .ensures) in
+    rw (f, s)
+    (record
+    { square = square-put 64 (c .before .before .before .before .before .before .loop .table) (first b d) (second b d) (c .either .result) (i .square) (small-first b (c .before .before .before .before .before .before .before .before .before .before .before .pre) d h) (small-second b (c .before .before .before .before .before .before .before .before .before .before .before .pre) d h)
+    ; place = omega (arith, i .place, declaration-next b d)
+    ; within = omega arith
+    ; pairs = declared-more 64 b d (c .before .before .before .before .before .before .loop .table) (i .square) (small-first b (c .before .before .before .before .before .before .before .before .before .before .before .pre) d h) (small-second b (c .before .before .before .before .before .before .before .before .before .before .before .pre) d h) (i .pairs) (c .either .result) v })
 
--- src/lib.rt:58:1
 returns : tie.Need-returns Inv-loop μ-loop
-returns c = ?
+returns c x y = c .before .loop .inv .pairs x y ∙ declared-all (c .before .before .before .before .before .before .args .book .now) (c .before .loop .d) x y (omega (arith, c .before .before .before .declaration-count .ensures))
 
 pub declared-higher-spec : {M : Type 1} → statement M
 declared-higher-spec =

@@ -1,3 +1,14 @@
+-- `joined` meets its contract: the places below y are joined, the rest is the row.
+use Prim.Native.Nat.{ℕ, _-_, _≤_}
+use mathlib.Core.Path.{_≡_, sym, _∙_, ap}
+use mathlib.Core.Bool.{Bool, false, _&&_, _||_, and-false}
+use mathlib.Core.List.{List}
+use mathlib.Core.Logic.{by-cases}
+use native.Mathlib.Omega.{arith}
+use native.Mathlib.Decide.{decLt}
+use lib.ListN.{length, getD, List·getD-eq-default}
+use borrow.Author.Needs.{needs}
+use Rattle.common.proofs.WrittenLaws.{Written, written-none, written-more}
 use Rattle.priority.proofs.joined.Statement.{statement}
 use Rattle.priority.proofs.joined.Tie as tie
 use Rattle.priority.proofs.joined.Reads as reads
@@ -5,51 +16,60 @@ use Rattle.priority.proofs.joined.Lts as lts
 use Rattle.priority.proofs.both.Reads as both-reads
 use Rattle.priority.proofs.either.Reads as either-reads
 
+-- what stands at place k of the joined row
+Joined : List Bool → Bool → List Bool → ℕ → Bool → Type 0
+Joined row on other k v = v ≡ (getD row k false || on && getD other k false)
+
+beyond-all : (row other : List Bool) (on : Bool) (y : ℕ) → length row ≡ 64 → length other ≡ 64 → 64 ≤ y
+    → getD row y false ≡ (getD row y false || on && getD other y false)
+beyond-all row other on y e f h =
+    rw (List·getD-eq-default row false {n = y} (omega arith), List·getD-eq-default other false {n = y} (omega arith)) (sym (and-false on))
+
 abbrev Inv-loop : tie.InvT-loop
-Inv-loop on row other out₀ y₀ out y = ?
+Inv-loop on row other out₀ y₀ out y = Written (Joined row on other) false row y out × (y ≤ 64)
 
 abbrev μ-loop : tie.MeasureT-loop
-μ-loop on row other out₀ y₀ out y = ?
+μ-loop on row other out₀ y₀ out y = 64 - y
 
--- src/lib.rt:123:5
 loop-holds : tie.Need-loop-holds Inv-loop μ-loop
-loop-holds c = ?
+loop-holds c = (written-none (Joined (c .args .t1) (c .args .on) (c .args .t3)) false (c .args .t1), omega arith)
 
--- src/lib.rt:124:25
 array-read-either : tie.Need-array-read-either Inv-loop μ-loop
-array-read-either c = ?
+array-read-either c = omega arith
 
--- src/lib.rt:124:42
 array-read-both : tie.Need-array-read-both Inv-loop μ-loop
-array-read-both c = ?
+array-read-both c = omega arith
 
--- src/lib.rt:124:33
 both-requires : tie.Need-both-requires Inv-loop μ-loop
-both-requires c κs = ?
+both-requires c κs = tt
 
--- src/lib.rt:124:18
 either-requires : tie.Need-either-requires Inv-loop μ-loop
-either-requires c κs = ?
+either-requires c κs = tt
 
--- src/lib.rt:124:9
 array-write-out : tie.Need-array-write-out Inv-loop μ-loop
-array-write-out c = ?
+array-write-out c = omega arith
 
--- src/lib.rt:125:9
 add-y : tie.Need-add-y Inv-loop μ-loop
-add-y c = ?
+add-y c = omega arith
 
--- src/lib.rt:123:5
 loop-less : tie.Need-loop-less Inv-loop μ-loop
-loop-less c = ?
+loop-less c = omega arith
 
--- src/lib.rt:123:5
 loop-again : tie.Need-loop-again Inv-loop μ-loop
-loop-again c = ?
+unfolding Joined
+loop-again c =
+    let row = c .before .before .before .before .args .t1 in
+    let n : length row ≡ 64 = search needs in
+    (written-more (Joined row (c .before .before .before .before .args .on) (c .before .before .before .before .args .t3)) false row (c .before .before .before .loop .y) (c .before .before .before .loop .out) (c .either .result) (omega arith) (c .before .before .before .loop .inv .0) (c .either .ensures ∙ ap (λ (b : Bool). getD row (c .before .before .before .loop .y) false || b) (c .before .both .ensures)), omega arith)
 
--- src/lib.rt:118:1
 returns : tie.Need-returns Inv-loop μ-loop
-returns c = ?
+unfolding Joined
+returns c y =
+    let n : length (c .before .before .args .t1) ≡ 64 = search needs in
+    let m : length (c .before .before .args .t3) ≡ 64 = search needs in
+    by-cases (decLt y 64)
+    (λ l. c .before .loop .inv .0 .done y (omega arith))
+    (λ l. c .before .loop .inv .0 .rest y (omega arith) ∙ beyond-all (c .before .before .args .t1) (c .before .before .args .t3) (c .before .before .args .on) y n m (omega arith))
 
 pub joined-spec : {M : Type 1} → statement M
 joined-spec =

@@ -1,11 +1,12 @@
+-- `no_pairs` meets its contract.
+use Rattle.priority.proofs.TableLaws.{entry-none, square-none}
 use Rattle.priority.proofs.no_pairs.Statement.{statement}
 use Rattle.priority.proofs.no_pairs.Tie as tie
 use Rattle.priority.proofs.no_pairs.Reads as reads
 use Rattle.priority.proofs.no_pairs.Lts as lts
 
--- src/lib.rt:76:1
 returns : tie.Need-returns
-returns c = ?
+returns c = (square-none 64, entry-none 64)
 
 pub no-pairs-spec : {M : Type 1} → statement M
 no-pairs-spec = tie.close (tie.spec returns)

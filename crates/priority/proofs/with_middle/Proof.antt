@@ -1,74 +1,89 @@
+-- `with_middle` meets its contract: the rows below x may pass through the middle, the rest is as it was.
+use Prim.Native.Nat.{ℕ, _-_, _≤_}
+use mathlib.Core.Path.{_≡_, refl, _∙_, ap}
+use mathlib.Core.Bool.{Bool, false, _&&_, _||_}
+use mathlib.Core.List.{List, []}
+use mathlib.Core.Logic.{by-cases}
+use native.Mathlib.Omega.{arith}
+use native.Mathlib.Decide.{decLt}
+use lib.ListN.{length, getD}
+use borrow.Author.Needs.{needs}
+use Rattle.common.proofs.WrittenLaws.{Written, written-none, written-more}
+use Rattle.priority.proofs.TableLaws.{entry-out}
+use Rattle.priority.specs.Chain.{entry}
 use Rattle.priority.proofs.with_middle.Statement.{statement}
 use Rattle.priority.proofs.with_middle.Tie as tie
 use Rattle.priority.proofs.with_middle.Reads as reads
 use Rattle.priority.proofs.with_middle.Lts as lts
 use Rattle.priority.proofs.joined.Reads as joined-reads
 
+-- what row x of the wider table holds
+Passes : List (List Bool) → ℕ → ℕ → List Bool → Type 0
+Passes table middle x row = (y : ℕ) → getD row y false ≡ (entry table x y || entry table x middle && entry table middle y)
+
+beyond-all : (t : List (List Bool)) (m x y : ℕ) → length t ≡ 64 → 64 ≤ x → entry t x y ≡ (entry t x y || entry t x m && entry t m y)
+beyond-all t m x y e h = rw (entry-out t x y (omega arith), entry-out t x m (omega arith)) refl
+
 abbrev Inv-loop : tie.InvT-loop
-Inv-loop middle table wider₀ beyond x₀ wider x = ?
+Inv-loop middle table wider₀ beyond x₀ wider x = Written (Passes table middle) [] table x wider × (x ≤ 64)
 
 abbrev μ-loop : tie.MeasureT-loop
-μ-loop middle table wider₀ beyond x₀ wider x = ?
+μ-loop middle table wider₀ beyond x₀ wider x = 64 - x
 
--- src/lib.rt:115:18
 mul-beyond : tie.Need-mul-beyond Inv-loop μ-loop
-mul-beyond c = ?
+mul-beyond c = omega arith
 
--- src/lib.rt:115:18
 array-copy-out-beyond : tie.Need-array-copy-out-beyond Inv-loop μ-loop
-array-copy-out-beyond c = ?
+array-copy-out-beyond c = omega arith
 
--- src/lib.rt:117:5
 loop-holds : tie.Need-loop-holds Inv-loop μ-loop
-loop-holds c = ?
+loop-holds c = (written-none (Passes (c .before .args .t1) (c .before .args .middle)) [] (c .before .args .t1), omega arith)
 
--- src/lib.rt:118:27
 mul-joined : tie.Need-mul-joined Inv-loop μ-loop
-mul-joined c = ?
+mul-joined c = omega arith
 
--- src/lib.rt:118:27
 array-copy-out-joined : tie.Need-array-copy-out-joined Inv-loop μ-loop
-array-copy-out-joined c = ?
+array-copy-out-joined c = omega arith
 
--- src/lib.rt:118:37
 mul-joined-2 : tie.Need-mul-joined-2 Inv-loop μ-loop
-mul-joined-2 c = ?
+mul-joined-2 c = omega arith
 
--- src/lib.rt:118:37
 index-1-joined : tie.Need-index-1-joined Inv-loop μ-loop
-index-1-joined c = ?
+index-1-joined c = omega arith
 
--- src/lib.rt:118:37
 index-2-joined : tie.Need-index-2-joined Inv-loop μ-loop
-index-2-joined c = ?
+index-2-joined c = omega arith
 
--- src/lib.rt:118:20
 joined-requires : tie.Need-joined-requires Inv-loop μ-loop
-joined-requires c κs = ?
+joined-requires c κs = tt
 
--- src/lib.rt:118:9
 mul-wider : tie.Need-mul-wider Inv-loop μ-loop
-mul-wider c = ?
+mul-wider c = omega arith
 
--- src/lib.rt:118:9
 array-set-from-wider : tie.Need-array-set-from-wider Inv-loop μ-loop
-array-set-from-wider c = ?
+array-set-from-wider c = omega arith
 
--- src/lib.rt:119:9
 add-x : tie.Need-add-x Inv-loop μ-loop
-add-x c = ?
+add-x c = omega arith
 
--- src/lib.rt:117:5
 loop-less : tie.Need-loop-less Inv-loop μ-loop
-loop-less c = ?
+loop-less c = omega arith
 
--- src/lib.rt:117:5
 loop-again : tie.Need-loop-again Inv-loop μ-loop
-loop-again c = ?
+unfolding Passes entry
+loop-again c =
+    let t = c .before .before .before .before .before .before .args .t1 in
+    let n : length t ≡ 64 = search needs in
+    (written-more (Passes t (c .before .before .before .before .before .before .args .middle)) [] t (c .before .before .before .before .loop .x) (c .before .before .before .before .loop .wider) (c .joined .result) (omega arith) (c .before .before .before .before .loop .inv .0) (c .joined .ensures), omega arith)
 
--- src/lib.rt:110:1
 returns : tie.Need-returns Inv-loop μ-loop
-returns c = ?
+unfolding Passes entry
+returns c x y =
+    let t = c .before .before .before .args .t1 in
+    let n : length t ≡ 64 = search needs in
+    by-cases (decLt x 64)
+    (λ l. c .before .loop .inv .0 .done x (omega arith) y)
+    (λ l. ap (λ (row : List Bool). getD row y false) (c .before .loop .inv .0 .rest x (omega arith)) ∙ beyond-all t (c .before .before .before .args .middle) x y n (omega arith))
 
 pub with-middle-spec : {M : Type 1} → statement M
 with-middle-spec =

@@ -1,0 +1,100 @@
+-- Laws of the declared priorities: a table that takes up one declaration more, and "higher" as a chain and as a test.
+use Prim.Native.Nat.{ℕ, _+_, _<_}
+use mathlib.Core.Path.{_≡_, refl, sym, ap}
+use mathlib.Core.Bool.{Bool, false, true, _&&_, _||_, and-true, and-false, or-false}
+use mathlib.Core.List.{List, []}
+use mathlib.Core.Logic.{_↔_}
+use native.Mathlib.Omega.{arith}
+use native.Mathlib.Decide.{ℕ-discrete}
+use lib.Dec.{eqb}
+use lib.ListN.{getD, set}
+use borrow.Author.Tests.{eqb-true, eq-eqb, ne-eqb}
+use Rattle.common.proofs.BelowLaws.{any-none, any-next, any-found}
+use Rattle.common.proofs.BoolLaws.{and-first-true, and-second-true, same-test}
+use Rattle.common.specs.Below.{anyBelow}
+use Rattle.grammar.specs.Formed.{WellFormed}
+use Rattle.grammar.specs.Layout.{productions, declarations, kind, first, second}
+use Rattle.grammar.specs.Verdict.{refuseIf}
+use Rattle.priority.proofs.ChainLaws.{through-chain, chain-through}
+use Rattle.priority.proofs.TableLaws.{entry-put-same, entry-put-other}
+use Rattle.priority.specs.Chain.{entry, Square}
+use Rattle.priority.specs.Check.{circle, onDiagonal}
+use Rattle.priority.specs.Priorities.{higher, kindNumber, namesPair, coversPair, covers, declared, Higher, isHigher}
+
+covers-here : (b : List ℕ) (d : ℕ) → covers b d higher (first b d) (second b d) ≡ eqb (kind b d) 1
+unfolding covers coversPair namesPair kindNumber
+covers-here b d = rw (eq-eqb (first b d) (first b d) refl, eq-eqb (second b d) (second b d) refl) (and-true (eqb (kind b d) 1))
+
+covers-elsewhere : (b : List ℕ) (d x y : ℕ) → ((x ≡ first b d) × (y ≡ second b d) → ⊥) → covers b d higher x y ≡ false
+unfolding covers coversPair namesPair kindNumber
+covers-elsewhere b d x y h =
+    elim (ℕ-discrete (first b d) x)
+    [ yes e ↦ rw (eq-eqb (first b d) x e, ne-eqb (second b d) y (λ q. h (sym e, sym q))) (and-false (eqb (kind b d) 1))
+    | no e ↦ rw (ne-eqb (first b d) x e) (and-false (eqb (kind b d) 1)) ]
+
+-- The declarations below d, as a test.
+unfoldable pub declaredBelow : List ℕ → ℕ → ℕ → ℕ → Bool
+declaredBelow b d x y = anyBelow d (λ e. covers b e higher x y)
+
+pub declared-none : (b : List ℕ) (x y : ℕ) → declaredBelow b 0 x y ≡ false
+unfolding declaredBelow
+declared-none b x y = any-none (λ e. covers b e higher x y)
+
+pub declared-all : (b : List ℕ) (d x y : ℕ) → d ≡ declarations b → declaredBelow b d x y ≡ declared b higher x y
+unfolding declaredBelow declared
+declared-all b d x y e = ap (λ (n : ℕ). anyBelow n (λ k. covers b k higher x y)) e
+
+module _ (n : ℕ) (b : List ℕ) (d : ℕ) (t : List (List Bool)) (q : Square n t) (hf : first b d < n) (hs : second b d < n)
+    (now : (x y : ℕ) → entry t x y ≡ declaredBelow b d x y) where
+  next : (x y : ℕ) → declaredBelow b (d + 1) x y ≡ (declaredBelow b d x y || covers b d higher x y)
+  unfolding declaredBelow
+  next x y = any-next (λ e. covers b e higher x y) d
+
+  here : (v : Bool) → v ≡ (entry t (first b d) (second b d) || eqb (kind b d) 1)
+      → entry (set t (first b d) (set (getD t (first b d) []) (second b d) v)) (first b d) (second b d) ≡ declaredBelow b (d + 1) (first b d) (second b d)
+  here v e =
+      rw (entry-put-same n t (first b d) (second b d) v q hf hs, next (first b d) (second b d), covers-here b d, ← (now (first b d) (second b d))) e
+
+  pub declared-more : (v : Bool) → v ≡ (entry t (first b d) (second b d) || eqb (kind b d) 1)
+      → (x y : ℕ) → entry (set t (first b d) (set (getD t (first b d) []) (second b d) v)) x y ≡ declaredBelow b (d + 1) x y
+  declared-more v e x y =
+      let away : ((x ≡ first b d) × (y ≡ second b d) → ⊥) → entry (set t (first b d) (set (getD t (first b d) []) (second b d) v)) x y ≡ declaredBelow b (d + 1) x y =
+              λ h. rw (entry-put-other n t (first b d) (second b d) v q hf hs x y h, next x y, covers-elsewhere b d x y h, now x y) (sym (or-false (declaredBelow b d x y))) in
+      elim (ℕ-discrete x (first b d))
+      [ yes e₁ ↦ elim (ℕ-discrete y (second b d)) [ yes e₂ ↦ rw (e₁, e₂) (here v e) | no h ↦ away (λ p. h (p .1)) ]
+      | no h ↦ away (λ p. h (p .0)) ]
+
+-- ---- only productions are higher or lower
+
+module _ (b : List ℕ) (w : WellFormed b) (x y : ℕ) (e : declared b higher x y ≡ true) where
+  witness : (d : ℕ) × (d < declarations b) × (covers b d higher x y ≡ true)
+  unfolding declared
+  witness = any-found (λ d. covers b d higher x y) (declarations b) e
+
+  named : (eqb (first b (witness .0)) x && eqb (second b (witness .0)) y) ≡ true
+  unfolding covers coversPair namesPair kindNumber
+  named = and-second-true (eqb (kind b (witness .0)) 1) (eqb (first b (witness .0)) x && eqb (second b (witness .0)) y) (witness .2)
+
+  pub declared-first : x < productions b
+  declared-first =
+      let q = eqb-true (first b (witness .0)) x (and-first-true (eqb (first b (witness .0)) x) (eqb (second b (witness .0)) y) named) in
+      omega (arith, w .firstThere (witness .0) (witness .1))
+
+  pub declared-second : y < productions b
+  declared-second =
+      let q = eqb-true (second b (witness .0)) y (and-second-true (eqb (first b (witness .0)) x) (eqb (second b (witness .0)) y) named) in
+      omega (arith, w .secondThere (witness .0) (witness .1))
+
+-- The test is the chain.
+pub higher-chain : (b : List ℕ) → WellFormed b → (x y : ℕ) → (isHigher b x y ≡ true) ↔ Higher b x y
+unfolding isHigher
+higher-chain b w x y =
+    ((λ e. through-chain (declared b higher) (productions b) x y e), (λ c. chain-through (declared b higher) (productions b) (declared-first b w) c))
+
+-- A table that holds "higher" has the circles on its diagonal.
+pub diagonal-circle : (b : List ℕ) → WellFormed b → (t : List (List Bool)) → ((x y : ℕ) → (entry t x y ≡ true) ↔ Higher b x y)
+    → (p : ℕ) → onDiagonal t p ≡ circle b p
+unfolding onDiagonal circle
+diagonal-circle b w t h p =
+    ap (λ (v : Bool). refuseIf v 9 p)
+    (same-test (entry t p p) (isHigher b p p) (λ e. higher-chain b w p p .1 (h p p .0 e)) (λ e. h p p .1 (higher-chain b w p p .0 e)))

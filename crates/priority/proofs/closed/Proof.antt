@@ -1,0 +1,71 @@
+-- `closed` meets its contract: after the turn for a middle, entries are chains through all middles so far.
+use Prim.Native.Nat.{ℕ, _-_, _≤_, _<_}
+use mathlib.Core.Path.{_≡_, refl, sym, _∙_, subst}
+use mathlib.Core.Bool.{Bool, true}
+use mathlib.Core.List.{List}
+use mathlib.Core.Logic.{by-cases}
+use native.Mathlib.Omega.{arith}
+use native.Mathlib.Decide.{decLt}
+use lib.ListN.{length}
+use borrow.Author.Needs.{needs}
+use Rattle.common.proofs.BoolLaws.{not-both}
+use Rattle.priority.proofs.ChainLaws.{through-next, through-chain, chain-through}
+use Rattle.priority.proofs.TableLaws.{entry-out}
+use Rattle.priority.specs.Chain.{through, entry}
+use Rattle.priority.proofs.closed.Statement.{statement}
+use Rattle.priority.proofs.closed.Tie as tie
+use Rattle.priority.proofs.closed.Reads as reads
+use Rattle.priority.proofs.closed.Lts as lts
+use Rattle.priority.proofs.with_middle.Reads as with-middle-reads
+
+in-table : (t : List (List Bool)) → length t ≡ 64 → (x y : ℕ) → entry t x y ≡ true → x < 64
+in-table t e x y h = by-cases (decLt x 64) (λ l. l) (λ n. not-both (entry t x y) h (entry-out t x y (omega arith)))
+
+
+
+abbrev Inv-loop : tie.InvT-loop
+Inv-loop closure₀ middle₀ closure middle = ((x y : ℕ) → entry closure x y ≡ through (entry closure₀) middle x y) × (middle ≤ 64)
+
+abbrev μ-loop : tie.MeasureT-loop
+μ-loop closure₀ middle₀ closure middle = 64 - middle
+
+loop-holds : tie.Need-loop-holds Inv-loop μ-loop
+unfolding through
+loop-holds c = ((λ x y. refl), omega arith)
+
+with-middle-requires : tie.Need-with-middle-requires Inv-loop μ-loop
+with-middle-requires c κs = omega arith
+
+add-middle : tie.Need-add-middle Inv-loop μ-loop
+add-middle c = omega arith
+
+loop-less : tie.Need-loop-less Inv-loop μ-loop
+loop-less c = omega arith
+
+loop-again : tie.Need-loop-again Inv-loop μ-loop
+loop-again c =
+    let t = c .before .before .before .args .table in
+    let m = c .before .before .loop .middle in
+    let i = c .before .before .loop .inv .0 in
+    ((λ x y. c .with-middle .ensures x y ∙ rw (i x y, i x m, i m y) (sym (through-next (entry t) m x y))), omega arith)
+
+returns : tie.Need-returns Inv-loop μ-loop
+returns c x y =
+    let t = c .before .before .args .table in
+    let n : length t ≡ 64 = search needs in
+    let e : c .before .loop .middle ≡ 64 = omega arith in
+    let i = subst (λ (k : ℕ). entry (c .before .loop .closure) x y ≡ through (entry t) k x y) e (c .before .loop .inv .0 x y) in
+    ((λ h. through-chain (entry t) 64 x y (sym i ∙ h)), (λ h. i ∙ chain-through (entry t) 64 (in-table t n) h))
+
+pub closed-spec : {M : Type 1} → statement M
+closed-spec =
+    tie.close
+    (tie.spec
+    Inv-loop
+    μ-loop
+    loop-holds
+    with-middle-requires
+    add-middle
+    loop-less
+    loop-again
+    returns)

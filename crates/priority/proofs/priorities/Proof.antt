@@ -1,0 +1,25 @@
+-- `priorities` meets its contract: chains of table entries are chains of declared pairs.
+use mathlib.Core.Path.{sym, _∙_}
+use borrow.Author.Needs.{needs}
+use Rattle.priority.proofs.ChainLaws.{chain-map}
+use Rattle.priority.proofs.priorities.Statement.{statement}
+use Rattle.priority.proofs.priorities.Tie as tie
+use Rattle.priority.proofs.priorities.Reads as reads
+use Rattle.priority.proofs.priorities.Lts as lts
+use Rattle.priority.proofs.closed.Reads as closed-reads
+use Rattle.priority.proofs.declared_higher.Reads as declared-higher-reads
+
+declared-higher-requires : tie.Need-declared-higher-requires
+declared-higher-requires c κs = search needs
+
+closed-requires : tie.Need-closed-requires
+closed-requires c κs = search needs
+
+returns : tie.Need-returns
+returns c x y =
+    let d = c .before .declared-higher .ensures in
+    let e = c .closed .ensures x y in
+    ((λ h. chain-map (λ u v g. sym (d u v) ∙ g) (e .0 h)), (λ h. e .1 (chain-map (λ u v g. d u v ∙ g) h)))
+
+pub priorities-spec : {M : Type 1} → statement M
+priorities-spec = tie.close (tie.spec declared-higher-requires closed-requires returns)
