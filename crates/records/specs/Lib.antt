@@ -1,0 +1,2 @@
+-- What the contracts of the stored cases' input cite.
+pub mod Fields
