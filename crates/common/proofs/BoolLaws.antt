@@ -1,8 +1,9 @@
 -- Laws of tests: what a true or false test says of its parts, and tests that agree.
--- ---- or
 use mathlib.Core.Path.{_≡_, refl, sym, _∙_}
 use mathlib.Core.Bool.{Bool, false, true, not, _&&_, _||_, Bool·beq, true≢false, false≢true, or-true}
 use mathlib.Core.Logic.{_⊎_, inl, inr}
+
+-- ---- or
 
 pub or-cases : (a b : Bool) → (a || b) ≡ true → (a ≡ true) ⊎ (b ≡ true)
 or-cases true b e = inl refl

@@ -1,5 +1,4 @@
 -- A list that is written from the front, one place a turn: what a loop that fills an array has done at each turn.
--- Of l₀ the places below i now have what P says of them; the rest is as it was.
 use Prim.Native.Nat.{ℕ, _+_, _≤_, _<_}
 use mathlib.Core.Path.{_≡_, refl, _∙_}
 use mathlib.Core.List.{List}
@@ -8,6 +7,7 @@ use native.Mathlib.Decide.{ℕ-discrete}
 use lib.ListN.{length, getD, set, length-set}
 use lib.Seq.{getD-set-same, getD-set-other}
 
+-- Of l₀ the places below i now have what P says of them; the rest is as it was.
 pub record Written {A : Type 0} (P : ℕ → A → Type 0) (d : A) (l₀ : List A) (i : ℕ) (l : List A) : Type 0 where
   pub long : length l ≡ length l₀
   pub done : (k : ℕ) → k < i → P k (getD l k d)

@@ -3,4 +3,5 @@ pub mod ChainLaws
 pub mod TableLaws
 pub mod PriorityLaws
 pub mod CheckLaws
+pub mod ConflictLaws
 pub mod RefusalLaws

@@ -1,19 +1,20 @@
 -- Laws of the declared priorities: a table that takes up one declaration more, and "higher" as a chain and as a test.
-use Prim.Native.Nat.{ℕ, _+_, _<_}
-use mathlib.Core.Path.{_≡_, refl, sym, ap}
+use Prim.Native.Nat.{ℕ, _+_, _≤_, _<_}
+use mathlib.Core.Path.{_≡_, refl, sym, _∙_, ap}
 use mathlib.Core.Bool.{Bool, false, true, _&&_, _||_, and-true, and-false, or-false}
 use mathlib.Core.List.{List, []}
 use mathlib.Core.Logic.{_↔_}
 use native.Mathlib.Omega.{arith}
 use native.Mathlib.Decide.{ℕ-discrete}
 use lib.Dec.{eqb}
-use lib.ListN.{getD, set}
+use lib.ListN.{length, getD, set}
 use borrow.Author.Tests.{eqb-true, eq-eqb, ne-eqb}
 use Rattle.common.proofs.BelowLaws.{any-none, any-next, any-found}
 use Rattle.common.proofs.BoolLaws.{and-first-true, and-second-true, same-test}
 use Rattle.common.specs.Below.{anyBelow}
+use Rattle.grammar.proofs.FormedLaws.{declaration-in}
 use Rattle.grammar.specs.Formed.{WellFormed}
-use Rattle.grammar.specs.Layout.{productions, declarations, kind, first, second}
+use Rattle.grammar.specs.Layout.{productions, declarations, declarationAt, kind, first, second}
 use Rattle.grammar.specs.Verdict.{refuseIf}
 use Rattle.priority.proofs.ChainLaws.{through-chain, chain-through}
 use Rattle.priority.proofs.TableLaws.{entry-put-same, entry-put-other}
@@ -91,10 +92,44 @@ unfolding isHigher
 higher-chain b w x y =
     ((λ e. through-chain (declared b higher) (productions b) x y e), (λ c. chain-through (declared b higher) (productions b) (declared-first b w) c))
 
--- A table that holds "higher" has the circles on its diagonal.
-pub diagonal-circle : (b : List ℕ) → WellFormed b → (t : List (List Bool)) → ((x y : ℕ) → (entry t x y ≡ true) ↔ Higher b x y)
-    → (p : ℕ) → onDiagonal t p ≡ circle b p
-unfolding onDiagonal circle
-diagonal-circle b w t h p =
-    ap (λ (v : Bool). refuseIf v 9 p)
-    (same-test (entry t p p) (isHigher b p p) (λ e. higher-chain b w p p .1 (h p p .0 e)) (λ e. h p p .1 (higher-chain b w p p .0 e)))
+-- A table that holds "higher" has the test's values, and the circles on its diagonal.
+module _ (b : List ℕ) (w : WellFormed b) (t : List (List Bool)) (h : (x y : ℕ) → (entry t x y ≡ true) ↔ Higher b x y) where
+  pub table-higher : (x y : ℕ) → entry t x y ≡ isHigher b x y
+  table-higher x y =
+      same-test (entry t x y) (isHigher b x y) (λ e. higher-chain b w x y .1 (h x y .0 e)) (λ e. h x y .1 (higher-chain b w x y .0 e))
+
+  pub diagonal-circle : (p : ℕ) → onDiagonal t p ≡ circle b p
+  unfolding onDiagonal circle
+  diagonal-circle p = ap (λ (v : Bool). refuseIf v 9 p) (table-higher p p)
+
+-- ---- the bytes of a declaration, as code reads them
+
+module _ (b : List ℕ) (w : WellFormed b) (d : ℕ) (h : d < declarations b) where
+  pub small-first : first b d < 64
+  small-first = omega (arith, w .firstThere d h, w .framed .fewProductions)
+
+  pub small-second : second b d < 64
+  small-second = omega (arith, w .secondThere d h, w .framed .fewProductions)
+
+pub first-is : (b : List ℕ) (d at x : ℕ) → at ≡ declarationAt b d → x ≡ getD b (at + 1) 0 → x ≡ first b d
+unfolding first
+first-is b d at x e f = f ∙ ap (λ (a : ℕ). getD b (a + 1) 0) e
+
+pub second-is : (b : List ℕ) (d at x : ℕ) → at ≡ declarationAt b d → x ≡ getD b (at + 2) 0 → x ≡ second b d
+unfolding second
+second-is b d at x e f = f ∙ ap (λ (a : ℕ). getD b (a + 2) 0) e
+
+pub kind-is : (b : List ℕ) (d at x : ℕ) → at ≡ declarationAt b d → x ≡ getD b at 0 → x ≡ kind b d
+unfolding kind
+kind-is b d at x e f = f ∙ ap (λ (a : ℕ). getD b a 0) e
+
+-- what was read as first or second production fits the table
+module _ (b : List ℕ) (w : WellFormed b) (d at : ℕ) (h : d < declarations b) (e : at ≡ declarationAt b d) where
+  pub first-below : (x : ℕ) → x ≡ getD b (at + 1) 0 → x < 64
+  first-below x f = omega (arith, first-is b d at x e f, small-first b w d h)
+
+  pub second-below : (x : ℕ) → x ≡ getD b (at + 2) 0 → x < 64
+  second-below x f = omega (arith, second-is b d at x e f, small-second b w d h)
+
+  pub declaration-ends : at + 3 ≤ length b
+  declaration-ends = omega (arith, declaration-in b (w .framed) d h)

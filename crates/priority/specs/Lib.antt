@@ -3,3 +3,4 @@ pub mod Chain
 pub mod Priorities
 pub mod Check
 pub mod Table
+pub mod Conflict

@@ -1,4 +1,6 @@
 // Priorities: "higher" closed under transitivity in a table of yes-or-no entries, and the whole check of a grammar.
+pub mod conflict;
+
 use grammar::Verdict;
 use grammar::check::{check_bodies, check_frame};
 use grammar::layout::{byte_at, declaration_at, declaration_count, production_count};
@@ -15,6 +17,21 @@ ghost use Rattle.grammar.specs.Verdict.{firstRefusal};
 ghost use Rattle.priority.specs.Chain.{Chain, entry, Square};
 ghost use Rattle.priority.specs.Priorities.{Higher, declared, higher};
 ghost use Rattle.priority.specs.Check.{checked, onDiagonal};
+
+// 01's numbers of the kinds of declaration.
+pub const HIGHER: usize = 1;
+pub const LEFT: usize = 2;
+pub const RIGHT: usize = 3;
+// "Not together".
+pub const NONASSOC: usize = 4;
+
+// What the conflict question answers.
+pub enum ConflictAnswer {
+    Yes,
+    No,
+    // The refusal's number and its place.
+    Refused(usize, usize),
+}
 
 // The operation "checking a grammar" (01's checking a book): accepted, or refused with number 1 to 9 and place.
 pub fn check_grammar(book: &[u8]) -> Verdict
@@ -66,7 +83,7 @@ fn declared_higher(book: &[u8]) -> [[bool; PRODUCTION_LIMIT]; PRODUCTION_LIMIT]
     while d < count {
         let first = byte_at(book, at + 1);
         let second = byte_at(book, at + 2);
-        table[first][second] = either(table[first][second], byte_at(book, at) == 1);
+        table[first][second] = either(table[first][second], byte_at(book, at) == HIGHER);
         at += 3;
         d += 1;
     }

@@ -1,6 +1,6 @@
 -- `declared_higher` meets its contract: the table holds the pairs of the declarations passed.
-use Prim.Native.Nat.{ℕ, _+_, _-_, _≤_, _<_}
-use mathlib.Core.Path.{_≡_, sym, _∙_, ap}
+use Prim.Native.Nat.{ℕ, _-_, _≤_, _<_}
+use mathlib.Core.Path.{_≡_, sym, _∙_}
 use mathlib.Core.Bool.{Bool, false, _||_}
 use mathlib.Core.List.{List, []}
 use native.Mathlib.Omega.{arith}
@@ -8,9 +8,8 @@ use lib.Dec.{eqb}
 use lib.ListN.{getD}
 use Rattle.grammar.proofs.FormedLaws.{declaration-in, bodies-in}
 use Rattle.grammar.proofs.LayoutLaws.{declaration-next}
-use Rattle.grammar.specs.Formed.{WellFormed}
 use Rattle.grammar.specs.Layout.{declarations, declarationAt, kind, first, second}
-use Rattle.priority.proofs.PriorityLaws.{declaredBelow, declared-none, declared-all, declared-more}
+use Rattle.priority.proofs.PriorityLaws.{declaredBelow, declared-none, declared-all, declared-more, small-first, small-second, first-is, second-is, kind-is}
 use Rattle.priority.proofs.TableLaws.{square-put}
 use Rattle.priority.specs.Chain.{entry, Square}
 use Rattle.priority.proofs.declared_higher.Statement.{statement}
@@ -22,26 +21,6 @@ use Rattle.grammar.proofs.layout.declaration_at.Reads as declaration-at-reads
 use Rattle.grammar.proofs.layout.declaration_count.Reads as declaration-count-reads
 use Rattle.priority.proofs.either.Reads as either-reads
 use Rattle.priority.proofs.no_pairs.Reads as no-pairs-reads
-
-module _ (b : List ℕ) (w : WellFormed b) (d : ℕ) (h : d < declarations b) where
-  small-first : first b d < 64
-  small-first = omega (arith, w .firstThere d h, w .framed .fewProductions)
-
-  small-second : second b d < 64
-  small-second = omega (arith, w .secondThere d h, w .framed .fewProductions)
-
--- the bytes read are the declaration's
-first-is : (b : List ℕ) (d at x : ℕ) → at ≡ declarationAt b d → x ≡ getD b (at + 1) 0 → x ≡ first b d
-unfolding first
-first-is b d at x e f = f ∙ ap (λ (a : ℕ). getD b (a + 1) 0) e
-
-second-is : (b : List ℕ) (d at x : ℕ) → at ≡ declarationAt b d → x ≡ getD b (at + 2) 0 → x ≡ second b d
-unfolding second
-second-is b d at x e f = f ∙ ap (λ (a : ℕ). getD b (a + 2) 0) e
-
-kind-is : (b : List ℕ) (d at x : ℕ) → at ≡ declarationAt b d → x ≡ getD b at 0 → x ≡ kind b d
-unfolding kind
-kind-is b d at x e f = f ∙ ap (λ (a : ℕ). getD b a 0) e
 
 record Taken (b : List ℕ) (count at d : ℕ) (table : List (List Bool)) : Type 0 where
   square : Square 64 table

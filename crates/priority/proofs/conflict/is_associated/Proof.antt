@@ -1,0 +1,24 @@
+-- `is_associated` meets its contract.
+use mathlib.Core.Path.{refl}
+use borrow.Author.Needs.{needs}
+use Rattle.priority.specs.Chain.{entry}
+use Rattle.priority.proofs.conflict.is_associated.Statement.{statement}
+use Rattle.priority.proofs.conflict.is_associated.Tie as tie
+use Rattle.priority.proofs.conflict.is_associated.Reads as reads
+use Rattle.priority.proofs.conflict.is_associated.Lts as lts
+
+mul-result : tie.Need-mul-result
+mul-result c = search needs
+
+index-1-result : tie.Need-index-1-result
+index-1-result c = search needs
+
+index-2-result : tie.Need-index-2-result
+index-2-result c = search needs
+
+returns : tie.Need-returns
+unfolding entry
+returns c = refl
+
+pub is-associated-spec : {M : Type 1} → statement M
+is-associated-spec = tie.close (tie.spec mul-result index-1-result index-2-result returns)

@@ -1,0 +1,71 @@
+-- Priority conflicts (000, Definition 2.6; 01's clashes): a production standing as an argument of another where the priorities forbid it.
+use Prim.Native.Nat.{ℕ, _+_}
+use mathlib.Core.Path.{_≡_}
+use mathlib.Core.Bool.{Bool, false, true, cond, _&&_, _||_}
+use mathlib.Core.List.{List}
+use lib.Dec.{leb, ltb, eqb}
+use Rattle.common.specs.Below.{anyBelow}
+use Rattle.grammar.specs.Layout.{sorts, productions, declarations, argumentCount, result, argument, kind}
+use Rattle.grammar.specs.declared.Verdict.{Verdict}
+use Rattle.grammar.specs.declared.Verdict.the-variants.{Accepted}
+use Rattle.priority.specs.Check.{checked}
+use Rattle.priority.specs.Priorities.{left, right, nonassoc, namesPair, declared, Higher, isHigher}
+use Rattle.priority.specs.declared.ConflictAnswer.{ConflictAnswer}
+use Rattle.priority.specs.declared.ConflictAnswer.the-variants.{Yes, No}
+
+-- An argument byte that is a sort.
+unfoldable pub isSort : List ℕ → ℕ → Bool
+isSort b x = ltb x (sorts b)
+
+-- Argument i of production p is a sort, and it is q's result: there q may stand, conflicts let through.
+unfoldable pub fits : List ℕ → ℕ → ℕ → ℕ → Bool
+fits b p i q = isSort b (argument b p i) && eqb (argument b p i) (result b q)
+
+-- Argument i is the first, or the last, of two or more; arguments that are classes count too.
+unfoldable pub isFirst : List ℕ → ℕ → ℕ → Bool
+isFirst b p i = eqb i 0 && leb 2 (argumentCount b p)
+
+unfoldable pub isLast : List ℕ → ℕ → ℕ → Bool
+isLast b p i = eqb (i + 1) (argumentCount b p) && leb 2 (argumentCount b p)
+
+-- The pair is right, or left, or in either case not together.
+unfoldable pub rightOrNonassoc : List ℕ → ℕ → ℕ → Bool
+rightOrNonassoc b x y = declared b right x y || declared b nonassoc x y
+
+unfoldable pub leftOrNonassoc : List ℕ → ℕ → ℕ → Bool
+leftOrNonassoc b x y = declared b left x y || declared b nonassoc x y
+
+-- The same for the number of a side, read off the declarations in one pass.
+unfoldable pub associates : List ℕ → ℕ → ℕ → ℕ → ℕ → Bool
+associates b side d x y = (eqb (kind b d) side || eqb (kind b d) 4) && (namesPair b d x y || namesPair b d y x)
+
+unfoldable pub associated : List ℕ → ℕ → ℕ → ℕ → Bool
+associated b side x y = anyBelow (declarations b) (λ d. associates b side d x y)
+
+-- Production q as argument i of production p matches one of the patterns of Definition 2.6, a constructor to a rule.
+pub data Conflict (b : List ℕ) (p i q : ℕ) : Type 0 where
+  anywhere : fits b p i q ≡ true → Higher b p q → Conflict b p i q
+  atFirst : fits b p i q ≡ true → isFirst b p i ≡ true → rightOrNonassoc b p q ≡ true → Conflict b p i q
+  atLast : fits b p i q ≡ true → isLast b p i ≡ true → leftOrNonassoc b p q ≡ true → Conflict b p i q
+
+-- The executable twin: the three lines of 01, "Ranks and clashes", in order.
+unfoldable pub barred : List ℕ → ℕ → ℕ → ℕ → Bool
+barred b p i q = isHigher b p q || isFirst b p i && rightOrNonassoc b p q || isLast b p i && leftOrNonassoc b p q
+
+unfoldable pub conflicts : List ℕ → ℕ → ℕ → ℕ → Bool
+conflicts b p i q = fits b p i q && barred b p i q
+
+-- The conflict question (01's clash question): the refusals of the grammar, then 7 with place 0 for a production or an argument that isn't there.
+unfoldable pub isThere : List ℕ → ℕ → ℕ → ℕ → Bool
+isThere b p i q = ltb p (productions b) && ltb i (argumentCount b p) && ltb q (productions b)
+
+abbrev pub yesOrNo : Bool → ConflictAnswer
+yesOrNo true = Yes
+yesOrNo false = No
+
+abbrev pub unlessRefused : Verdict → ConflictAnswer → ConflictAnswer
+unlessRefused Accepted answer = answer
+unlessRefused (Verdict.Refused number place) answer = ConflictAnswer.Refused number place
+
+unfoldable pub conflictAnswer : List ℕ → ℕ → ℕ → ℕ → ConflictAnswer
+conflictAnswer b p i q = unlessRefused (checked b) (cond (isThere b p i q) (yesOrNo (conflicts b p i q)) (ConflictAnswer.Refused 7 0))
