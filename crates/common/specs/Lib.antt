@@ -1,2 +1,3 @@
 -- Definitions that the crates above share.
 pub mod Below
+pub mod Lists

@@ -1,0 +1,13 @@
+-- Lists made of a function, and of lists.
+use Prim.Native.Nat.{ℕ, zero, suc}
+use mathlib.Core.List.{List, [], _∷_, _++_}
+
+-- f 0, f 1, … f (n - 1)
+unfoldable pub tabulate : {A : Type 0} → ℕ → (ℕ → A) → List A
+tabulate zero f = []
+tabulate (suc n) f = tabulate n f ++ (f n ∷ [])
+
+-- The lists f gives, one behind the other.
+unfoldable pub joined : {A B : Type 0} → (A → List B) → List A → List B
+joined f [] = []
+joined f (a ∷ l) = f a ++ joined f l

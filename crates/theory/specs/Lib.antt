@@ -1,0 +1,2 @@
+-- Definitions of parse trees.
+pub mod Tree

@@ -1,0 +1,1 @@
+// No code: parse trees, what they spell, and their listings.
