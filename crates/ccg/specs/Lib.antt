@@ -2,5 +2,6 @@
 pub mod Trees
 pub mod Ccg
 pub mod Flat
+pub mod Tables
 pub mod Text
 pub mod Visser

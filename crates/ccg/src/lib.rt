@@ -1,5 +1,7 @@
 // The character class grammar (01's flat book): the flat tables, and its written form.
 
+pub mod tables;
+
 // What writing a character class grammar gives.
 pub enum FlatAnswer {
     // How many bytes were written.

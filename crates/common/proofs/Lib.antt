@@ -2,4 +2,6 @@
 
 pub mod BoolLaws
 pub mod BelowLaws
-pub mod WrittenLaws
+pub mod FillLaws
+pub mod ListLaws
+pub mod RegionLaws

@@ -1,3 +1,4 @@
 -- Definitions that the crates above share.
 pub mod Below
 pub mod Lists
+pub mod Region

@@ -103,7 +103,7 @@ fn either(a: bool, b: bool) -> bool
     a || b
 }
 
-fn both(a: bool, b: bool) -> bool
+pub fn both(a: bool, b: bool) -> bool
     ensures { λ r. ⌜ r ≡ (a && b) ⌝ }
 {
     a && b
@@ -139,7 +139,7 @@ fn with_middle(table: [[bool; PRODUCTION_LIMIT]; PRODUCTION_LIMIT], middle: usiz
 }
 
 // A row, and where `on` is set the other row with it.
-fn joined(row: [bool; PRODUCTION_LIMIT], on: bool, other: [bool; PRODUCTION_LIMIT]) -> [bool; PRODUCTION_LIMIT]
+pub fn joined(row: [bool; PRODUCTION_LIMIT], on: bool, other: [bool; PRODUCTION_LIMIT]) -> [bool; PRODUCTION_LIMIT]
     ensures { λ r. ⌜ ((y : ℕ) → getD r y false ≡ (getD row y false || on && getD other y false)) ⌝ }
 {
     let mut out = row;

@@ -45,8 +45,8 @@ size (f ▷ t) = size f + 1
 
 -- t stands at place i of the list.
 pub data At : ℕ → Forest → Tree → Type 0 where
-  last : {f : Forest} {t : Tree} → At (size f) (f ▷ t) t
-  before : {i : ℕ} {f : Forest} {s t : Tree} → At i f t → At i (f ▷ s) t
+  atEnd : {f : Forest} {t : Tree} → At (size f) (f ▷ t) t
+  further : {i : ℕ} {f : Forest} {s t : Tree} → At i f t → At i (f ▷ s) t
 
 -- s is a subtree of t: t itself, or a subtree of one of its arguments.
 pub data Subtree (s : Tree) : Tree → Type 0 where

@@ -8,7 +8,7 @@ use native.Mathlib.Omega.{arith}
 use native.Mathlib.Decide.{decLt}
 use lib.ListN.{length, getD, List·getD-eq-default}
 use borrow.Author.Needs.{needs}
-use Rattle.common.proofs.WrittenLaws.{Written, written-none, written-more}
+use Rattle.common.proofs.FillLaws.{Filled, filled-none, filled-more}
 use Rattle.priority.proofs.joined.Statement.{statement}
 use Rattle.priority.proofs.joined.Tie as tie
 use Rattle.priority.proofs.joined.Reads as reads
@@ -26,13 +26,13 @@ beyond-all row other on y e f h =
     rw (List·getD-eq-default row false {n = y} (omega arith), List·getD-eq-default other false {n = y} (omega arith)) (sym (and-false on))
 
 abbrev Inv-loop : tie.InvT-loop
-Inv-loop on row other out₀ y₀ out y = Written (Joined row on other) false row y out × (y ≤ 64)
+Inv-loop on row other out₀ y₀ out y = Filled (Joined row on other) false row y out × (y ≤ 64)
 
 abbrev μ-loop : tie.MeasureT-loop
 μ-loop on row other out₀ y₀ out y = 64 - y
 
 loop-holds : tie.Need-loop-holds Inv-loop μ-loop
-loop-holds c = (written-none (Joined (c .args .t1) (c .args .on) (c .args .t3)) false (c .args .t1), omega arith)
+loop-holds c = (filled-none (Joined (c .args .t1) (c .args .on) (c .args .t3)) false (c .args .t1), omega arith)
 
 array-read-either : tie.Need-array-read-either Inv-loop μ-loop
 array-read-either c = omega arith
@@ -60,7 +60,7 @@ unfolding Joined
 loop-again c =
     let row = c .before .before .before .before .args .t1 in
     let n : length row ≡ 64 = search needs in
-    (written-more (Joined row (c .before .before .before .before .args .on) (c .before .before .before .before .args .t3)) false row (c .before .before .before .loop .y) (c .before .before .before .loop .out) (c .either .result) (omega arith) (c .before .before .before .loop .inv .0) (c .either .ensures ∙ ap (λ (b : Bool). getD row (c .before .before .before .loop .y) false || b) (c .before .both .ensures)), omega arith)
+    (filled-more (Joined row (c .before .before .before .before .args .on) (c .before .before .before .before .args .t3)) false row (c .before .before .before .loop .y) (c .before .before .before .loop .out) (c .either .result) (omega arith) (c .before .before .before .loop .inv .0) (c .either .ensures ∙ ap (λ (b : Bool). getD row (c .before .before .before .loop .y) false || b) (c .before .both .ensures)), omega arith)
 
 returns : tie.Need-returns Inv-loop μ-loop
 unfolding Joined

@@ -8,7 +8,7 @@ use native.Mathlib.Omega.{arith}
 use native.Mathlib.Decide.{decLt}
 use lib.ListN.{length, getD}
 use borrow.Author.Needs.{needs}
-use Rattle.common.proofs.WrittenLaws.{Written, written-none, written-more}
+use Rattle.common.proofs.FillLaws.{Filled, filled-none, filled-more}
 use Rattle.priority.proofs.TableLaws.{entry-out}
 use Rattle.priority.specs.Chain.{entry}
 use Rattle.priority.proofs.with_middle.Statement.{statement}
@@ -25,7 +25,7 @@ beyond-all : (t : List (List Bool)) (m x y : ℕ) → length t ≡ 64 → 64 ≤
 beyond-all t m x y e h = rw (entry-out t x y (omega arith), entry-out t x m (omega arith)) refl
 
 abbrev Inv-loop : tie.InvT-loop
-Inv-loop middle table wider₀ beyond x₀ wider x = Written (Passes table middle) [] table x wider × (x ≤ 64)
+Inv-loop middle table wider₀ beyond x₀ wider x = Filled (Passes table middle) [] table x wider × (x ≤ 64)
 
 abbrev μ-loop : tie.MeasureT-loop
 μ-loop middle table wider₀ beyond x₀ wider x = 64 - x
@@ -37,7 +37,7 @@ array-copy-out-beyond : tie.Need-array-copy-out-beyond Inv-loop μ-loop
 array-copy-out-beyond c = omega arith
 
 loop-holds : tie.Need-loop-holds Inv-loop μ-loop
-loop-holds c = (written-none (Passes (c .before .args .t1) (c .before .args .middle)) [] (c .before .args .t1), omega arith)
+loop-holds c = (filled-none (Passes (c .before .args .t1) (c .before .args .middle)) [] (c .before .args .t1), omega arith)
 
 mul-joined : tie.Need-mul-joined Inv-loop μ-loop
 mul-joined c = omega arith
@@ -74,7 +74,7 @@ unfolding Passes entry
 loop-again c =
     let t = c .before .before .before .before .before .before .args .t1 in
     let n : length t ≡ 64 = search needs in
-    (written-more (Passes t (c .before .before .before .before .before .before .args .middle)) [] t (c .before .before .before .before .loop .x) (c .before .before .before .before .loop .wider) (c .joined .result) (omega arith) (c .before .before .before .before .loop .inv .0) (c .joined .ensures), omega arith)
+    (filled-more (Passes t (c .before .before .before .before .before .before .args .middle)) [] t (c .before .before .before .before .loop .x) (c .before .before .before .before .loop .wider) (c .joined .result) (omega arith) (c .before .before .before .before .loop .inv .0) (c .joined .ensures), omega arith)
 
 returns : tie.Need-returns Inv-loop μ-loop
 unfolding Passes entry

@@ -8,17 +8,17 @@ use lib.ListN.{length, getD, set, length-set}
 use lib.Seq.{getD-set-same, getD-set-other}
 
 -- Of l₀ the places below i now have what P says of them; the rest is as it was.
-pub record Written {A : Type 0} (P : ℕ → A → Type 0) (d : A) (l₀ : List A) (i : ℕ) (l : List A) : Type 0 where
+pub record Filled {A : Type 0} (P : ℕ → A → Type 0) (d : A) (l₀ : List A) (i : ℕ) (l : List A) : Type 0 where
   pub long : length l ≡ length l₀
   pub done : (k : ℕ) → k < i → P k (getD l k d)
   pub rest : (k : ℕ) → i ≤ k → getD l k d ≡ getD l₀ k d
 
 module _ {A : Type 0} (P : ℕ → A → Type 0) (d : A) (l₀ : List A) where
-  pub written-none : Written P d l₀ 0 l₀
-  written-none = record { long = refl; done = λ k l. absurd (omega arith); rest = λ k l. refl }
+  pub filled-none : Filled P d l₀ 0 l₀
+  filled-none = record { long = refl; done = λ k l. absurd (omega arith); rest = λ k l. refl }
 
-  pub written-more : (i : ℕ) (l : List A) (v : A) → i < length l₀ → Written P d l₀ i l → P i v → Written P d l₀ (i + 1) (set l i v)
-  written-more i l v h w p =
+  pub filled-more : (i : ℕ) (l : List A) (v : A) → i < length l₀ → Filled P d l₀ i l → P i v → Filled P d l₀ (i + 1) (set l i v)
+  filled-more i l v h w p =
       record
       { long = length-set l i v ∙ w .long
       ; done = λ k m. elim (ℕ-discrete k i)

@@ -1,0 +1,32 @@
+-- `barred_at` meets its contract: two rows are joined to the first.
+use mathlib.Core.Path.{refl, _∙_}
+use borrow.Author.Needs.{needs}
+use Rattle.ccg.proofs.tables.barred_at.Statement.{statement}
+use Rattle.ccg.proofs.tables.barred_at.Tie as tie
+use Rattle.ccg.proofs.tables.barred_at.Reads as reads
+use Rattle.ccg.proofs.tables.barred_at.Lts as lts
+use Rattle.priority.proofs.both.Reads as both-reads
+use Rattle.priority.proofs.joined.Reads as joined-reads
+
+both-requires : tie.Need-both-requires
+both-requires c κs = search needs
+
+joined-requires : tie.Need-joined-requires
+joined-requires c κs = search needs
+
+add-both : tie.Need-add-both
+add-both c = search needs
+
+both-requires-2 : tie.Need-both-requires-2
+both-requires-2 c κs = search needs
+
+joined-requires-2 : tie.Need-joined-requires-2
+joined-requires-2 c κs = search needs
+
+returns : tie.Need-returns
+returns c q =     c .joined2 .ensures q ∙ rw (c .before .before .joined .ensures q, c .before .before .before .both .ensures, c .before .both2 .ensures) refl
+
+pub barred-at-spec : {M : Type 1} → statement M
+barred-at-spec =
+    tie.close
+    (tie.spec both-requires joined-requires add-both both-requires-2 joined-requires-2 returns)

@@ -1,0 +1,98 @@
+-- The flat tables: the character class grammar as plain numbers, for code that reads it through slices.
+use Prim.Native.Nat.{ℕ, _+_, _-_, _*_, _/_, _%_, _≤_, _<_}
+use mathlib.Core.Path.{_≡_}
+use mathlib.Core.Bool.{Bool, false, true, cond, _&&_}
+use mathlib.Core.List.{List}
+use lib.Dec.{ltb}
+use lib.ListN.{length, getD}
+use Rattle.ccg.specs.Flat.{mayStand}
+use Rattle.ccg.specs.Trees.{isClass, classHas}
+use Rattle.charset.specs.Set.{bit}
+use Rattle.grammar.specs.Layout.{productions, argumentCount, result, argument}
+use Rattle.grammar.specs.Limits.{productionLimit, argumentLimit, classBase}
+use Rattle.priority.specs.Conflict.{rightOrNonassoc, leftOrNonassoc, isThere}
+use Rattle.priority.specs.Priorities.{isHigher}
+
+-- The slot of argument i of production p: its place among all arguments that there may be.
+unfoldable pub slot : ℕ → ℕ → ℕ
+slot p i = p * argumentLimit + i
+
+-- ---- what the tables hold
+
+-- production q may stand as argument i of p, all of which are there
+unfoldable pub tableMay : List ℕ → ℕ → ℕ → ℕ → Bool
+tableMay b p i q = isThere b p i q && mayStand b p i q
+
+-- character c may stand as argument i of p, which is there
+unfoldable pub tableHas : List ℕ → ℕ → ℕ → ℕ → Bool
+tableHas b p i c = ltb p (productions b) && ltb i (argumentCount b p) && (isClass b (argument b p i) && classHas b (argument b p i - classBase) c)
+
+-- the argument count of p, if it is there
+unfoldable pub tableCount : List ℕ → ℕ → ℕ
+tableCount b p = cond (ltb p (productions b)) (argumentCount b p) 0
+
+abbrev pub bitOf : Bool → ℕ
+bitOf true = 1
+bitOf false = 0
+
+-- ---- where they hold it
+
+-- a byte for each slot and production: 1 if the production may stand there
+unfoldable pub subAt : ℕ → ℕ → ℕ
+subAt s q = s * productionLimit + q
+
+-- four words for each slot: the set of its characters
+unfoldable pub wordAt : ℕ → ℕ → ℕ
+wordAt s k = s * 4 + k
+
+unfoldable pub slotHas : List ℕ → ℕ → ℕ → Bool
+slotHas chars s c = bit (getD chars (wordAt s (c / 64)) 0) (c % 64)
+
+-- how long the tables are
+abbrev pub charWords : ℕ
+charWords = productionLimit * argumentLimit * 4
+
+abbrev pub subBytes : ℕ
+subBytes = productionLimit * argumentLimit * productionLimit
+
+-- Tables of the right lengths that hold zeros.
+pub record ZeroTables (counts chars subs : List ℕ) : Type 0 where
+  pub countsLong : length counts ≡ productionLimit
+  pub charsLong : length chars ≡ charWords
+  pub subsLong : length subs ≡ subBytes
+  pub countsZero : (k : ℕ) → getD counts k 0 ≡ 0
+  pub charsZero : (k : ℕ) → getD chars k 0 ≡ 0
+  pub subsZero : (k : ℕ) → getD subs k 0 ≡ 0
+
+-- The three tables are those of grammar b, every entry of them.
+pub record FlatTables (b counts chars subs : List ℕ) : Type 0 where
+  pub countsLong : length counts ≡ productionLimit
+  pub charsLong : length chars ≡ charWords
+  pub subsLong : length subs ≡ subBytes
+  pub countsAre : (p : ℕ) → p < productionLimit → getD counts p 0 ≡ tableCount b p
+  pub charsAre : (p i c : ℕ) → p < productionLimit → i < argumentLimit → c < 256 → slotHas chars (slot p i) c ≡ tableHas b p i c
+  pub subsAre : (p i q : ℕ) → p < productionLimit → i < argumentLimit → q < productionLimit → getD subs (subAt (slot p i) q) 0 ≡ bitOf (tableMay b p i q)
+
+-- ---- while they are written
+
+-- The entries of the first n arguments of production p are written, and no other entry is changed.
+pub record ArgumentsWritten (b : List ℕ) (p n : ℕ) (chars₀ subs₀ chars subs : List ℕ) : Type 0 where
+  pub charsLong : length chars ≡ length chars₀
+  pub subsLong : length subs ≡ length subs₀
+  pub charsHere : (i c : ℕ) → i < n → c < 256 → slotHas chars (slot p i) c ≡ tableHas b p i c
+  pub subsHere : (i q : ℕ) → i < n → q < productionLimit → getD subs (subAt (slot p i) q) 0 ≡ bitOf (tableMay b p i q)
+  pub charsBelow : (k : ℕ) → k < wordAt (slot p 0) 0 → getD chars k 0 ≡ getD chars₀ k 0
+  pub charsAbove : (k : ℕ) → wordAt (slot p n) 0 ≤ k → getD chars k 0 ≡ getD chars₀ k 0
+  pub subsBelow : (k : ℕ) → k < subAt (slot p 0) 0 → getD subs k 0 ≡ getD subs₀ k 0
+  pub subsAbove : (k : ℕ) → subAt (slot p n) 0 ≤ k → getD subs k 0 ≡ getD subs₀ k 0
+
+-- What code knows of production p's row of the priorities.
+pub record BarringRows (b : List ℕ) (p : ℕ) (above firsts lasts : List Bool) : Type 0 where
+  pub higherRow : (q : ℕ) → getD above q false ≡ isHigher b p q
+  pub firstRow : (q : ℕ) → getD firsts q false ≡ rightOrNonassoc b p q
+  pub lastRow : (q : ℕ) → getD lasts q false ≡ leftOrNonassoc b p q
+
+-- The result sorts of all productions, 255 for those that are not there.
+pub record Results (b results : List ℕ) : Type 0 where
+  pub there : (q : ℕ) → q < productions b → getD results q 0 ≡ result b q
+  pub missing : (q : ℕ) → productions b ≤ q → q < productionLimit → getD results q 0 ≡ 255

@@ -1,0 +1,50 @@
+-- Laws of lists made of a function, and of lists.
+use Prim.Native.Nat.{ℕ, zero, suc, _+_, _<_}
+use mathlib.Core.Path.{_≡_, refl, sym, _∙_, ap}
+use mathlib.Core.List.{List, [], _∷_, _++_, append-assoc, append-nil}
+use mathlib.Core.Logic.{by-cases}
+use native.Mathlib.Omega.{arith}
+use native.Mathlib.Decide.{decLt}
+use native.Mathlib.Numerals.{add-one}
+use lib.ListN.{length, getD, length-append, List·getD-append}
+use lib.Seq.{getD-at}
+use Rattle.common.specs.Lists.{tabulate, joined}
+
+-- ---- a list made of a function
+
+pub length-tabulate : {A : Type 0} (n : ℕ) (f : ℕ → A) → length (tabulate n f) ≡ n
+unfolding tabulate
+length-tabulate zero f = refl
+length-tabulate (suc n) f = length-append (tabulate n f) (f n ∷ []) ∙ rw (length-tabulate n f) (omega arith)
+
+pub getD-tabulate : {A : Type 0} (n : ℕ) (f : ℕ → A) (i : ℕ) (d : A) → i < n → getD (tabulate n f) i d ≡ f i
+unfolding tabulate
+getD-tabulate zero f i d h = absurd (omega arith)
+getD-tabulate (suc n) f i d h =
+    by-cases (decLt i n)
+    (λ l. List·getD-append (tabulate n f) (f n ∷ []) d i (omega (arith, length-tabulate n f)) ∙ getD-tabulate n f i d l)
+    (λ m. let e : n ≡ i = omega arith in getD-at (tabulate n f) (f n) [] d i (length-tabulate n f ∙ e) ∙ ap f e)
+
+pub tabulate-next : {A : Type 0} (n : ℕ) (f : ℕ → A) → tabulate (n + 1) f ≡ tabulate n f ++ (f n ∷ [])
+unfolding tabulate
+tabulate-next n f = rw add-one refl
+
+-- functions that agree below n make the same list
+pub tabulate-same : {A : Type 0} (n : ℕ) (f g : ℕ → A) → ((i : ℕ) → i < n → f i ≡ g i) → tabulate n f ≡ tabulate n g
+unfolding tabulate
+tabulate-same zero f g h = refl
+tabulate-same (suc n) f g h = rw (tabulate-same n f g (λ i l. h i (omega arith)), h n (omega arith)) refl
+
+-- ---- lists joined
+
+pub joined-append : {A B : Type 0} (f : A → List B) (a b : List A) → joined f (a ++ b) ≡ joined f a ++ joined f b
+unfolding joined
+joined-append f [] b = refl
+joined-append f (x ∷ a) b = rw (joined-append f a b) (sym (append-assoc (f x) (joined f a) (joined f b)))
+
+pub joined-one : {A B : Type 0} (f : A → List B) (a : A) → joined f (a ∷ []) ≡ f a
+unfolding joined
+joined-one f a = append-nil (f a)
+
+pub joined-tabulate-next : {A B : Type 0} (f : A → List B) (n : ℕ) (g : ℕ → A) → joined f (tabulate (n + 1) g) ≡ joined f (tabulate n g) ++ f (g n)
+joined-tabulate-next f n g = rw (tabulate-next n g, joined-append f (tabulate n g) (g n ∷ []), joined-one f (g n)) refl
