@@ -3,3 +3,8 @@ pub mod ConflictFreeLaws
 pub mod FlatLaws
 pub mod VisserLaws
 pub mod TableLaws
+pub mod TextLaws
+pub mod TableTextLaws
+pub mod NumeralLaws
+pub mod PutLaws
+pub mod RunPutLaws

@@ -4,4 +4,5 @@ pub mod Ccg
 pub mod Flat
 pub mod Tables
 pub mod Text
+pub mod Put
 pub mod Visser

@@ -3,15 +3,18 @@ use Prim.Native.Nat.{ℕ, _+_, _-_, _*_, _/_, _%_, _≤_, _<_}
 use mathlib.Core.Path.{_≡_}
 use mathlib.Core.Bool.{Bool, false, true, cond, _&&_}
 use mathlib.Core.List.{List}
-use lib.Dec.{ltb}
+use lib.Dec.{leb, ltb, eqb}
 use lib.ListN.{length, getD}
+use Rattle.ccg.specs.Ccg.{Line}
 use Rattle.ccg.specs.Flat.{mayStand}
 use Rattle.ccg.specs.Trees.{isClass, classHas}
 use Rattle.charset.specs.Set.{bit}
+use Rattle.common.specs.Lists.{tabulate}
 use Rattle.grammar.specs.Layout.{productions, argumentCount, result, argument}
 use Rattle.grammar.specs.Limits.{productionLimit, argumentLimit, classBase}
 use Rattle.priority.specs.Conflict.{rightOrNonassoc, leftOrNonassoc, isThere}
 use Rattle.priority.specs.Priorities.{isHigher}
+use Rattle.theory.specs.Tree.{productionNumber}
 
 -- The slot of argument i of production p: its place among all arguments that there may be.
 unfoldable pub slot : ℕ → ℕ → ℕ
@@ -72,6 +75,34 @@ pub record FlatTables (b counts chars subs : List ℕ) : Type 0 where
   pub countsAre : (p : ℕ) → p < productionLimit → getD counts p 0 ≡ tableCount b p
   pub charsAre : (p i c : ℕ) → p < productionLimit → i < argumentLimit → c < 256 → slotHas chars (slot p i) c ≡ tableHas b p i c
   pub subsAre : (p i q : ℕ) → p < productionLimit → i < argumentLimit → q < productionLimit → getD subs (subAt (slot p i) q) 0 ≡ bitOf (tableMay b p i q)
+
+-- ---- the character class grammar that tables hold
+
+-- the class of a slot: its characters, and the numbers of its productions
+unfoldable pub tableClass : List ℕ → List ℕ → ℕ → ℕ → Bool
+tableClass chars subs s n =
+    cond (ltb n 256) (slotHas chars s n) (leb (productionNumber 0) n && (ltb n (productionNumber productionLimit) && eqb (getD subs (subAt s (n - productionNumber 0)) 0) 1))
+
+-- the line of production p, with this many arguments
+unfoldable pub slotLine : List ℕ → List ℕ → ℕ → ℕ → Line
+slotLine chars subs p count = record { arguments = tabulate count (λ i. tableClass chars subs (slot p i)); result = productionNumber p }
+
+unfoldable pub tableLine : List ℕ → List ℕ → List ℕ → ℕ → Line
+tableLine counts chars subs p = slotLine chars subs p (getD counts p 0)
+
+unfoldable pub tableGrammar : ℕ → List ℕ → List ℕ → List ℕ → List Line
+tableGrammar n counts chars subs = tabulate n (tableLine counts chars subs)
+
+-- a production number whose entry, in the slot that begins at base, is set
+unfoldable pub subNumber : List ℕ → ℕ → ℕ → Bool
+subNumber subs base n = eqb (getD subs (base + (n - productionNumber 0)) 0) 1
+
+-- Tables of the right lengths in which no production has too many arguments.
+pub record FewArguments (counts chars subs : List ℕ) : Type 0 where
+  pub countsLong : length counts ≡ productionLimit
+  pub charsLong : length chars ≡ charWords
+  pub subsLong : length subs ≡ subBytes
+  pub few : (p : ℕ) → getD counts p 0 ≤ argumentLimit
 
 -- ---- while they are written
 

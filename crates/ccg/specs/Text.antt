@@ -47,9 +47,13 @@ classText cc = 91 ∷ joined rangeText (runs cc 0 numberLimit) ++ (93 ∷ [])
 unfoldable pub argumentsText : List Class → List ℕ
 argumentsText ccs = joined (λ cc. classText cc ++ (32 ∷ [])) ccs
 
--- arguments parted by one space, a space, ->, a space, the result, a line feed; with no argument the line starts at ->
+-- ->, a space, the result, a line feed
+unfoldable pub resultText : ℕ → List ℕ
+resultText n = 45 ∷ 62 ∷ 32 ∷ classText (eqb n) ++ (10 ∷ [])
+
+-- arguments parted by one space, a space, and so on; with no argument the line starts at ->
 unfoldable pub lineText : Line → List ℕ
-lineText l = argumentsText (l .arguments) ++ (45 ∷ 62 ∷ 32 ∷ classText (eqb (l .result)) ++ (10 ∷ []))
+lineText l = argumentsText (l .arguments) ++ resultText (l .result)
 
 unfoldable pub grammarText : List Line → List ℕ
 grammarText g = joined lineText g

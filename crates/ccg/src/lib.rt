@@ -1,6 +1,7 @@
 // The character class grammar (01's flat book): the flat tables, and its written form.
 
 pub mod tables;
+pub mod text;
 
 // What writing a character class grammar gives.
 pub enum FlatAnswer {

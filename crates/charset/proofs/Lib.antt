@@ -1,3 +1,4 @@
 -- Laws of the character classes.
 pub mod BitLaws
 pub mod RunLaws
+pub mod SeekLaws

@@ -2,13 +2,14 @@
 use Prim.Native.Nat.{ℕ, zero, suc, _+_, _-_, _≤_, _<_}
 use mathlib.Core.Path.{_≡_, refl, sym, _∙_, ap, subst}
 use mathlib.Core.Bool.{Bool, false, true, cond, _||_, true≢false}
-use mathlib.Core.List.{List, [], _∷_}
+use mathlib.Core.List.{List, [], _∷_, _++_}
 use mathlib.Core.Logic.{by-cases}
 use native.Mathlib.Omega.{arith}
 use native.Mathlib.Decide.{ℕ-discrete, decLt}
 use native.Mathlib.Nat.{add-zero, add-suc, zero-add, suc-add, le-refl}
+use native.Mathlib.Numerals.{add-one}
 use lib.Dec.{eqb}
-use lib.ListN.{take}
+use lib.ListN.{length, take}
 use lib.Pow.{high, low}
 use borrow.Author.Tests.{le-leb, lt-leb, eq-eqb, ne-eqb}
 use Rattle.charset.specs.Runs.{Range, range, joined, runs, Apart, covered, Normal, firstRun}
@@ -83,29 +84,29 @@ module _ (f : ℕ → Bool) where
 
 -- ---- the first run, from what the two searches found
 
-module _ (f : ℕ → Bool) (from : ℕ) where
-  pub first-run-end : {low : ℕ} → Sought f true from low → 256 ≤ low → End ≡ firstRun (runs f from (256 - from))
+module _ (limit : ℕ) (f : ℕ → Bool) (from : ℕ) where
+  pub first-run-end : {low : ℕ} → Sought limit f true from low → limit ≤ low → End ≡ firstRun (runs f from (limit - from))
   unfolding firstRun runs
   first-run-end {low} s h =
-      let off : runs f from (256 - from) ≡ [] =
-      rw (add-zero (256 - from)) at (runs-skip f (256 - from) from 0 (λ k l m. s .passed k l (omega (arith, s .within)))) in
+      let off : runs f from (limit - from) ≡ [] =
+      rw (add-zero (limit - from)) at (runs-skip f (limit - from) from 0 (λ k l m. s .passed k l (omega (arith, s .within)))) in
       rw off refl
 
-  pub stop-above : {low stop : ℕ} → Sought f true from low → low < 256 → Sought f false low stop → low < stop
+  pub stop-above : {low stop : ℕ} → Sought limit f true from low → low < limit → Sought limit f false low stop → low < stop
   stop-above {low} {stop} s h t =
       by-cases (decLt low stop) (λ l. l)
       (λ n. let e : low ≡ stop = omega (arith, t .after) in
       absurd (true≢false (sym (s .found h) ∙ ap f e ∙ t .found (omega arith))))
 
-  pub first-run : {low stop : ℕ} → Sought f true from low → low < 256 → Sought f false low stop
-      → Run low (stop - 1) ≡ firstRun (runs f from (256 - from))
+  pub first-run : {low stop : ℕ} → Sought limit f true from low → low < limit → Sought limit f false low stop
+      → Run low (stop - 1) ≡ firstRun (runs f from (limit - from))
   unfolding firstRun
   first-run {low} {stop} s h t =
       let above = stop-above s h t in
       let m = low - from in
       let k = stop - suc low in
-      let n = 256 - stop in
-      let a : 256 - from ≡ m + (suc k + n) = omega (arith, s .after, t .within) in
+      let n = limit - stop in
+      let a : limit - from ≡ m + (suc k + n) = omega (arith, s .after, t .within) in
       let b : from + m ≡ low = omega (arith, s .after) in
       let e : low + k ≡ stop - 1 = omega arith in
       let up : suc (low + k) ≡ stop = omega arith in
@@ -292,3 +293,136 @@ normal-unique (r ∷ rs) (s ∷ ss) n m same =
     let h : r .high ≡ s .high = meets (high-not-below r rs n s ss m same l) (high-not-below s ss m r rs n back (sym l)) in
     let t = normal-unique rs ss (rest-normal r rs n) (rest-normal s ss m) (rest-same r rs n s ss m same h) in
     λ i. record { low = l i; high = h i } ∷ t i
+
+-- ---- two sets that agree, and one set in two parts
+
+-- sets that agree on the numbers asked have the same ranges
+pub runs-same : (f g : ℕ → Bool) (i n : ℕ) → ((k : ℕ) → i ≤ k → k < i + n → f k ≡ g k) → runs f i n ≡ runs g i n
+unfolding runs
+runs-same f g i zero h = refl
+runs-same f g i (suc n) h =
+    rw (h i (le-refl i) (omega arith), runs-same f g (suc i) n (λ k l m. h k (omega arith) (omega arith))) refl
+
+above-lower : (i j : ℕ) (rs : List Range) → i ≤ j → Above j rs → Above i rs
+above-lower i j [] l h = tt
+above-lower i j (r ∷ rs) l h = omega arith
+
+joined-append-apart : (i : ℕ) (rs ss : List Range) → Above (suc (suc i)) ss → joined i (rs ++ ss) ≡ joined i rs ++ ss
+unfolding joined
+joined-append-apart i [] ss h = joined-apart i ss h
+joined-append-apart i (r ∷ rs) ss h =
+    elim (eqb (suc i) (r .low)) as (λ (b : Bool). cond b (range i (r .high) ∷ rs ++ ss) (range i i ∷ r ∷ rs ++ ss) ≡ cond b (range i (r .high) ∷ rs) (range i i ∷ r ∷ rs) ++ ss)
+    [ true ↦ refl | false ↦ refl ]
+
+module _ (f : ℕ → Bool) where
+  above-gap : (i n : ℕ) → f i ≡ false → Above (suc i) (runs f i n)
+  unfolding runs
+  above-gap i zero e = tt
+  above-gap i (suc n) e = rw e (runs-above f (suc i) n)
+
+  -- at a number that is not in the set the ranges part
+  pub runs-split : (m i n : ℕ) → f (i + m) ≡ false → runs f i (m + n) ≡ runs f i m ++ runs f (i + m) n
+  unfolding runs
+  runs-split zero i n e = rw (zero-add, add-zero) refl
+  runs-split (suc m) i n e =
+      let up : i + suc m ≡ suc i + m = omega arith in
+      let gap : f (suc i + m) ≡ false = rw up at e in
+      let rs = runs f (suc i) m in
+      let ss = runs f (suc i + m) n in
+      rw (suc-add m n, runs-split m (suc i) n gap, up)
+      (elim (f i) as (λ (b : Bool). cond b (joined i (rs ++ ss)) (rs ++ ss) ≡ cond b (joined i rs) rs ++ ss) [
+        | true ↦ joined-append-apart i rs ss (above-lower (suc (suc i)) (suc (suc i + m)) ss (omega arith) (above-gap (suc i + m) n gap))
+        | false ↦ refl
+      ])
+
+-- ---- the ranges behind the first
+
+-- what is known of the first range, and of those behind it
+abbrev Parted : (ℕ → Bool) → ℕ → ℕ → List Range → Type 0
+Parted f i n [] = Unit {0}
+Parted f i n (r ∷ rs) = (rs ≡ runs f (r .high + 1) (i + n - (r .high + 1))) × ((i ≤ r .low) × (r .low ≤ r .high) × (r .high < i + n))
+
+joined-parted : (f : ℕ → Bool) (i n : ℕ) (rs : List Range) → rs ≡ runs f (suc i) n → Parted f (suc i) n rs → Parted f i (suc n) (joined i rs)
+unfolding joined
+joined-parted f i n [] e h =
+    let rest : i + suc n - (i + 1) ≡ n = omega arith in
+    (rw (rest, add-one) e, (le-refl i, le-refl i, omega arith))
+joined-parted f i n (r ∷ rs) e h =
+    let rest : i + suc n - (i + 1) ≡ n = omega arith in
+    let over : i + suc n ≡ suc i + n = omega arith in
+    elim (eqb (suc i) (r .low)) as (λ (b : Bool). Parted f i (suc n) (cond b (range i (r .high) ∷ rs) (range i i ∷ r ∷ rs))) [
+      | true ↦ (rw over (h .0), (le-refl i, omega arith, omega arith))
+      | false ↦ (rw (rest, add-one) e, (le-refl i, le-refl i, omega arith))
+    ]
+
+runs-parted : (f : ℕ → Bool) (i n : ℕ) → Parted f i n (runs f i n)
+unfolding runs
+runs-parted f i zero = tt
+runs-parted f i (suc n) =
+    let rest = runs-parted f (suc i) n in
+    elim (f i) as (λ (b : Bool). Parted f i (suc n) (cond b (joined i (runs f (suc i) n)) (runs f (suc i) n)))
+    [ true ↦ joined-parted f i n (runs f (suc i) n) refl rest | false ↦ parted-later f i n (runs f (suc i) n) rest ]
+  where
+    parted-later : (f : ℕ → Bool) (i n : ℕ) (rs : List Range) → Parted f (suc i) n rs → Parted f i (suc n) rs
+    parted-later f i n [] h = tt
+    parted-later f i n (r ∷ rs) h =
+        let over : i + suc n ≡ suc i + n = omega arith in
+        (rw over (h .0), (omega arith, omega arith, omega arith))
+
+-- behind the first range come the ranges of the numbers above it
+pub runs-rest : (f : ℕ → Bool) (i n : ℕ) (r : Range) (rs : List Range) → runs f i n ≡ r ∷ rs
+    → (rs ≡ runs f (r .high + 1) (i + n - (r .high + 1))) × ((i ≤ r .low) × (r .low ≤ r .high) × (r .high < i + n))
+runs-rest f i n r rs e = subst (Parted f i n) e (runs-parted f i n)
+
+-- ---- a set of one number
+
+pub runs-one : (c i n : ℕ) → i ≤ c → c < i + n → runs (eqb c) i n ≡ range c c ∷ []
+unfolding runs
+runs-one c i n l h =
+    let m = c - i in
+    let k = i + n - suc c in
+    let parts : n ≡ m + (suc 0 + k) = omega arith in
+    let at : i + m ≡ c = omega arith in
+    let skip = runs-skip (eqb c) m i (suc 0 + k) (λ j p q. ne-eqb c j (λ e. omega arith)) in
+    let one = runs-take (eqb c) 0 c k (λ j p q. eq-eqb c j (omega arith)) (λ p. ne-eqb c (suc (c + 0)) (λ e. omega arith)) in
+    let rest : runs (eqb c) (suc c) k ≡ [] = rw (add-zero k) at (runs-skip (eqb c) k (suc c) 0 (λ j p q. ne-eqb c j (λ e. omega arith))) in
+    rw (parts, skip, at, one, add-zero c, rest) refl
+
+-- ---- how many ranges, and how large their ends
+
+joined-count : (i : ℕ) (rs : List Range) → length (joined i rs) ≤ suc (length rs)
+unfolding joined
+joined-count i [] = le-refl 1
+joined-count i (r ∷ rs) =
+    elim (eqb (suc i) (r .low)) as (λ (b : Bool). length (cond b (range i (r .high) ∷ rs) (range i i ∷ r ∷ rs)) ≤ suc (suc (length rs)))
+    [ true ↦ omega arith | false ↦ le-refl (suc (suc (length rs))) ]
+
+-- All ends of the ranges are below m.
+abbrev pub Bounded : ℕ → List Range → Type 0
+Bounded m [] = Unit {0}
+Bounded m (r ∷ rs) = (r .low < m) × (r .high < m) × Bounded m rs
+
+joined-bound : (m i : ℕ) (rs : List Range) → i < m → Bounded m rs → Bounded m (joined i rs)
+unfolding joined
+joined-bound m i [] l h = (l, l, tt)
+joined-bound m i (r ∷ rs) l h =
+    elim (eqb (suc i) (r .low)) as (λ (b : Bool). Bounded m (cond b (range i (r .high) ∷ rs) (range i i ∷ r ∷ rs)))
+    [ true ↦ (l, h .1, h .2) | false ↦ (l, l, h) ]
+
+module _ (f : ℕ → Bool) where
+  pub runs-count : (i n : ℕ) → length (runs f i n) ≤ n
+  unfolding runs
+  runs-count i zero = le-refl 0
+  runs-count i (suc n) =
+      let rest = runs-count (suc i) n in
+      elim (f i) as (λ (b : Bool). length (cond b (joined i (runs f (suc i) n)) (runs f (suc i) n)) ≤ suc n)
+      [ true ↦ omega (arith, joined-count i (runs f (suc i) n)) | false ↦ omega arith ]
+
+  pub runs-bound : (i n : ℕ) → Bounded (i + n) (runs f i n)
+  unfolding runs
+  runs-bound i zero = tt
+  runs-bound i (suc n) =
+      let over : i + suc n ≡ suc i + n = omega arith in
+      let rest : Bounded (i + suc n) (runs f (suc i) n) = rw over (runs-bound (suc i) n) in
+      elim (f i) as (λ (b : Bool). Bounded (i + suc n) (cond b (joined i (runs f (suc i) n)) (runs f (suc i) n)))
+      [ true ↦ joined-bound (i + suc n) i (runs f (suc i) n) (omega arith) rest | false ↦ rest ]

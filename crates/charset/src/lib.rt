@@ -75,7 +75,7 @@ impl CharSet {
 
     // The first place from `from` on whose membership is as wanted, 256 if there is none.
     fn seek(self, from: usize, wanted: bool) -> usize
-        ensures { λ r. ⌜ Sought (has (self .words)) wanted from r ⌝ }
+        ensures { λ r. ⌜ Sought 256 (has (self .words)) wanted from r ⌝ }
     {
         let mut at = from;
         while at < 256 {

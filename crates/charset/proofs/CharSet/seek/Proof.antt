@@ -1,29 +1,22 @@
 -- `seek` meets its contract: all places passed are not as wanted.
-use Prim.Native.Nat.{ℕ, _-_, max, _≤_, _<_}
-use mathlib.Core.Path.{_≡_, sym, _∙_, subst}
-use mathlib.Core.Bool.{Bool, not}
-use mathlib.Core.Logic.{by-cases}
+use Prim.Native.Nat.{_-_}
+use mathlib.Core.Path.{sym, _∙_}
 use native.Mathlib.Omega.{arith}
-use native.Mathlib.Decide.{decLt}
 use borrow.Author.Needs.{needs}
+use Rattle.charset.proofs.SeekLaws.{Passed, seek-none, seek-more, seek-found, seek-end}
 use Rattle.charset.specs.Set.{has}
 use Rattle.common.proofs.BoolLaws.{beq-true, beq-false}
 use Rattle.charset.proofs.CharSet.seek.Statement.{statement}
 use Rattle.charset.proofs.CharSet.seek.Tie as tie
 
-record Passed (words : _) (wanted : Bool) (from at : ℕ) : Type 0 where
-  after : from ≤ at
-  within : at ≤ max from 256
-  passed : (k : ℕ) → from ≤ k → k < at → has words k ≡ not wanted
-
 abbrev Inv-loop : tie.InvT-loop
-Inv-loop self from wanted at₀ at = Passed (self .words) wanted from at
+Inv-loop self from wanted at₀ at = Passed 256 (has (self .words)) wanted from at
 
 abbrev μ-loop : tie.MeasureT-loop
 μ-loop self from wanted at₀ at = 256 - at
 
 loop-holds : tie.Need-loop-holds Inv-loop μ-loop
-loop-holds c = record { after = omega arith; within = omega arith; passed = λ k l h. absurd (omega arith) }
+loop-holds c = seek-none 256 (has (c .args .self .words)) (c .args .wanted) (c .args .from)
 
 cast-contains : tie.Need-cast-contains Inv-loop μ-loop
 cast-contains c = search needs
@@ -32,9 +25,7 @@ contains-requires : tie.Need-contains-requires Inv-loop μ-loop
 contains-requires c κs = search needs
 
 returns : tie.Need-returns Inv-loop μ-loop
-returns c =
-    let i = c .before .before .before .loop .inv in
-    record { after = i .after; within = i .within; passed = i .passed; found = λ h. sym (c .before .contains .ensures) ∙ beq-true _ _ (c .if1 .taken) }
+returns c =     seek-found 256 (has (c .before .before .before .before .args .self .words)) (c .before .before .before .before .args .wanted) (c .before .before .before .before .args .from) (c .before .before .before .loop .at) (sym (c .before .contains .ensures) ∙ beq-true _ _ (c .if1 .taken)) (c .before .before .before .loop .inv)
 
 add-at : tie.Need-add-at Inv-loop μ-loop
 add-at c = omega arith
@@ -43,22 +34,10 @@ loop-less : tie.Need-loop-less Inv-loop μ-loop
 loop-less c = omega arith
 
 loop-again : tie.Need-loop-again Inv-loop μ-loop
-loop-again c =
-    let i = c .before .before .before .loop .inv in
-    let s = c .before .before .before .before .args in
-    let here = sym (c .before .contains .ensures) ∙ beq-false _ _ (c .if1 .left) in
-    record {
-      after = omega arith;
-      within = omega arith;
-      passed = λ k l h. by-cases (decLt k (c .before .before .before .loop .at)) (λ b. i .passed k l b)
-          (λ n. let e : c .before .before .before .loop .at ≡ k = omega arith in
-          subst (λ (j : ℕ). has (s .self .words) j ≡ not (s .wanted)) e here);
-    }
+loop-again c =     seek-more 256 (has (c .before .before .before .before .args .self .words)) (c .before .before .before .before .args .wanted) (c .before .before .before .before .args .from) (c .before .before .before .loop .at) (c .before .before .loop-test .taken) (sym (c .before .contains .ensures) ∙ beq-false _ _ (c .if1 .left)) (c .before .before .before .loop .inv)
 
 returns-2 : tie.Need-returns-2 Inv-loop μ-loop
-returns-2 c =
-    let i = c .before .loop .inv in
-    record { after = i .after; within = i .within; passed = i .passed; found = λ h. absurd (omega arith) }
+returns-2 c = seek-end 256 (has (c .before .before .args .self .words)) (c .before .before .args .wanted) (c .before .before .args .from) (c .before .loop .at) (c .loop-test .left) (c .before .loop .inv)
 
 pub seek-spec : {M : Type 1} → statement M
 seek-spec =

@@ -1,0 +1,34 @@
+-- Laws of writing into a lent buffer: pieces put one behind the other are the whole put at once.
+use Prim.Native.Nat.{ℕ, suc, _+_, _≤_}
+use mathlib.Core.Path.{_≡_, refl, sym, _∙_, ap, ap₂, subst}
+use mathlib.Core.List.{List, [], _∷_, _++_}
+use native.Mathlib.Omega.{arith}
+use native.Mathlib.Nat.{add-zero, add-suc, suc-add}
+use lib.ListN.{length, set, length-append}
+use lib.Seq.{set-out, sets, length-sets}
+use Rattle.ccg.specs.Put.{Put}
+
+pub sets-append : (v w l : List ℕ) (i : ℕ) → sets l i (v ++ w) ≡ sets (sets l i v) (i + length v) w
+sets-append [] w l i = rw add-zero refl
+sets-append (a ∷ v) w l i = sets-append v w (set l i a) (suc i) ∙ ap (λ (k : ℕ). sets (sets (set l i a) (suc i) v) k w) (sym (add-suc i (length v) ∙ sym (suc-add i (length v))))
+
+pub put-none : (l : List ℕ) (at : ℕ) → Put [] l at l at
+put-none l at = record { wrote = refl; next = omega arith }
+
+pub put-append : (v w l₀ l₁ l₂ : List ℕ) (i j k : ℕ) → Put v l₀ i l₁ j → Put w l₁ j l₂ k → Put (v ++ w) l₀ i l₂ k
+put-append v w l₀ l₁ l₂ i j k a c =
+    record
+    { wrote = c .wrote ∙ ap₂ (λ (l : List ℕ) (n : ℕ). sets l n w) (a .wrote) (a .next) ∙ sym (sets-append v w l₀ i)
+    ; next = omega (arith, a .next, c .next, length-append v w)
+    }
+
+-- a byte past the end is dropped
+pub put-past : (x : ℕ) (l : List ℕ) (at : ℕ) → length l ≤ at → Put (x ∷ []) l at l (at + 1)
+put-past x l at h = record { wrote = sym (set-out l at x h); next = refl }
+
+pub put-long : (v l₀ l : List ℕ) (i j : ℕ) → Put v l₀ i l j → length l ≡ length l₀
+put-long v l₀ l i j a = ap (length {A = ℕ}) (a .wrote) ∙ length-sets l₀ i v
+
+-- the text that was put, under another name
+pub put-same : (v w l₀ l : List ℕ) (i j : ℕ) → v ≡ w → Put v l₀ i l j → Put w l₀ i l j
+put-same v w l₀ l i j e a = subst (λ (t : List ℕ). Put t l₀ i l j) e a

@@ -1,0 +1,150 @@
+-- The character class grammar that the tables of a grammar hold has the text of the grammar's own.
+use Prim.Native.Nat.{ℕ, zero, suc, _+_, _-_, _≤_, _<_}
+use mathlib.Core.Path.{_≡_, refl, sym, _∙_, ap}
+use mathlib.Core.Bool.{Bool, false, true, and-false}
+use mathlib.Core.List.{List, [], _∷_, _++_}
+use mathlib.Core.Logic.{⊎-elim, by-cases}
+use native.Mathlib.Omega.{arith}
+use native.Mathlib.Decide.{decLt}
+use lib.Dec.{leb, ltb, eqb}
+use lib.ListN.{getD}
+use borrow.Author.Tests.{leb-true, lt-ltb, le-ltb, le-leb, lt-leb}
+use Rattle.ccg.proofs.FlatLaws.{class-small, flat-of-class, flat-of-sort}
+use Rattle.ccg.proofs.TextLaws.{class-text-same}
+use Rattle.ccg.specs.Flat.{isProduction, mayStand, flatClass, flatLine, flatGrammar}
+use Rattle.ccg.specs.Tables.{slot, tableMay, tableHas, tableCount, bitOf, subAt, slotHas, FlatTables, tableClass, slotLine, tableLine, tableGrammar}
+use Rattle.ccg.specs.Text.{classText, argumentsText, lineText, grammarText}
+use Rattle.ccg.specs.Trees.{isClass, classHas}
+use Rattle.common.proofs.BoolLaws.{and-first-true, true-or-false}
+use Rattle.common.proofs.ListLaws.{joined-append, joined-one}
+use Rattle.common.specs.Lists.{tabulate, joined}
+use Rattle.grammar.specs.Formed.{WellFormed}
+use Rattle.grammar.specs.Layout.{sorts, productions, classes, argumentCount, argument}
+use Rattle.grammar.specs.Limits.{classBase}
+use Rattle.priority.specs.Conflict.{isSort, fits, isThere}
+
+-- ---- what the class of a slot has
+
+module _ (chars subs : List ℕ) (s : ℕ) where
+  table-of-character : (n : ℕ) → n < 256 → tableClass chars subs s n ≡ slotHas chars s n
+  unfolding tableClass
+  table-of-character n l = rw (lt-ltb n 256 l) refl
+
+  -- no number between the characters and the productions
+  table-between : (n : ℕ) → 256 ≤ n → n < 258 → tableClass chars subs s n ≡ false
+  unfolding tableClass
+  table-between n l h = rw (le-ltb n 256 l, lt-leb 258 n h) refl
+
+  table-of-production : (n : ℕ) → 258 ≤ n → n < 322 → tableClass chars subs s n ≡ eqb (getD subs (subAt s (n - 258)) 0) 1
+  unfolding tableClass
+  table-of-production n l h = rw (le-ltb n 256 (omega arith), le-leb 258 n l, lt-ltb n 322 h) refl
+
+  pub table-class-256 : tableClass chars subs s 256 ≡ false
+  table-class-256 = table-between 256 (omega arith) (omega arith)
+
+  pub table-class-257 : tableClass chars subs s 257 ≡ false
+  table-class-257 = table-between 257 (omega arith) (omega arith)
+
+-- ---- what the class of an argument has
+
+bit-of : (v : Bool) → eqb (bitOf v) 1 ≡ v
+bit-of true = refl
+bit-of false = refl
+
+module _ (b : List ℕ) (w : WellFormed b) (bytes : (k : ℕ) → getD b k 0 < 256) (p i : ℕ) (lp : p < productions b) (li : i < argumentCount b p) where
+  no-production : (n : ℕ) → n < 258 → isProduction b n ≡ false
+  unfolding isProduction
+  no-production n l = rw (lt-leb 258 n l) refl
+
+  class-no-production : (n : ℕ) → 256 ≤ n → classHas b (argument b p i - classBase) n ≡ false
+  class-no-production n l =
+      ⊎-elim
+      (λ e. absurd (omega (arith, class-small b bytes (argument b p i - classBase) n e)))
+      (λ e. e)
+      (true-or-false (classHas b (argument b p i - classBase) n))
+
+  -- nothing may stand at an argument that is a class
+  class-may-not : (q : ℕ) → isClass b (argument b p i) ≡ true → mayStand b p i q ≡ false
+  unfolding isClass mayStand fits isSort
+  class-may-not q e =
+      let x = argument b p i in
+      let above = leb-true classBase x (and-first-true (leb classBase x) (ltb x (classBase + classes b)) e) in
+      rw (le-ltb x (sorts b) (omega (arith, w .framed .fewSorts))) refl
+
+  flat-of-character : (n : ℕ) → n < 256 → flatClass b p i n ≡ tableHas b p i n
+  unfolding tableHas
+  flat-of-character n l =
+      rw (lt-ltb p (productions b) lp, lt-ltb i (argumentCount b p) li)
+      (⊎-elim
+      (λ e. flat-of-class b p i n e ∙ rw e refl)
+      (λ e. flat-of-sort b p i n e ∙ rw (e, no-production n (omega arith)) refl)
+      (true-or-false (isClass b (argument b p i))))
+
+  flat-between : (n : ℕ) → 256 ≤ n → n < 258 → flatClass b p i n ≡ false
+  flat-between n l h =
+      ⊎-elim
+      (λ e. flat-of-class b p i n e ∙ class-no-production n l)
+      (λ e. flat-of-sort b p i n e ∙ rw (no-production n h) refl)
+      (true-or-false (isClass b (argument b p i)))
+
+  is-there : (n : ℕ) → 258 ≤ n → isThere b p i (n - 258) ≡ isProduction b n
+  unfolding isThere isProduction
+  is-there n l =
+      rw (lt-ltb p (productions b) lp, lt-ltb i (argumentCount b p) li, le-leb 258 n l)
+      (by-cases (decLt n (258 + productions b))
+      (λ m. lt-ltb (n - 258) (productions b) (omega arith) ∙ sym (lt-ltb n (258 + productions b) m))
+      (λ m. le-ltb (n - 258) (productions b) (omega arith) ∙ sym (le-ltb n (258 + productions b) (omega arith))))
+
+  flat-of-production : (n : ℕ) → 258 ≤ n → flatClass b p i n ≡ tableMay b p i (n - 258)
+  unfolding tableMay
+  flat-of-production n l =
+      ⊎-elim
+      (λ e. flat-of-class b p i n e ∙ class-no-production n (omega arith) ∙ sym (rw (class-may-not (n - 258) e) (and-false (isThere b p i (n - 258)))))
+      (λ e. flat-of-sort b p i n e ∙ rw (is-there n l) refl)
+      (true-or-false (isClass b (argument b p i)))
+
+  module _ (counts chars subs : List ℕ) (t : FlatTables b counts chars subs) where
+    -- the class of the slot and the class of the argument agree
+    table-class : (n : ℕ) → n < 322 → tableClass chars subs (slot p i) n ≡ flatClass b p i n
+    table-class n h =
+        let p64 : p < 64 = omega (arith, w .framed .fewProductions) in
+        let i8 : i < 8 = omega (arith, w .framed .fewArguments p lp) in
+        by-cases (decLt n 256)
+        (λ l. table-of-character chars subs (slot p i) n l ∙ t .charsAre p i n p64 i8 l ∙ sym (flat-of-character n l))
+        (λ m. by-cases (decLt n 258)
+        (λ l. table-between chars subs (slot p i) n (omega arith) l ∙ sym (flat-between n (omega arith) l))
+        (λ l. table-of-production chars subs (slot p i) n (omega arith) h
+        ∙ ap (λ (v : ℕ). eqb v 1) (t .subsAre p i (n - 258) p64 i8 (omega arith))
+        ∙ bit-of (tableMay b p i (n - 258))
+        ∙ sym (flat-of-production n (omega arith))))
+
+-- ---- texts
+
+-- lists made of functions that give the same texts have the same text
+tabulate-text : {A : Type 0} (text : A → List ℕ) (n : ℕ) (f g : ℕ → A) → ((k : ℕ) → k < n → text (f k) ≡ text (g k)) → joined text (tabulate n f) ≡ joined text (tabulate n g)
+unfolding tabulate
+tabulate-text text zero f g h = refl
+tabulate-text text (suc n) f g h =
+    rw (joined-append text (tabulate n f) (f n ∷ []), joined-append text (tabulate n g) (g n ∷ []), joined-one text (f n), joined-one text (g n))
+    (rw (tabulate-text text n f g (λ k l. h k (omega arith)), h n (omega arith)) refl)
+
+module _ (b counts chars subs : List ℕ) (w : WellFormed b) (bytes : (k : ℕ) → getD b k 0 < 256) (t : FlatTables b counts chars subs) where
+  count-is : (p : ℕ) → p < productions b → getD counts p 0 ≡ argumentCount b p
+  unfolding tableCount
+  count-is p l = t .countsAre p (omega (arith, w .framed .fewProductions)) ∙ rw (lt-ltb p (productions b) l) refl
+
+  arguments-text : (p : ℕ) → p < productions b
+      → argumentsText (tabulate (argumentCount b p) (λ i. tableClass chars subs (slot p i))) ≡ argumentsText (tabulate (argumentCount b p) (flatClass b p))
+  unfolding argumentsText
+  arguments-text p l =
+      tabulate-text (λ cc. classText cc ++ (32 ∷ [])) (argumentCount b p) (λ i. tableClass chars subs (slot p i)) (flatClass b p)
+      (λ i m. ap (λ (x : List ℕ). x ++ (32 ∷ [])) (class-text-same (tableClass chars subs (slot p i)) (flatClass b p i) (table-class b w bytes p i l m counts chars subs t)))
+
+  line-text : (p : ℕ) → p < productions b → lineText (tableLine counts chars subs p) ≡ lineText (flatLine b p)
+  unfolding lineText tableLine slotLine flatLine
+  line-text p l = rw (count-is p l, arguments-text p l) refl
+
+  -- the tables of a grammar hold its text
+  pub table-text : grammarText (tableGrammar (productions b) counts chars subs) ≡ grammarText (flatGrammar b)
+  unfolding grammarText tableGrammar flatGrammar
+  table-text = tabulate-text lineText (productions b) (tableLine counts chars subs) (flatLine b) line-text
