@@ -6,5 +6,6 @@ pub mod TableLaws
 pub mod TextLaws
 pub mod TableTextLaws
 pub mod NumeralLaws
+pub mod LineLaws
 pub mod PutLaws
 pub mod RunPutLaws

@@ -26,7 +26,7 @@ use Rattle.priority.specs.Conflict.{isSort, fits, isThere}
 -- ---- what the class of a slot has
 
 module _ (chars subs : List ℕ) (s : ℕ) where
-  table-of-character : (n : ℕ) → n < 256 → tableClass chars subs s n ≡ slotHas chars s n
+  pub table-of-character : (n : ℕ) → n < 256 → tableClass chars subs s n ≡ slotHas chars s n
   unfolding tableClass
   table-of-character n l = rw (lt-ltb n 256 l) refl
 
@@ -35,7 +35,7 @@ module _ (chars subs : List ℕ) (s : ℕ) where
   unfolding tableClass
   table-between n l h = rw (le-ltb n 256 l, lt-leb 258 n h) refl
 
-  table-of-production : (n : ℕ) → 258 ≤ n → n < 322 → tableClass chars subs s n ≡ eqb (getD subs (subAt s (n - 258)) 0) 1
+  pub table-of-production : (n : ℕ) → 258 ≤ n → n < 322 → tableClass chars subs s n ≡ eqb (getD subs (subAt s (n - 258)) 0) 1
   unfolding tableClass
   table-of-production n l h = rw (le-ltb n 256 (omega arith), le-leb 258 n l, lt-ltb n 322 h) refl
 

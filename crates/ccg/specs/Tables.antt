@@ -58,6 +58,11 @@ charWords = productionLimit * argumentLimit * 4
 abbrev pub subBytes : ℕ
 subBytes = productionLimit * argumentLimit * productionLimit
 
+-- n zeros
+pub record AllZero (n : ℕ) (l : List ℕ) : Type 0 where
+  pub long : length l ≡ n
+  pub zeros : (k : ℕ) → getD l k 0 ≡ 0
+
 -- Tables of the right lengths that hold zeros.
 pub record ZeroTables (counts chars subs : List ℕ) : Type 0 where
   pub countsLong : length counts ≡ productionLimit

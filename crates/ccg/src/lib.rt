@@ -1,7 +1,21 @@
 // The character class grammar (01's flat book): the flat tables, and its written form.
-
 pub mod tables;
 pub mod text;
+
+use grammar::Verdict;
+use grammar::layout::production_count;
+use grammar::limits::PRODUCTION_LIMIT;
+use priority::check_grammar;
+use tables::{CHAR_WORDS, SUB_BYTES, flatten};
+use text::put_grammar;
+ghost use mathlib.Core.Path.{_≡_};
+ghost use mathlib.Core.List.{List};
+ghost use Prim.Native.Nat.{ℕ};
+ghost use lib.ListN.{length, getD};
+ghost use Rattle.grammar.specs.Formed.{WellFormed};
+ghost use Rattle.ccg.specs.Flat.{flatGrammar};
+ghost use Rattle.ccg.specs.Tables.{AllZero, charWords, subBytes};
+ghost use Rattle.ccg.specs.Text.{grammarText, writeAnswer, flatAnswer, bufferAfter};
 
 // What writing a character class grammar gives.
 pub enum FlatAnswer {
@@ -9,4 +23,53 @@ pub enum FlatAnswer {
     Written(usize),
     // The refusal's number and its place.
     Refused(usize, usize),
+}
+
+// The operation "writing a character class grammar" (01's writing a flat book). A text longer than the buffer is refused and changes nothing.
+pub fn write_flat(book: &[u8], out: &mut [u8]) -> FlatAnswer
+    ensures { λ r. ⌜ r ≡ flatAnswer (now (book .entry)) (length (now (out .entry))) ⌝ }
+    ensures { λ r. ⌜ now (out .exit) ≡ bufferAfter (flatAnswer (now (book .entry)) (length (now (out .entry)))) (grammarText (flatGrammar (now (book .entry)))) (now (out .entry)) ⌝ }
+{
+    let verdict = check_grammar(book);
+    match verdict {
+        Verdict::Refused(number, place) => FlatAnswer::Refused(number, place),
+        Verdict::Accepted => write_accepted(book, out),
+    }
+}
+
+// The same for an accepted grammar: the length first, and then, if it fits, the text.
+fn write_accepted(book: &[u8], out: &mut [u8]) -> FlatAnswer
+    requires { ⌜ WellFormed (now book) ⌝ }
+    ensures { λ r. ⌜ r ≡ writeAnswer (length (grammarText (flatGrammar (now (book .entry))))) (length (now (out .entry))) ⌝ }
+    ensures { λ r. ⌜ now (out .exit) ≡ bufferAfter (writeAnswer (length (grammarText (flatGrammar (now (book .entry))))) (length (now (out .entry)))) (grammarText (flatGrammar (now (book .entry)))) (now (out .entry)) ⌝ }
+{
+    let mut counts = zero_counts();
+    let mut chars = zero_chars();
+    let mut subs = zero_subs();
+    flatten(book, &mut counts, &mut chars, &mut subs);
+    let count = production_count(book);
+    let needed = put_grammar(&mut out[..0], &counts, &chars, &subs, count);
+    if out.len() < needed {
+        return FlatAnswer::Refused(21, needed);
+    }
+    put_grammar(out, &counts, &chars, &subs, count);
+    FlatAnswer::Written(needed)
+}
+
+fn zero_counts() -> [u8; PRODUCTION_LIMIT]
+    ensures { λ r. ⌜ AllZero 64 r ⌝ }
+{
+    [0; PRODUCTION_LIMIT]
+}
+
+fn zero_chars() -> [u64; CHAR_WORDS]
+    ensures { λ r. ⌜ AllZero charWords r ⌝ }
+{
+    [0; CHAR_WORDS]
+}
+
+fn zero_subs() -> [u8; SUB_BYTES]
+    ensures { λ r. ⌜ AllZero subBytes r ⌝ }
+{
+    [0; SUB_BYTES]
 }

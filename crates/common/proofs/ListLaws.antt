@@ -1,10 +1,11 @@
 -- Laws of lists made of a function, and of lists.
-use Prim.Native.Nat.{ℕ, zero, suc, _+_, _<_}
+use Prim.Native.Nat.{ℕ, zero, suc, _+_, _≤_, _<_}
 use mathlib.Core.Path.{_≡_, refl, sym, _∙_, ap}
 use mathlib.Core.List.{List, [], _∷_, _++_, append-assoc, append-nil}
 use mathlib.Core.Logic.{by-cases}
 use native.Mathlib.Omega.{arith}
 use native.Mathlib.Decide.{decLt}
+use native.Mathlib.Nat.{le-refl}
 use native.Mathlib.Numerals.{add-one}
 use lib.ListN.{length, getD, length-append, List·getD-append}
 use lib.Seq.{getD-at}
@@ -48,3 +49,11 @@ joined-one f a = append-nil (f a)
 
 pub joined-tabulate-next : {A B : Type 0} (f : A → List B) (n : ℕ) (g : ℕ → A) → joined f (tabulate (n + 1) g) ≡ joined f (tabulate n g) ++ f (g n)
 joined-tabulate-next f n g = rw (tabulate-next n g, joined-append f (tabulate n g) (g n ∷ []), joined-one f (g n)) refl
+
+-- what is joined of fewer is no longer
+pub joined-grows : {A B : Type 0} (f : A → List B) (g : ℕ → A) (i n : ℕ) → i ≤ n → length (joined f (tabulate i g)) ≤ length (joined f (tabulate n g))
+joined-grows f g i zero l = let e : i ≡ zero = omega arith in rw e (le-refl (length (joined f (tabulate zero g))))
+joined-grows f g i (suc n) l =
+    by-cases (decLt n i)
+    (λ h. let e : i ≡ suc n = omega arith in rw e (le-refl (length (joined f (tabulate (suc n) g)))))
+    (λ h. omega (arith, joined-grows f g i n (omega arith), ap length (rw add-one at (joined-tabulate-next f n g)), length-append (joined f (tabulate n g)) (f (g n))))

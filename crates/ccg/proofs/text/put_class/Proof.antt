@@ -1,4 +1,19 @@
+-- `put_class` meets its contract: the characters, then the production numbers.
+use Prim.Native.Nat.{ℕ, _+_, _*_, _<_}
+use mathlib.Core.Path.{_≡_, sym, _∙_, ap, ap₂}
+use mathlib.Core.List.{List, [], _∷_, _++_}
+use native.Mathlib.Omega.{arith}
+use lib.ListN.{length, length-append}
 use borrow.Author.Needs.{needs}
+use Rattle.ccg.proofs.PutLaws.{put-append, put-same}
+use Rattle.ccg.proofs.TableTextLaws.{table-of-character, table-of-production, table-class-256, table-class-257}
+use Rattle.ccg.proofs.TextLaws.{class-text-parts}
+use Rattle.ccg.specs.Tables.{subAt, slotHas, tableClass, subNumber}
+use Rattle.ccg.specs.Text.{rangeText, classText}
+use Rattle.charset.proofs.RunLaws.{runs-same}
+use Rattle.charset.specs.Runs.{Range, runs}
+use Rattle.charset.specs.Set.{has}
+use Rattle.common.specs.Lists.{joined}
 use Rattle.ccg.proofs.text.put_class.Statement.{statement}
 use Rattle.ccg.proofs.text.put_class.Tie as tie
 use Rattle.ccg.proofs.text.put_class.Reads as reads
@@ -8,37 +23,47 @@ use Rattle.ccg.proofs.text.put_char_runs.Reads as put-char-runs-reads
 use Rattle.ccg.proofs.text.put_production_runs.Reads as put-production-runs-reads
 use Rattle.ccg.proofs.text.slot_set.Reads as slot-set-reads
 
--- src/text.rt:168:9
-put-requires : tie.Need-put-requires
-put-requires c κs = ?
+module _ (chars subs : List ℕ) (s : ℕ) (words : List ℕ) (ws : (c : ℕ) → c < 256 → has words c ≡ slotHas chars s c) where
+  characters : runs (tableClass chars subs s) 0 256 ≡ runs (has words) 0 256
+  characters = runs-same (tableClass chars subs s) (has words) 0 256 (λ k l h. table-of-character chars subs s k (omega arith) ∙ sym (ws k (omega arith)))
 
--- src/text.rt:169:47
+  numbers : runs (tableClass chars subs s) 258 64 ≡ runs (subNumber subs (s * 64)) 258 64
+  unfolding subNumber subAt
+  numbers = runs-same (tableClass chars subs s) (subNumber subs (s * 64)) 258 64 (λ k l h. table-of-production chars subs s k l h)
+
+  class-is : classText (tableClass chars subs s) ≡ (91 ∷ []) ++ (joined rangeText (runs (has words) 0 256) ++ (joined rangeText (runs (subNumber subs (s * 64)) 258 64) ++ (93 ∷ [])))
+  class-is =
+      class-text-parts (tableClass chars subs s) (table-class-256 chars subs s) (table-class-257 chars subs s)
+      ∙ ap₂ (λ (a c : List Range). 91 ∷ (joined rangeText a ++ (joined rangeText c ++ (93 ∷ [])))) characters numbers
+
+  class-long : length (classText (tableClass chars subs s)) ≡ 1 + (length (joined rangeText (runs (has words) 0 256)) + (length (joined rangeText (runs (subNumber subs (s * 64)) 258 64)) + 1))
+  class-long = ap (length {A = ℕ}) class-is ∙ simp length-append (omega arith)
+
+put-requires : tie.Need-put-requires
+put-requires c κs = omega (arith, c .before .before .before .before .pre .1, ap (length {A = ℕ}) (class-text-parts (tableClass (c .before .before .before .before .args .chars .now) (c .before .before .before .before .args .subs .now) (c .before .before .before .before .args .s)) (table-class-256 (c .before .before .before .before .args .chars .now) (c .before .before .before .before .args .subs .now) (c .before .before .before .before .args .s)) (table-class-257 (c .before .before .before .before .args .chars .now) (c .before .before .before .before .args .subs .now) (c .before .before .before .before .args .s))))
+
 slot-set-requires : tie.Need-slot-set-requires
 slot-set-requires c κs = search needs
 
--- src/text.rt:169:9
 put-char-runs-requires : tie.Need-put-char-runs-requires
-put-char-runs-requires c κs = ?
+put-char-runs-requires c κs = omega (arith, c .before .before .before .before .before .before .before .before .before .pre .1, c .before .before .before .before .put .ensures .next, class-long (c .before .before .before .before .before .before .before .before .before .args .chars .now) (c .before .before .before .before .before .before .before .before .before .args .subs .now) (c .before .before .before .before .before .before .before .before .before .args .s) (c .slot-set .result .words) (c .slot-set .ensures))
 
--- src/text.rt:170:66
 mul-put-production-runs : tie.Need-mul-put-production-runs
 mul-put-production-runs c = search needs
 
--- src/text.rt:170:9
 put-production-runs-requires : tie.Need-put-production-runs-requires
-put-production-runs-requires c κs = ?
+put-production-runs-requires c κs =     (omega (arith, c .before .before .before .before .before .before .before .before .before .before .before .before .before .pre .0 .1, c .before .before .before .before .before .before .before .before .before .before .before .before .before .pre .0 .2), omega (arith, c .before .before .before .before .before .before .before .before .before .before .before .before .before .pre .1, c .before .before .before .before .before .before .before .before .put .ensures .next, c .before .before .before .put-char-runs .ensures .next, class-long (c .before .before .before .before .before .before .before .before .before .before .before .before .before .args .chars .now) (c .before .before .before .before .before .before .before .before .before .before .before .before .before .args .subs .now) (c .before .before .before .before .before .before .before .before .before .before .before .before .before .args .s) (c .before .before .before .before .slot-set .result .words) (c .before .before .before .before .slot-set .ensures)))
 
--- src/text.rt:171:5
 put-requires-2 : tie.Need-put-requires-2
-put-requires-2 c κs = ?
+put-requires-2 c κs = omega (arith, c .before .before .before .before .before .before .before .before .before .before .before .before .before .before .before .before .before .pre .1, c .before .before .before .before .before .before .before .before .before .before .before .before .put .ensures .next, c .before .before .before .before .before .before .before .put-char-runs .ensures .next, c .before .before .before .put-production-runs .ensures .next, class-long (c .before .before .before .before .before .before .before .before .before .before .before .before .before .before .before .before .before .args .chars .now) (c .before .before .before .before .before .before .before .before .before .before .before .before .before .before .before .before .before .args .subs .now) (c .before .before .before .before .before .before .before .before .before .before .before .before .before .before .before .before .before .args .s) (c .before .before .before .before .before .before .before .before .slot-set .result .words) (c .before .before .before .before .before .before .before .before .slot-set .ensures))
 
--- src/text.rt:163:1
 same-length : tie.Need-same-length
 same-length c = search needs
 
--- src/text.rt:163:1
 returns : tie.Need-returns
-returns c = ?
+returns c =
+    put-same _ _ _ _ _ _ (sym (class-is (c .before .before .before .before .before .before .before .before .before .before .before .before .before .before .before .before .before .before .before .before .args .chars .now) (c .before .before .before .before .before .before .before .before .before .before .before .before .before .before .before .before .before .before .before .before .args .subs .now) (c .before .before .before .before .before .before .before .before .before .before .before .before .before .before .before .before .before .before .before .before .args .s) (c .before .before .before .before .before .before .before .before .before .before .before .slot-set .result .words) (c .before .before .before .before .before .before .before .before .before .before .before .slot-set .ensures)))
+    (put-append _ _ _ _ _ _ _ _ (c .before .before .before .before .before .before .before .before .before .before .before .before .before .before .before .put .ensures) (put-append _ _ _ _ _ _ _ _ (c .before .before .before .before .before .before .before .before .before .before .put-char-runs .ensures) (put-append _ _ _ _ _ _ _ _ (c .before .before .before .before .before .before .put-production-runs .ensures) (c .before .before .put2 .ensures))))
 
 pub put-class-spec : {M : Type 1} → statement M
 put-class-spec =

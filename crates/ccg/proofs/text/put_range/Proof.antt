@@ -1,4 +1,15 @@
+-- `put_range` meets its contract.
+use Prim.Native.Nat.{ℕ, _≤_}
+use mathlib.Core.Path.{_≡_, refl, sym, ap}
+use mathlib.Core.List.{_∷_, _++_}
+use native.Mathlib.Omega.{arith}
+use native.Mathlib.Decide.{ℕ-discrete}
+use lib.ListN.{length, length-append}
+use borrow.Author.Tests.{eq-eqb, ne-eqb}
 use borrow.Author.Needs.{needs}
+use Rattle.ccg.proofs.PutLaws.{put-append, put-same}
+use Rattle.ccg.specs.Text.{numeral, rangeText}
+use Rattle.charset.specs.Runs.{range}
 use Rattle.ccg.proofs.text.put_range.Statement.{statement}
 use Rattle.ccg.proofs.text.put_range.Tie as tie
 use Rattle.ccg.proofs.text.put_range.Reads as reads
@@ -6,33 +17,47 @@ use Rattle.ccg.proofs.text.put_range.Lts as lts
 use Rattle.ccg.proofs.text.put.Reads as put-reads
 use Rattle.ccg.proofs.text.put_number.Reads as put-number-reads
 
--- src/text.rt:64:9
-put-number-requires : tie.Need-put-number-requires
-put-number-requires c κs = ?
+one : (n m : ℕ) → n ≡ m → 92 ∷ numeral n ≡ rangeText (range n m)
+unfolding rangeText
+one n m e = sym (rw (eq-eqb n m e) refl)
 
--- src/text.rt:66:9
+two : (n m : ℕ) → (n ≡ m → ⊥) → (92 ∷ numeral n) ++ (45 ∷ (92 ∷ numeral m)) ≡ rangeText (range n m)
+unfolding rangeText
+two n m e = sym (rw (ne-eqb n m e) refl)
+
+-- the text of a range begins with its low number
+low-fits : (n m : ℕ) → length (92 ∷ numeral n) ≤ length (rangeText (range n m))
+low-fits n m =
+    elim (ℕ-discrete n m)
+    [ yes e ↦ omega (arith, ap (length {A = ℕ}) (one n m e))
+    | no e ↦ omega (arith, ap (length {A = ℕ}) (two n m e), length-append (92 ∷ numeral n) (45 ∷ (92 ∷ numeral m))) ]
+
+put-number-requires : tie.Need-put-number-requires
+put-number-requires c κs = (c .before .before .pre .0 .0, omega (arith, c .before .before .pre .1, low-fits (c .before .before .args .low) (c .before .before .args .high)))
+
 same-length : tie.Need-same-length
 same-length c = search needs
 
--- src/text.rt:66:9
 returns : tie.Need-returns
-returns c = ?
+returns c = put-same _ _ _ _ _ _ (one (c .before .before .before .before .before .before .args .low) (c .before .before .before .before .before .before .args .high) (c .if1 .taken)) (c .before .before .before .put-number .ensures)
 
--- src/text.rt:68:9
 put-requires : tie.Need-put-requires
-put-requires c κs = ?
+put-requires c κs =
+    let t = two (c .before .before .before .before .before .before .before .args .low) (c .before .before .before .before .before .before .before .args .high) (c .before .if1 .left) in
+    omega (arith, c .before .before .before .before .before .before .before .pre .1, c .before .before .before .before .put-number .ensures .next, ap (length {A = ℕ}) t, length-append (92 ∷ numeral (c .before .before .before .before .before .before .before .args .low)) (45 ∷ (92 ∷ numeral (c .before .before .before .before .before .before .before .args .high))))
 
--- src/text.rt:69:5
 put-number-requires-2 : tie.Need-put-number-requires-2
-put-number-requires-2 c κs = ?
+put-number-requires-2 c κs =
+    let t = two (c .before .before .before .before .before .before .before .before .before .before .before .args .low) (c .before .before .before .before .before .before .before .before .before .before .before .args .high) (c .before .before .before .before .before .if1 .left) in
+    (c .before .before .before .before .before .before .before .before .before .before .before .pre .0 .1, omega (arith, c .before .before .before .before .before .before .before .before .before .before .before .pre .1, c .before .before .before .before .before .before .before .before .put-number .ensures .next, c .before .before .before .put .ensures .next, ap (length {A = ℕ}) t, length-append (92 ∷ numeral (c .before .before .before .before .before .before .before .before .before .before .before .args .low)) (45 ∷ (92 ∷ numeral (c .before .before .before .before .before .before .before .before .before .before .before .args .high)))))
 
--- src/text.rt:59:1
 same-length-2 : tie.Need-same-length-2
 same-length-2 c = search needs
 
--- src/text.rt:59:1
 returns-2 : tie.Need-returns-2
-returns-2 c = ?
+returns-2 c =
+    put-same _ _ _ _ _ _ (two (c .before .before .before .before .before .before .before .before .before .before .before .before .before .before .args .low) (c .before .before .before .before .before .before .before .before .before .before .before .before .before .before .args .high) (c .before .before .before .before .before .before .before .before .if1 .left))
+    (put-append _ _ _ _ _ _ _ _ (c .before .before .before .before .before .before .before .before .before .before .before .put-number .ensures) (put-append _ _ _ _ _ _ _ _ (c .before .before .before .before .before .before .put .ensures) (c .before .before .put-number2 .ensures)))
 
 pub put-range-spec : {M : Type 1} → statement M
 put-range-spec =
