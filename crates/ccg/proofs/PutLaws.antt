@@ -3,9 +3,9 @@ use Prim.Native.Nat.{ℕ, suc, _+_, _≤_}
 use mathlib.Core.Path.{_≡_, refl, sym, _∙_, ap, ap₂, subst}
 use mathlib.Core.List.{List, [], _∷_, _++_}
 use native.Mathlib.Omega.{arith}
-use native.Mathlib.Nat.{add-zero, add-suc, suc-add}
-use lib.ListN.{length, set, length-append}
-use lib.Seq.{set-out, sets, length-sets}
+use native.Mathlib.Nat.{add-zero, add-suc, zero-add, suc-add}
+use lib.ListN.{length, drop, set, length-append}
+use lib.Seq.{set-out, sets, length-sets, sets-eq}
 use Rattle.ccg.specs.Put.{Put}
 
 pub sets-append : (v w l : List ℕ) (i : ℕ) → sets l i (v ++ w) ≡ sets (sets l i v) (i + length v) w
@@ -32,3 +32,15 @@ put-long v l₀ l i j a = ap (length {A = ℕ}) (a .wrote) ∙ length-sets l₀ 
 -- the text that was put, under another name
 pub put-same : (v w l₀ l : List ℕ) (i j : ℕ) → v ≡ w → Put v l₀ i l j → Put w l₀ i l j
 put-same v w l₀ l i j e a = subst (λ (t : List ℕ). Put t l₀ i l j) e a
+
+-- nothing is written into an empty buffer
+sets-nil : (v : List ℕ) (i : ℕ) → sets [] i v ≡ []
+sets-nil [] i = refl
+sets-nil (a ∷ v) i = sets-nil v (suc i)
+
+pub put-nowhere : (v l : List ℕ) (i j : ℕ) → Put v [] i l j → l ≡ []
+put-nowhere v l i j p = p .wrote ∙ sets-nil v i
+
+-- a text that fits, put at the start
+pub put-start : (v l₀ l : List ℕ) (j : ℕ) → Put v l₀ 0 l j → length v ≤ length l₀ → l ≡ v ++ drop (length v) l₀
+put-start v l₀ l j p h = p .wrote ∙ sets-eq v l₀ 0 (omega arith) ∙ ap (λ (n : ℕ). v ++ drop n l₀) (zero-add (length v))

@@ -1,17 +1,17 @@
 -- Laws of the flat tables: one entry, one slot, one production.
 use Prim.Native.Nat.{ℕ, _+_, _-_, _*_, _/_, _%_, _≤_, _<_}
 use mathlib.Core.Path.{_≡_, refl, sym, _∙_, ap, subst⁻¹}
-use mathlib.Core.Bool.{Bool, false, true, not, _&&_, _||_, and-false}
+use mathlib.Core.Bool.{Bool, false, true, cond, not, _&&_, _||_, and-false}
 use mathlib.Core.List.{List, []}
 use mathlib.Core.Logic.{_↔_, ⊎-elim, by-cases}
 use native.Mathlib.Omega.{arith}
 use native.Mathlib.Decide.{ℕ-discrete, decLt}
 use lib.Dec.{leb, ltb, eqb}
-use lib.ListN.{length, getD, set, length-set}
+use lib.ListN.{length, getD, set, length-set, replicate, length-replicate, getD-replicate, List·getD-eq-default}
 use lib.Seq.{getD-set-same, getD-set-other}
 use borrow.Author.Tests.{ltb-true, lt-ltb, le-ltb, eq-eqb, ne-eqb}
 use Rattle.ccg.specs.Flat.{mayStand}
-use Rattle.ccg.specs.Tables.{slot, tableMay, tableHas, tableCount, bitOf, subAt, wordAt, slotHas, charWords, subBytes, ZeroTables, FlatTables, ArgumentsWritten, BarringRows, Results}
+use Rattle.ccg.specs.Tables.{slot, tableMay, tableHas, tableCount, bitOf, subAt, wordAt, slotHas, charWords, subBytes, AllZero, ZeroTables, FlatTables, FewArguments, ArgumentsWritten, BarringRows, Results}
 use Rattle.ccg.specs.Trees.{isClass, classHas}
 use Rattle.charset.proofs.BitLaws.{bit-zero}
 use Rattle.charset.specs.Set.{bit, has}
@@ -245,4 +245,25 @@ productions-all b n counts chars subs e w =
     ; subsAre = λ p i q l m h. by-cases (decLt p n)
       (λ j. w .subsHere p i q j m h)
       (λ j. w .subsRest ((p * 8 + i) * 64 + q) (omega arith) ∙ sym (ap bitOf (missing-may b p i q (omega arith))))
+    }
+
+pub all-zero : (n : ℕ) → AllZero n (replicate n 0)
+all-zero n =
+    record
+    { long = length-replicate n 0
+    ; zeros = λ k. by-cases (decLt k n) (λ l. getD-replicate n k 0 0 l) (λ l. List·getD-eq-default (replicate n 0) 0 (omega (arith, length-replicate {A = ℕ} n 0)))
+    }
+
+pub flat-few : (b counts chars subs : List ℕ) → WellFormed b → FlatTables b counts chars subs → FewArguments counts chars subs
+unfolding tableCount
+flat-few b counts chars subs w t =
+    record
+    { countsLong = t .countsLong; charsLong = t .charsLong; subsLong = t .subsLong
+    ; few = λ p. by-cases (decLt p 64)
+      (λ l. by-cases (decLt p (productions b))
+      (λ m. let e : getD counts p 0 ≡ argumentCount b p = t .countsAre p l ∙ ap (λ (v : Bool). cond v (argumentCount b p) 0) (lt-ltb p (productions b) m) in
+      omega (arith, w .framed .fewArguments p m))
+      (λ m. let e : getD counts p 0 ≡ 0 = t .countsAre p l ∙ ap (λ (v : Bool). cond v (argumentCount b p) 0) (le-ltb p (productions b) (omega arith)) in
+      omega arith))
+      (λ l. omega (arith, List·getD-eq-default counts 0 {n = p} (omega (arith, t .countsLong))))
     }

@@ -1,4 +1,8 @@
+-- `write_flat` meets its contract: the grammar's refusals first.
+use mathlib.Core.Path.{refl, sym, _∙_}
 use borrow.Author.Needs.{needs}
+use Rattle.ccg.specs.Text.{flatAnswer}
+use Rattle.priority.proofs.CheckLaws.{accepted-formed}
 use Rattle.ccg.proofs.write_flat.Statement.{statement}
 use Rattle.ccg.proofs.write_flat.Tie as tie
 use Rattle.ccg.proofs.write_flat.Reads as reads
@@ -6,33 +10,28 @@ use Rattle.ccg.proofs.write_flat.Lts as lts
 use Rattle.ccg.proofs.write_accepted.Reads as write-accepted-reads
 use Rattle.priority.proofs.check_grammar.Reads as check-grammar-reads
 
--- src/lib.rt:33:9
 check-grammar-requires : tie.Need-check-grammar-requires
 check-grammar-requires c κs = search needs
 
--- src/lib.rt:35:26
 enum-known-verdict : tie.Need-enum-known-verdict
 enum-known-verdict c = search needs
 
--- src/lib.rt:36:51
 enum-told : tie.Need-enum-told
 enum-told c = search needs
 
--- src/lib.rt:36:30
 write-accepted-requires : tie.Need-write-accepted-requires
-write-accepted-requires c κs = ?
+write-accepted-requires c κs = accepted-formed (c .before .before .before .before .before .before .args .book .now) (sym (c .before .before .before .check-grammar .ensures) ∙ c .before .enum-told .given .1)
 
--- src/lib.rt:29:1
 returns : tie.Need-returns
-returns c = ?
+unfolding flatAnswer
+returns c =     (rw (← (c .before .before .before .check-grammar .ensures), c .before .verdict .given .1) refl, rw (← (c .before .before .before .check-grammar .ensures), c .before .verdict .given .1) refl)
 
--- src/lib.rt:29:1
 same-length : tie.Need-same-length
 same-length c = search needs
 
--- src/lib.rt:29:1
 returns-2 : tie.Need-returns-2
-returns-2 c = ?
+unfolding flatAnswer
+returns-2 c =     (rw (← (c .before .before .before .before .before .before .check-grammar .ensures), c .before .before .before .before .enum-told .given .1) (c .before .before .write-accepted .ensures .0), rw (← (c .before .before .before .before .before .before .check-grammar .ensures), c .before .before .before .before .enum-told .given .1) (c .before .before .write-accepted .ensures .1))
 
 pub write-flat-spec : {M : Type 1} → statement M
 write-flat-spec =

@@ -1,11 +1,12 @@
+-- `zero_counts` meets its contract.
+use Rattle.ccg.proofs.TableLaws.{all-zero}
 use Rattle.ccg.proofs.zero_counts.Statement.{statement}
 use Rattle.ccg.proofs.zero_counts.Tie as tie
 use Rattle.ccg.proofs.zero_counts.Reads as reads
 use Rattle.ccg.proofs.zero_counts.Lts as lts
 
--- src/lib.rt:59:1
 returns : tie.Need-returns
-returns c = ?
+returns c = all-zero 64
 
 pub zero-counts-spec : {M : Type 1} → statement M
 zero-counts-spec = tie.close (tie.spec returns)

@@ -1,11 +1,13 @@
+-- `zero_subs` meets its contract.
+use Rattle.ccg.proofs.TableLaws.{all-zero}
+use Rattle.ccg.specs.Tables.{subBytes}
 use Rattle.ccg.proofs.zero_subs.Statement.{statement}
 use Rattle.ccg.proofs.zero_subs.Tie as tie
 use Rattle.ccg.proofs.zero_subs.Reads as reads
 use Rattle.ccg.proofs.zero_subs.Lts as lts
 
--- src/lib.rt:71:1
 returns : tie.Need-returns
-returns c = ?
+returns c = all-zero subBytes
 
 pub zero-subs-spec : {M : Type 1} → statement M
 zero-subs-spec = tie.close (tie.spec returns)
