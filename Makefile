@@ -2,7 +2,7 @@
 # The tests that need rustc or gcc come first: rt ci removes target/.
 
 BUILD := build
-CASE_CRATES := grammar_cases
+CASE_CRATES := grammar_cases conflict_cases flat_cases
 
 .PHONY: test cases store-cases check clean
 

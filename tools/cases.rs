@@ -3,6 +3,7 @@
 //     cases CASES STDIN STDOUT
 //
 // A line of CASES is `EXPECTED: FIELD | FIELD ..`, or `def NAME = ITEMS`, or empty; `#` starts a comment.
+// A case that is to print several lines, or none, has no EXPECTED, and those lines follow it, each behind `> `.
 // A field is a row of items: a byte in base ten, "text", a NAME, or N*ITEM and N*( ITEMS ) for N times the same.
 // STDIN gets each field as two bytes of length, low byte first, and then its bytes; STDOUT the expected lines.
 use std::collections::HashMap;
@@ -106,6 +107,11 @@ fn main() {
     let (mut input, mut output, mut names) = (Vec::new(), String::new(), Names::new());
     for (index, whole) in text.lines().enumerate() {
         let number = index + 1;
+        if let Some(expected) = whole.strip_prefix("> ") {
+            output.push_str(expected);
+            output.push('\n');
+            continue;
+        }
         let line = without_comment(whole).trim();
         if line.is_empty() {
             continue;
@@ -117,8 +123,10 @@ fn main() {
             continue;
         }
         let (expected, fields) = line.split_once(':').unwrap_or_else(|| fail(number, "a case without :"));
-        output.push_str(expected.trim());
-        output.push('\n');
+        if !expected.trim().is_empty() {
+            output.push_str(expected.trim());
+            output.push('\n');
+        }
         let words = tokens(fields, number);
         let mut at = 0;
         loop {

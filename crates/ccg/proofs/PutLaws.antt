@@ -17,9 +17,9 @@ put-none l at = record { wrote = refl; next = omega arith }
 
 pub put-append : (v w l₀ l₁ l₂ : List ℕ) (i j k : ℕ) → Put v l₀ i l₁ j → Put w l₁ j l₂ k → Put (v ++ w) l₀ i l₂ k
 put-append v w l₀ l₁ l₂ i j k a c =
-    record
-    { wrote = c .wrote ∙ ap₂ (λ (l : List ℕ) (n : ℕ). sets l n w) (a .wrote) (a .next) ∙ sym (sets-append v w l₀ i)
-    ; next = omega (arith, a .next, c .next, length-append v w)
+    record {
+      wrote = c .wrote ∙ ap₂ (λ (l : List ℕ) (n : ℕ). sets l n w) (a .wrote) (a .next) ∙ sym (sets-append v w l₀ i);
+      next = omega (arith, a .next, c .next, length-append v w);
     }
 
 -- a byte past the end is dropped

@@ -87,15 +87,15 @@ module _ (f : ℕ → Bool) (start limit : ℕ) (l₀ : List ℕ) (at : ℕ) whe
     pub run-room : (m : ℕ) → at + length (joined rangeText (runs f start (limit - start))) ≤ m → place + length (rangeText (range lo hi)) ≤ m
     run-room m h =
         let whole : length (p .done ++ (rangeText (range lo hi) ++ joined rangeText (runs f (hi + 1) (limit - (hi + 1))))) ≡ length (joined rangeText (runs f start (limit - start))) =
-                ap length (ap (λ (t : List ℕ). p .done ++ t) (sym left) ∙ p .rest) in
+        ap length (ap (λ (t : List ℕ). p .done ++ t) (sym left) ∙ p .rest) in
         omega (arith, p .isPut .next, simp length-append at whole)
 
     pub runs-put-more : (l′ : List ℕ) (next : ℕ) → Put (rangeText (range lo hi)) l place l′ next → RunsPut f start limit l₀ at (hi + 1) l′ next
     runs-put-more l′ next q =
-        record
-        { done = p .done ++ rangeText (range lo hi)
-        ; isPut = put-append (p .done) (rangeText (range lo hi)) l₀ l l′ at place next (p .isPut) q
-        ; rest = append-assoc (p .done) (rangeText (range lo hi)) (joined rangeText (runs f (hi + 1) (limit - (hi + 1)))) ∙ ap (λ (t : List ℕ). p .done ++ t) (sym left) ∙ p .rest
-        ; begun = omega (arith, p .begun, run-low, run-rises)
-        ; within = omega (arith, run-below)
+        record {
+          done = p .done ++ rangeText (range lo hi);
+          isPut = put-append (p .done) (rangeText (range lo hi)) l₀ l l′ at place next (p .isPut) q;
+          rest = append-assoc (p .done) (rangeText (range lo hi)) (joined rangeText (runs f (hi + 1) (limit - (hi + 1)))) ∙ ap (λ (t : List ℕ). p .done ++ t) (sym left) ∙ p .rest;
+          begun = omega (arith, p .begun, run-low, run-rises);
+          within = omega (arith, run-below);
         }

@@ -74,10 +74,15 @@ module _ (b : List ℕ) (w : WellFormed b) (p i : ℕ) (lp : p < productions b) 
 
 pub arguments-none : (b : List ℕ) (p : ℕ) (chars subs : List ℕ) → ArgumentsWritten b p 0 chars subs chars subs
 arguments-none b p chars subs =
-    record
-    { charsLong = refl; subsLong = refl
-    ; charsHere = λ i c l m. absurd (omega arith); subsHere = λ i q l m. absurd (omega arith)
-    ; charsBelow = λ k l. refl; charsAbove = λ k l. refl; subsBelow = λ k l. refl; subsAbove = λ k l. refl
+    record {
+      charsLong = refl;
+      subsLong = refl;
+      charsHere = λ i c l m. absurd (omega arith);
+      subsHere = λ i q l m. absurd (omega arith);
+      charsBelow = λ k l. refl;
+      charsAbove = λ k l. refl;
+      subsBelow = λ k l. refl;
+      subsAbove = λ k l. refl;
     }
 
 abbrev pub SubEntry : List ℕ → ℕ → List Bool → ℕ → ℕ → Type 0
@@ -94,9 +99,10 @@ module _ (b : List ℕ) (w : WellFormed b) (p i x : ℕ) (lp : p < productions b
   subs-here : (j q : ℕ) → j < i + 1 → q < 64 → getD subs′ (subAt (slot p j) q) 0 ≡ bitOf (tableMay b p j q)
   unfolding subAt slot
   subs-here j q h m =
-      elim (ℕ-discrete j i)
-      [ yes e ↦ subst⁻¹ (λ (k : ℕ). getD subs′ ((p * 8 + k) * 64 + q) 0 ≡ bitOf (tableMay b p k q)) e (rb .inside q m ∙ may-entry b w p i lp li results bars x q rs ex (bs q) m)
-      | no e ↦ (rb .below ((p * 8 + j) * 64 + q) (omega arith) ∙ a .subsHere j q (omega arith) m) ]
+      elim (ℕ-discrete j i) [
+        | yes e ↦ subst⁻¹ (λ (k : ℕ). getD subs′ ((p * 8 + k) * 64 + q) 0 ≡ bitOf (tableMay b p k q)) e (rb .inside q m ∙ may-entry b w p i lp li results bars x q rs ex (bs q) m)
+        | no e ↦ (rb .below ((p * 8 + j) * 64 + q) (omega arith) ∙ a .subsHere j q (omega arith) m)
+      ]
 
   word-here : (c : ℕ) → c < 256 → slotHas chars′ (slot p i) c ≡ tableHas b p i c
   unfolding slotHas wordAt slot has
@@ -109,22 +115,23 @@ module _ (b : List ℕ) (w : WellFormed b) (p i x : ℕ) (lp : p < productions b
 
   chars-here : (j c : ℕ) → j < i + 1 → c < 256 → slotHas chars′ (slot p j) c ≡ tableHas b p j c
   chars-here j c h l =
-      elim (ℕ-discrete j i)
-      [ yes e ↦ subst⁻¹ (λ (k : ℕ). slotHas chars′ (slot p k) c ≡ tableHas b p k c) e (word-here c l)
-      | no e ↦ (word-below j c (omega arith) l ∙ a .charsHere j c (omega arith) l) ]
+      elim (ℕ-discrete j i) [
+        | yes e ↦ subst⁻¹ (λ (k : ℕ). slotHas chars′ (slot p k) c ≡ tableHas b p k c) e (word-here c l)
+        | no e ↦ (word-below j c (omega arith) l ∙ a .charsHere j c (omega arith) l)
+      ]
 
   pub arguments-more : ArgumentsWritten b p (i + 1) chars₀ subs₀ chars′ subs′
   unfolding subAt wordAt slot
   arguments-more =
-      record
-      { charsLong = rc .long ∙ a .charsLong
-      ; subsLong = rb .long ∙ a .subsLong
-      ; charsHere = chars-here
-      ; subsHere = subs-here
-      ; charsBelow = λ k l. rc .below k (omega arith) ∙ a .charsBelow k (omega arith)
-      ; charsAbove = λ k l. rc .above k (omega arith) ∙ a .charsAbove k (omega arith)
-      ; subsBelow = λ k l. rb .below k (omega arith) ∙ a .subsBelow k (omega arith)
-      ; subsAbove = λ k l. rb .above k (omega arith) ∙ a .subsAbove k (omega arith)
+      record {
+        charsLong = rc .long ∙ a .charsLong;
+        subsLong = rb .long ∙ a .subsLong;
+        charsHere = chars-here;
+        subsHere = subs-here;
+        charsBelow = λ k l. rc .below k (omega arith) ∙ a .charsBelow k (omega arith);
+        charsAbove = λ k l. rc .above k (omega arith) ∙ a .charsAbove k (omega arith);
+        subsBelow = λ k l. rb .below k (omega arith) ∙ a .subsBelow k (omega arith);
+        subsAbove = λ k l. rb .above k (omega arith) ∙ a .subsAbove k (omega arith);
       }
 
 -- ---- one row of bars
@@ -139,10 +146,10 @@ pub barring-rows : (b : List ℕ) → WellFormed b → (above firsts lasts : Lis
     → (p : ℕ) → BarringRows b p (getD above p []) (getD firsts p []) (getD lasts p [])
 unfolding entry
 barring-rows b w above firsts lasts h f l p =
-    record
-    { higherRow = λ q. table-higher b w above h p q
-    ; firstRow = λ q. f p q ∙ sym (right-associated b p q)
-    ; lastRow = λ q. l p q ∙ sym (left-associated b p q)
+    record {
+      higherRow = λ q. table-higher b w above h p q;
+      firstRow = λ q. f p q ∙ sym (right-associated b p q);
+      lastRow = λ q. l p q ∙ sym (left-associated b p q);
     }
 
 -- ---- one production more
@@ -177,11 +184,16 @@ pub record ProductionsWritten (b : List ℕ) (n : ℕ) (counts chars subs : List
 
 pub productions-none : (b counts chars subs : List ℕ) → ZeroTables counts chars subs → ProductionsWritten b 0 counts chars subs
 productions-none b counts chars subs z =
-    record
-    { countsLong = z .countsLong; charsLong = z .charsLong; subsLong = z .subsLong
-    ; countsHere = λ p l. absurd (omega arith); countsRest = λ k l. z .countsZero k
-    ; charsHere = λ p i c l. absurd (omega arith); charsRest = λ k l. z .charsZero k
-    ; subsHere = λ p i q l. absurd (omega arith); subsRest = λ k l. z .subsZero k
+    record {
+      countsLong = z .countsLong;
+      charsLong = z .charsLong;
+      subsLong = z .subsLong;
+      countsHere = λ p l. absurd (omega arith);
+      countsRest = λ k l. z .countsZero k;
+      charsHere = λ p i c l. absurd (omega arith);
+      charsRest = λ k l. z .charsZero k;
+      subsHere = λ p i q l. absurd (omega arith);
+      subsRest = λ k l. z .subsZero k;
     }
 
 module _ (b : List ℕ) (n : ℕ) (small : n < 64) (counts chars subs chars′ subs′ : List ℕ) (few : argumentCount b n ≤ 8)
@@ -189,12 +201,13 @@ module _ (b : List ℕ) (n : ℕ) (small : n < 64) (counts chars subs chars′ s
   sub-here : (p i q : ℕ) → p < n + 1 → i < 8 → q < 64 → getD subs′ (subAt (slot p i) q) 0 ≡ bitOf (tableMay b p i q)
   unfolding subAt slot
   sub-here p i q l m h =
-      elim (ℕ-discrete p n)
-      [ no e ↦ (a .subsBelow ((p * 8 + i) * 64 + q) (omega arith) ∙ w .subsHere p i q (omega arith) m h)
-      | yes e ↦ subst⁻¹ (λ (k : ℕ). getD subs′ ((k * 8 + i) * 64 + q) 0 ≡ bitOf (tableMay b k i q)) e
-        (by-cases (decLt i (argumentCount b n))
-        (λ j. a .subsHere i q j h)
-        (λ j. a .subsAbove ((n * 8 + i) * 64 + q) (omega arith) ∙ w .subsRest ((n * 8 + i) * 64 + q) (omega arith) ∙ sym (ap bitOf (no-argument-may b n i q (omega arith))))) ]
+      elim (ℕ-discrete p n) [
+        | no e ↦ (a .subsBelow ((p * 8 + i) * 64 + q) (omega arith) ∙ w .subsHere p i q (omega arith) m h)
+        | yes e ↦ subst⁻¹ (λ (k : ℕ). getD subs′ ((k * 8 + i) * 64 + q) 0 ≡ bitOf (tableMay b k i q)) e
+            (by-cases (decLt i (argumentCount b n))
+            (λ j. a .subsHere i q j h)
+            (λ j. a .subsAbove ((n * 8 + i) * 64 + q) (omega arith) ∙ w .subsRest ((n * 8 + i) * 64 + q) (omega arith) ∙ sym (ap bitOf (no-argument-may b n i q (omega arith)))))
+      ]
 
   rest-word : (i c : ℕ) → argumentCount b n ≤ i → i < 8 → c < 256 → slotHas chars′ (slot n i) c ≡ false
   unfolding slotHas wordAt slot
@@ -207,63 +220,69 @@ module _ (b : List ℕ) (n : ℕ) (small : n < 64) (counts chars subs chars′ s
 
   char-here : (p i c : ℕ) → p < n + 1 → i < 8 → c < 256 → slotHas chars′ (slot p i) c ≡ tableHas b p i c
   char-here p i c l m h =
-      elim (ℕ-discrete p n)
-      [ no e ↦ (old-word p i c (omega arith) m h ∙ w .charsHere p i c (omega arith) m h)
-      | yes e ↦ subst⁻¹ (λ (k : ℕ). slotHas chars′ (slot k i) c ≡ tableHas b k i c) e
-        (by-cases (decLt i (argumentCount b n))
-        (λ j. a .charsHere i c j h)
-        (λ j. rest-word i c (omega arith) m h ∙ sym (no-argument-has b n i c (omega arith)))) ]
+      elim (ℕ-discrete p n) [
+        | no e ↦ (old-word p i c (omega arith) m h ∙ w .charsHere p i c (omega arith) m h)
+        | yes e ↦ subst⁻¹ (λ (k : ℕ). slotHas chars′ (slot k i) c ≡ tableHas b k i c) e
+            (by-cases (decLt i (argumentCount b n))
+            (λ j. a .charsHere i c j h)
+            (λ j. rest-word i c (omega arith) m h ∙ sym (no-argument-has b n i c (omega arith))))
+      ]
 
   pub productions-more : ProductionsWritten b (n + 1) (set counts n (argumentCount b n)) chars′ subs′
   unfolding subAt wordAt slot
   productions-more =
-      record
-      { countsLong = length-set counts n (argumentCount b n) ∙ w .countsLong
-      ; charsLong = a .charsLong ∙ w .charsLong
-      ; subsLong = a .subsLong ∙ w .subsLong
-      ; countsHere = λ p l. elim (ℕ-discrete p n)
-        [ yes e ↦ subst⁻¹ (λ (k : ℕ). getD (set counts n (argumentCount b n)) k 0 ≡ argumentCount b k) e (getD-set-same counts n (argumentCount b n) 0 (omega (arith, w .countsLong)))
-        | no e ↦ (getD-set-other counts n p (argumentCount b n) 0 e ∙ w .countsHere p (omega arith)) ]
-      ; countsRest = λ k l. getD-set-other counts n k (argumentCount b n) 0 (λ e. omega arith) ∙ w .countsRest k (omega arith)
-      ; charsHere = char-here
-      ; charsRest = λ k l. a .charsAbove k (omega arith) ∙ w .charsRest k (omega arith)
-      ; subsHere = sub-here
-      ; subsRest = λ k l. a .subsAbove k (omega arith) ∙ w .subsRest k (omega arith)
+      record {
+        countsLong = length-set counts n (argumentCount b n) ∙ w .countsLong;
+        charsLong = a .charsLong ∙ w .charsLong;
+        subsLong = a .subsLong ∙ w .subsLong;
+        countsHere = λ p l. elim (ℕ-discrete p n) [
+          | yes e ↦ subst⁻¹ (λ (k : ℕ). getD (set counts n (argumentCount b n)) k 0 ≡ argumentCount b k) e (getD-set-same counts n (argumentCount b n) 0 (omega (arith, w .countsLong)))
+          | no e ↦ (getD-set-other counts n p (argumentCount b n) 0 e ∙ w .countsHere p (omega arith))
+        ];
+        countsRest = λ k l. getD-set-other counts n k (argumentCount b n) 0 (λ e. omega arith) ∙ w .countsRest k (omega arith);
+        charsHere = char-here;
+        charsRest = λ k l. a .charsAbove k (omega arith) ∙ w .charsRest k (omega arith);
+        subsHere = sub-here;
+        subsRest = λ k l. a .subsAbove k (omega arith) ∙ w .subsRest k (omega arith);
       }
 
 pub productions-all : (b : List ℕ) (n : ℕ) (counts chars subs : List ℕ) → n ≡ productions b → ProductionsWritten b n counts chars subs → FlatTables b counts chars subs
 unfolding tableCount slotHas subAt wordAt slot
 productions-all b n counts chars subs e w =
-    record
-    { countsLong = w .countsLong; charsLong = w .charsLong; subsLong = w .subsLong
-    ; countsAre = λ p l. by-cases (decLt p n)
-      (λ m. w .countsHere p m ∙ sym (rw (lt-ltb p (productions b) (omega arith)) refl))
-      (λ m. w .countsRest p (omega arith) ∙ sym (rw (le-ltb p (productions b) (omega arith)) refl))
-    ; charsAre = λ p i c l m h. by-cases (decLt p n)
-      (λ j. w .charsHere p i c j m h)
-      (λ j. rw (w .charsRest ((p * 8 + i) * 4 + c / 64) (omega arith)) (bit-zero (c % 64) ∙ sym (missing-has b p i c (omega arith))))
-    ; subsAre = λ p i q l m h. by-cases (decLt p n)
-      (λ j. w .subsHere p i q j m h)
-      (λ j. w .subsRest ((p * 8 + i) * 64 + q) (omega arith) ∙ sym (ap bitOf (missing-may b p i q (omega arith))))
+    record {
+      countsLong = w .countsLong;
+      charsLong = w .charsLong;
+      subsLong = w .subsLong;
+      countsAre = λ p l. by-cases (decLt p n)
+          (λ m. w .countsHere p m ∙ sym (rw (lt-ltb p (productions b) (omega arith)) refl))
+          (λ m. w .countsRest p (omega arith) ∙ sym (rw (le-ltb p (productions b) (omega arith)) refl));
+      charsAre = λ p i c l m h. by-cases (decLt p n)
+          (λ j. w .charsHere p i c j m h)
+          (λ j. rw (w .charsRest ((p * 8 + i) * 4 + c / 64) (omega arith)) (bit-zero (c % 64) ∙ sym (missing-has b p i c (omega arith))));
+      subsAre = λ p i q l m h. by-cases (decLt p n)
+          (λ j. w .subsHere p i q j m h)
+          (λ j. w .subsRest ((p * 8 + i) * 64 + q) (omega arith) ∙ sym (ap bitOf (missing-may b p i q (omega arith))));
     }
 
 pub all-zero : (n : ℕ) → AllZero n (replicate n 0)
 all-zero n =
-    record
-    { long = length-replicate n 0
-    ; zeros = λ k. by-cases (decLt k n) (λ l. getD-replicate n k 0 0 l) (λ l. List·getD-eq-default (replicate n 0) 0 (omega (arith, length-replicate {A = ℕ} n 0)))
+    record {
+      long = length-replicate n 0;
+      zeros = λ k. by-cases (decLt k n) (λ l. getD-replicate n k 0 0 l) (λ l. List·getD-eq-default (replicate n 0) 0 (omega (arith, length-replicate {A = ℕ} n 0)));
     }
 
 pub flat-few : (b counts chars subs : List ℕ) → WellFormed b → FlatTables b counts chars subs → FewArguments counts chars subs
 unfolding tableCount
 flat-few b counts chars subs w t =
-    record
-    { countsLong = t .countsLong; charsLong = t .charsLong; subsLong = t .subsLong
-    ; few = λ p. by-cases (decLt p 64)
-      (λ l. by-cases (decLt p (productions b))
-      (λ m. let e : getD counts p 0 ≡ argumentCount b p = t .countsAre p l ∙ ap (λ (v : Bool). cond v (argumentCount b p) 0) (lt-ltb p (productions b) m) in
-      omega (arith, w .framed .fewArguments p m))
-      (λ m. let e : getD counts p 0 ≡ 0 = t .countsAre p l ∙ ap (λ (v : Bool). cond v (argumentCount b p) 0) (le-ltb p (productions b) (omega arith)) in
-      omega arith))
-      (λ l. omega (arith, List·getD-eq-default counts 0 {n = p} (omega (arith, t .countsLong))))
+    record {
+      countsLong = t .countsLong;
+      charsLong = t .charsLong;
+      subsLong = t .subsLong;
+      few = λ p. by-cases (decLt p 64)
+          (λ l. by-cases (decLt p (productions b))
+          (λ m. let e : getD counts p 0 ≡ argumentCount b p = t .countsAre p l ∙ ap (λ (v : Bool). cond v (argumentCount b p) 0) (lt-ltb p (productions b) m) in
+          omega (arith, w .framed .fewArguments p m))
+          (λ m. let e : getD counts p 0 ≡ 0 = t .countsAre p l ∙ ap (λ (v : Bool). cond v (argumentCount b p) 0) (le-ltb p (productions b) (omega arith)) in
+          omega arith))
+          (λ l. omega (arith, List·getD-eq-default counts 0 {n = p} (omega (arith, t .countsLong))));
     }

@@ -1,9 +1,20 @@
 // The flat tables: for each production and argument the characters and the productions that may stand there.
 use charset::CharSet;
-use grammar::layout::{argument_count, bodies_at, class_at, production_count, range_count};
-use grammar::limits::{ARGUMENT_LIMIT, CLASS_BASE, HEADER_LENGTH, PRODUCTION_LIMIT};
+use grammar::layout::argument_count;
+use grammar::layout::bodies_at;
+use grammar::layout::class_at;
+use grammar::layout::production_count;
+use grammar::layout::range_count;
+use grammar::limits::ARGUMENT_LIMIT;
+use grammar::limits::CLASS_BASE;
+use grammar::limits::HEADER_LENGTH;
+use grammar::limits::PRODUCTION_LIMIT;
+use priority::LEFT;
+use priority::RIGHT;
+use priority::both;
 use priority::conflict::associations;
-use priority::{LEFT, RIGHT, both, joined, priorities};
+use priority::joined;
+use priority::priorities;
 ghost use mathlib.Core.Path.{_≡_};
 ghost use mathlib.Core.Bool.{Bool, true, false, not, _&&_, _||_};
 ghost use mathlib.Core.List.{List};
@@ -24,6 +35,7 @@ pub const WORDS: usize = 4;
 pub const SLOTS: usize = PRODUCTION_LIMIT * ARGUMENT_LIMIT;
 // The lengths of the tables.
 pub const CHAR_WORDS: usize = SLOTS * WORDS;
+
 pub const SUB_BYTES: usize = SLOTS * PRODUCTION_LIMIT;
 // Stands for the result of a production that isn't there; no argument byte is as large.
 const NO_SORT: u8 = 255;
@@ -83,7 +95,13 @@ fn may_stand(result: u8, x: u8, barred: bool) -> u8
 }
 
 // The productions barred at argument i of a production with `count` arguments: the three lines of 01 in order.
-fn barred_at(above: [bool; PRODUCTION_LIMIT], firsts: [bool; PRODUCTION_LIMIT], lasts: [bool; PRODUCTION_LIMIT], count: usize, i: usize) -> [bool; PRODUCTION_LIMIT]
+fn barred_at(
+    above: [bool; PRODUCTION_LIMIT],
+    firsts: [bool; PRODUCTION_LIMIT],
+    lasts: [bool; PRODUCTION_LIMIT],
+    count: usize,
+    i: usize,
+) -> [bool; PRODUCTION_LIMIT]
     requires { ⌜ i < count ⌝ }
     ensures { λ r. ⌜ ((q : ℕ) → getD r q false ≡ (getD above q false || (eqb i 0 && leb 2 count) && getD firsts q false || (eqb (i + 1) count && leb 2 count) && getD lasts q false)) ⌝ }
 {
@@ -92,7 +110,13 @@ fn barred_at(above: [bool; PRODUCTION_LIMIT], firsts: [bool; PRODUCTION_LIMIT], 
 }
 
 // Writes which productions may stand at a slot with argument byte x.
-fn write_subs(subs: &mut [u8], base: usize, x: u8, barred: [bool; PRODUCTION_LIMIT], results: [u8; PRODUCTION_LIMIT])
+fn write_subs(
+    subs: &mut [u8],
+    base: usize,
+    x: u8,
+    barred: [bool; PRODUCTION_LIMIT],
+    results: [u8; PRODUCTION_LIMIT],
+)
     requires { ⌜ base + 64 ≤ length (now subs) ⌝ }
     ensures { λ _. ⌜ Region (λ (q : ℕ) (v : ℕ). v ≡ bitOf (eqb (getD results q 0) x && not (getD barred q false))) 0 base 64 (now (subs .entry)) (now (subs .exit)) ⌝ }
 {
@@ -140,8 +164,18 @@ fn write_production(
     while i < count {
         let x = book[at + 1 + i];
         let barred = barred_at(above, firsts, lasts, count, i);
-        write_subs(subs, (p * ARGUMENT_LIMIT + i) * PRODUCTION_LIMIT, x, barred, results);
-        write_chars(chars, (p * ARGUMENT_LIMIT + i) * WORDS, argument_set(book, wide(x)));
+        write_subs(
+            subs,
+            (p * ARGUMENT_LIMIT + i) * PRODUCTION_LIMIT,
+            x,
+            barred,
+            results,
+        );
+        write_chars(
+            chars,
+            (p * ARGUMENT_LIMIT + i) * WORDS,
+            argument_set(book, wide(x)),
+        );
         i += 1;
     }
 }
@@ -166,7 +200,17 @@ pub fn flatten(book: &[u8], counts: &mut [u8], chars: &mut [u64], subs: &mut [u8
     let mut at = bodies_at(book);
     let mut p = 0;
     while p < count {
-        write_production(book, p, at, above[p], firsts[p], lasts[p], sorts, chars, subs);
+        write_production(
+            book,
+            p,
+            at,
+            above[p],
+            firsts[p],
+            lasts[p],
+            sorts,
+            chars,
+            subs,
+        );
         counts[p] = book[HEADER_LENGTH + p];
         at += 1 + argument_count(book, p);
         p += 1;

@@ -1,8 +1,11 @@
 // The written form of a character class grammar. What does not fit the buffer is dropped and still counted, so a first pass over an empty buffer
 // gives the length.
-use crate::tables::{WORDS, wide};
-use charset::{CharSet, NextRun};
-use grammar::limits::{ARGUMENT_LIMIT, PRODUCTION_LIMIT};
+use crate::tables::WORDS;
+use crate::tables::wide;
+use charset::CharSet;
+use charset::NextRun;
+use grammar::limits::ARGUMENT_LIMIT;
+use grammar::limits::PRODUCTION_LIMIT;
 ghost use mathlib.Core.Path.{_≡_};
 ghost use mathlib.Core.List.{List, [], _∷_, _++_};
 ghost use Prim.Native.Nat.{ℕ, _+_, _*_, _-_, _<_, _≤_};
@@ -155,7 +158,12 @@ fn slot_set(chars: &[u64], s: usize) -> CharSet
 {
     let base = s * WORDS;
     CharSet {
-        words: [chars[base], chars[base + 1], chars[base + 2], chars[base + 3]],
+        words: [
+            chars[base],
+            chars[base + 1],
+            chars[base + 2],
+            chars[base + 3],
+        ],
     }
 }
 

@@ -19,10 +19,10 @@ module _ (limit : ℕ) (f : ℕ → Bool) (wanted : Bool) (from : ℕ) where
 
   pub seek-more : (at : ℕ) → at < limit → f at ≡ not wanted → Passed limit f wanted from at → Passed limit f wanted from (at + 1)
   seek-more at l e p =
-      record
-      { after = omega (arith, p .after)
-      ; within = omega (arith, p .after)
-      ; passed = λ k m h. by-cases (decLt k at) (λ b. p .passed k m b) (λ n. let q : at ≡ k = omega arith in subst (λ (j : ℕ). f j ≡ not wanted) q e)
+      record {
+        after = omega (arith, p .after);
+        within = omega (arith, p .after);
+        passed = λ k m h. by-cases (decLt k at) (λ b. p .passed k m b) (λ n. let q : at ≡ k = omega arith in subst (λ (j : ℕ). f j ≡ not wanted) q e);
       }
 
   pub seek-found : (at : ℕ) → f at ≡ wanted → Passed limit f wanted from at → Sought limit f wanted from at

@@ -19,10 +19,11 @@ module _ {A : Type 0} (P : ℕ → A → Type 0) (d : A) (l₀ : List A) where
 
   pub filled-more : (i : ℕ) (l : List A) (v : A) → i < length l₀ → Filled P d l₀ i l → P i v → Filled P d l₀ (i + 1) (set l i v)
   filled-more i l v h w p =
-      record
-      { long = length-set l i v ∙ w .long
-      ; done = λ k m. elim (ℕ-discrete k i)
-        [ yes e ↦ rw (e, getD-set-same l i v d (omega (arith, w .long))) p
-        | no e ↦ rw (getD-set-other l i k v d e) (w .done k (omega arith)) ]
-      ; rest = λ k m. getD-set-other l i k v d (λ e. omega arith) ∙ w .rest k (omega arith)
+      record {
+        long = length-set l i v ∙ w .long;
+        done = λ k m. elim (ℕ-discrete k i) [
+          | yes e ↦ rw (e, getD-set-same l i v d (omega (arith, w .long))) p
+          | no e ↦ rw (getD-set-other l i k v d e) (w .done k (omega arith))
+        ];
+        rest = λ k m. getD-set-other l i k v d (λ e. omega arith) ∙ w .rest k (omega arith);
       }

@@ -14,11 +14,12 @@ module _ {A : Type 0} (P : ℕ → A → Type 0) (d : A) (base : ℕ) (l₀ : Li
 
   pub region-more : (n : ℕ) (l : List A) (v : A) → base + n < length l₀ → Region P d base n l₀ l → P n v → Region P d base (n + 1) l₀ (set l (base + n) v)
   region-more n l v h r p =
-      record
-      { long = length-set l (base + n) v ∙ r .long
-      ; inside = λ k m. elim (ℕ-discrete k n)
-        [ yes e ↦ rw (e, getD-set-same l (base + n) v d (omega (arith, r .long))) p
-        | no e ↦ rw (getD-set-other l (base + n) (base + k) v d (λ q. e (omega arith))) (r .inside k (omega arith)) ]
-      ; below = λ k m. getD-set-other l (base + n) k v d (λ q. omega arith) ∙ r .below k m
-      ; above = λ k m. getD-set-other l (base + n) k v d (λ q. omega arith) ∙ r .above k (omega arith)
+      record {
+        long = length-set l (base + n) v ∙ r .long;
+        inside = λ k m. elim (ℕ-discrete k n) [
+          | yes e ↦ rw (e, getD-set-same l (base + n) v d (omega (arith, r .long))) p
+          | no e ↦ rw (getD-set-other l (base + n) (base + k) v d (λ q. e (omega arith))) (r .inside k (omega arith))
+        ];
+        below = λ k m. getD-set-other l (base + n) k v d (λ q. omega arith) ∙ r .below k m;
+        above = λ k m. getD-set-other l (base + n) k v d (λ q. omega arith) ∙ r .above k (omega arith);
       }

@@ -1,7 +1,9 @@
 // Checks each grammar of its input and prints the verdicts, a line each.
 use grammar::Verdict;
-use libc::{STDIN_FILENO, STDOUT_FILENO};
+use libc::STDIN_FILENO;
+use libc::STDOUT_FILENO;
 use priority::check_grammar;
+use report::print_refusal;
 
 fn main() {
     let mut input = io::large_buffer();
@@ -25,12 +27,6 @@ fn print(verdict: Verdict) {
         Verdict::Accepted => {
             io::write_all(STDOUT_FILENO, b"accepted\n");
         }
-        Verdict::Refused(number, place) => {
-            io::write_all(STDOUT_FILENO, b"refused ");
-            io::print_decimal(STDOUT_FILENO, number as u64);
-            io::write_all(STDOUT_FILENO, b" ");
-            io::print_decimal(STDOUT_FILENO, place as u64);
-            io::write_all(STDOUT_FILENO, b"\n");
-        }
+        Verdict::Refused(number, place) => print_refusal(number, place),
     }
 }

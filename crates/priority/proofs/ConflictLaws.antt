@@ -46,7 +46,7 @@ module _ (n : ℕ) (b : List ℕ) (side d : ℕ) (t : List (List Bool)) (q : Squ
       → w ≡ (entry (set t (first b d) (set (getD t (first b d) []) (second b d) v)) (second b d) (first b d) || on)
       → (x y : ℕ)
       → entry (set (set t (first b d) (set (getD t (first b d) []) (second b d) v)) (second b d)
-        (set (getD (set t (first b d) (set (getD t (first b d) []) (second b d) v)) (second b d) []) (first b d) w)) x y
+      (set (getD (set t (first b d) (set (getD t (first b d) []) (second b d) v)) (second b d) []) (first b d) w)) x y
       ≡ associatedBelow b side (d + 1) x y
   unfolding associatedBelow associates namesPair
   associated-more on v w o e₁ e₂ x y =
@@ -85,9 +85,10 @@ left-associated b x y =
 pub fits-result : (b : List ℕ) → WellFormed b → (p i q : ℕ) → q < productions b → fits b p i q ≡ eqb (argument b p i) (result b q)
 unfolding fits isSort
 fits-result b w p i q l =
-    elim (ℕ-discrete (argument b p i) (result b q))
-    [ yes e ↦ rw (e, lt-ltb (result b q) (sorts b) (w .resultNamed q l)) refl
-    | no e ↦ rw (ne-eqb (argument b p i) (result b q) e) (and-false (ltb (argument b p i) (sorts b))) ]
+    elim (ℕ-discrete (argument b p i) (result b q)) [
+      | yes e ↦ rw (e, lt-ltb (result b q) (sorts b) (w .resultNamed q l)) refl
+      | no e ↦ rw (ne-eqb (argument b p i) (result b q) e) (and-false (ltb (argument b p i) (sorts b)))
+    ]
 
 module _ (b : List ℕ) (p i q : ℕ) where
   pub not-fitting : fits b p i q ≡ false → conflicts b p i q ≡ false

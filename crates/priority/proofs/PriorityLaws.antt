@@ -29,9 +29,10 @@ covers-here b d = rw (eq-eqb (first b d) (first b d) refl, eq-eqb (second b d) (
 covers-elsewhere : (b : List ℕ) (d x y : ℕ) → ((x ≡ first b d) × (y ≡ second b d) → ⊥) → covers b d higher x y ≡ false
 unfolding covers coversPair namesPair kindNumber
 covers-elsewhere b d x y h =
-    elim (ℕ-discrete (first b d) x)
-    [ yes e ↦ rw (eq-eqb (first b d) x e, ne-eqb (second b d) y (λ q. h (sym e, sym q))) (and-false (eqb (kind b d) 1))
-    | no e ↦ rw (ne-eqb (first b d) x e) (and-false (eqb (kind b d) 1)) ]
+    elim (ℕ-discrete (first b d) x) [
+      | yes e ↦ rw (eq-eqb (first b d) x e, ne-eqb (second b d) y (λ q. h (sym e, sym q))) (and-false (eqb (kind b d) 1))
+      | no e ↦ rw (ne-eqb (first b d) x e) (and-false (eqb (kind b d) 1))
+    ]
 
 -- The declarations below d, as a test.
 unfoldable pub declaredBelow : List ℕ → ℕ → ℕ → ℕ → Bool
@@ -60,10 +61,11 @@ module _ (n : ℕ) (b : List ℕ) (d : ℕ) (t : List (List Bool)) (q : Square n
       → (x y : ℕ) → entry (set t (first b d) (set (getD t (first b d) []) (second b d) v)) x y ≡ declaredBelow b (d + 1) x y
   declared-more v e x y =
       let away : ((x ≡ first b d) × (y ≡ second b d) → ⊥) → entry (set t (first b d) (set (getD t (first b d) []) (second b d) v)) x y ≡ declaredBelow b (d + 1) x y =
-              λ h. rw (entry-put-other n t (first b d) (second b d) v q hf hs x y h, next x y, covers-elsewhere b d x y h, now x y) (sym (or-false (declaredBelow b d x y))) in
-      elim (ℕ-discrete x (first b d))
-      [ yes e₁ ↦ elim (ℕ-discrete y (second b d)) [ yes e₂ ↦ rw (e₁, e₂) (here v e) | no h ↦ away (λ p. h (p .1)) ]
-      | no h ↦ away (λ p. h (p .0)) ]
+      λ h. rw (entry-put-other n t (first b d) (second b d) v q hf hs x y h, next x y, covers-elsewhere b d x y h, now x y) (sym (or-false (declaredBelow b d x y))) in
+      elim (ℕ-discrete x (first b d)) [
+        | yes e₁ ↦ elim (ℕ-discrete y (second b d)) [ yes e₂ ↦ rw (e₁, e₂) (here v e) | no h ↦ away (λ p. h (p .1)) ]
+        | no h ↦ away (λ p. h (p .0))
+      ]
 
 -- ---- only productions are higher or lower
 

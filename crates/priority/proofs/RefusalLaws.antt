@@ -19,7 +19,7 @@ use Rattle.grammar.specs.Layout.{byteAt, sorts, productions, classes, declarati
 use Rattle.grammar.specs.Limits.{sortLimit, productionLimit, classLimit, argumentLimit, rangeLimit, headerLength}
 use Rattle.grammar.specs.Verdict.{refuseIf, andThen}
 use Rattle.grammar.specs.declared.Verdict.{Verdict}
-use Rattle.grammar.specs.declared.Verdict.the-variants.{Accepted, Refused}
+use Rattle.grammar.specs.declared.Verdict.the-variants.{Refused, Accepted}
 use Rattle.priority.proofs.CheckLaws.{checked-parts, accepted-formed, accepted-acyclic}
 use Rattle.priority.proofs.PriorityLaws.{higher-chain}
 use Rattle.priority.specs.Check.{circle, circles, checked}

@@ -31,20 +31,20 @@ entry-none n x y =
 
 pub square-none : (n : ℕ) → Square n (replicate n (replicate n false))
 square-none n =
-    record
-    { rows = length-replicate n (replicate n false)
-    ; columns = λ x l. rw (getD-replicate n x (replicate n false) [] l) (length-replicate n false)
+    record {
+      rows = length-replicate n (replicate n false);
+      columns = λ x l. rw (getD-replicate n x (replicate n false) [] l) (length-replicate n false);
     }
 
 module _ (n : ℕ) (t : List (List Bool)) (f s : ℕ) (v : Bool) (q : Square n t) (hf : f < n) (hs : s < n) where
-
   pub square-put : Square n (set t f (set (getD t f []) s v))
   square-put =
-      record
-      { rows = length-set t f (set (getD t f []) s v) ∙ q .rows
-      ; columns = λ x l. elim (ℕ-discrete x f)
-        [ yes e ↦ rw (e, getD-set-same t f (set (getD t f []) s v) [] (omega (arith, q .rows))) (length-set (getD t f []) s v ∙ q .columns f hf)
-        | no e ↦ rw (getD-set-other t f x (set (getD t f []) s v) [] e) (q .columns x l) ]
+      record {
+        rows = length-set t f (set (getD t f []) s v) ∙ q .rows;
+        columns = λ x l. elim (ℕ-discrete x f) [
+          | yes e ↦ rw (e, getD-set-same t f (set (getD t f []) s v) [] (omega (arith, q .rows))) (length-set (getD t f []) s v ∙ q .columns f hf)
+          | no e ↦ rw (getD-set-other t f x (set (getD t f []) s v) [] e) (q .columns x l)
+        ];
       }
 
   pub entry-put-same : entry (set t f (set (getD t f []) s v)) f s ≡ v
@@ -56,20 +56,23 @@ module _ (n : ℕ) (t : List (List Bool)) (f s : ℕ) (v : Bool) (q : Square n t
   pub entry-put-other : (x y : ℕ) → ((x ≡ f) × (y ≡ s) → ⊥) → entry (set t f (set (getD t f []) s v)) x y ≡ entry t x y
   unfolding entry
   entry-put-other x y h =
-      elim (ℕ-discrete x f)
-      [ yes e ↦ rw (e, getD-set-same t f (set (getD t f []) s v) [] (omega (arith, q .rows))) (getD-set-other (getD t f []) s y v false (λ d. h (e, d)))
-      | no e ↦ rw (getD-set-other t f x (set (getD t f []) s v) [] e) refl ]
+      elim (ℕ-discrete x f) [
+        | yes e ↦ rw (e, getD-set-same t f (set (getD t f []) s v) [] (omega (arith, q .rows))) (getD-set-other (getD t f []) s y v false (λ d. h (e, d)))
+        | no e ↦ rw (getD-set-other t f x (set (getD t f []) s v) [] e) refl
+      ]
 
 -- An entry that takes up one more pair if `on` is set.
 pub entry-put-or : (n : ℕ) (t : List (List Bool)) (f s : ℕ) (v on : Bool) → Square n t → f < n → s < n → v ≡ (entry t f s || on)
     → (x y : ℕ) → entry (set t f (set (getD t f []) s v)) x y ≡ (entry t x y || on && (eqb f x && eqb s y))
 entry-put-or n t f s v on q hf hs e x y =
-    elim (ℕ-discrete f x)
-    [ yes a ↦ elim (ℕ-discrete s y)
-      [ yes c ↦ subst₂ (λ (k m : ℕ). entry (set t f (set (getD t f []) s v)) k m ≡ (entry t k m || on && (eqb f k && eqb s m))) a c
-        (rw (entry-put-same n t f s v q hf hs, eq-eqb f f refl, eq-eqb s s refl) (e ∙ ap (λ (z : Bool). entry t f s || z) (sym (and-true on))))
-      | no c ↦ away (λ h. c (sym (h .1))) (rw (ne-eqb s y c) (and-false (eqb f x))) ]
-    | no a ↦ away (λ h. a (sym (h .0))) (rw (ne-eqb f x a) refl) ]
+    elim (ℕ-discrete f x) [
+      | yes a ↦ elim (ℕ-discrete s y) [
+        | yes c ↦ subst₂ (λ (k m : ℕ). entry (set t f (set (getD t f []) s v)) k m ≡ (entry t k m || on && (eqb f k && eqb s m))) a c
+            (rw (entry-put-same n t f s v q hf hs, eq-eqb f f refl, eq-eqb s s refl) (e ∙ ap (λ (z : Bool). entry t f s || z) (sym (and-true on))))
+        | no c ↦ away (λ h. c (sym (h .1))) (rw (ne-eqb s y c) (and-false (eqb f x)))
+      ]
+      | no a ↦ away (λ h. a (sym (h .0))) (rw (ne-eqb f x a) refl)
+    ]
   where
     away : ((x ≡ f) × (y ≡ s) → ⊥) → (eqb f x && eqb s y) ≡ false → entry (set t f (set (getD t f []) s v)) x y ≡ (entry t x y || on && (eqb f x && eqb s y))
     away h z = rw (z, entry-put-other n t f s v q hf hs x y h) (sym (ap (λ (w : Bool). entry t x y || w) (and-false on) ∙ or-false (entry t x y)))

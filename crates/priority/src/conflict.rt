@@ -1,7 +1,20 @@
 // The conflict question (01's clash question): may production q stand as argument i of production p?
-use crate::{ConflictAnswer, LEFT, NONASSOC, RIGHT, check_grammar, either, no_pairs, priorities};
+use crate::ConflictAnswer;
+use crate::LEFT;
+use crate::NONASSOC;
+use crate::RIGHT;
+use crate::check_grammar;
+use crate::either;
+use crate::no_pairs;
+use crate::priorities;
 use grammar::Verdict;
-use grammar::layout::{argument, argument_count, byte_at, declaration_at, declaration_count, production_count, result};
+use grammar::layout::argument;
+use grammar::layout::argument_count;
+use grammar::layout::byte_at;
+use grammar::layout::declaration_at;
+use grammar::layout::declaration_count;
+use grammar::layout::production_count;
+use grammar::layout::result;
 use grammar::limits::PRODUCTION_LIMIT;
 ghost use mathlib.Core.Path.{_≡_};
 ghost use mathlib.Core.Bool.{Bool, true, cond, _||_};
@@ -46,7 +59,13 @@ fn answer(book: &[u8], p: usize, i: usize, q: usize) -> ConflictAnswer
 }
 
 // The three lines of 01 in order, over the closed priorities.
-fn is_conflict(higher: [[bool; PRODUCTION_LIMIT]; PRODUCTION_LIMIT], book: &[u8], p: usize, i: usize, q: usize) -> bool
+fn is_conflict(
+    higher: [[bool; PRODUCTION_LIMIT]; PRODUCTION_LIMIT],
+    book: &[u8],
+    p: usize,
+    i: usize,
+    q: usize,
+) -> bool
     requires { ⌜ WellFormed (now book) ⌝ }
     requires { ⌜ ((x y : ℕ) → (entry higher x y ≡ true) ↔ Higher (now book) x y) ⌝ }
     requires { ⌜ (p < productions (now book)) × (i < argumentCount (now book) p) × (q < productions (now book)) ⌝ }

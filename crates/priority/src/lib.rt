@@ -2,8 +2,12 @@
 pub mod conflict;
 
 use grammar::Verdict;
-use grammar::check::{check_bodies, check_frame};
-use grammar::layout::{byte_at, declaration_at, declaration_count, production_count};
+use grammar::check::check_bodies;
+use grammar::check::check_frame;
+use grammar::layout::byte_at;
+use grammar::layout::declaration_at;
+use grammar::layout::declaration_count;
+use grammar::layout::production_count;
 use grammar::limits::PRODUCTION_LIMIT;
 ghost use mathlib.Core.Path.{_≡_};
 ghost use mathlib.Core.Bool.{Bool, true, false, _&&_, _||_};
@@ -20,7 +24,9 @@ ghost use Rattle.priority.specs.Check.{checked, onDiagonal};
 
 // 01's numbers of the kinds of declaration.
 pub const HIGHER: usize = 1;
+
 pub const LEFT: usize = 2;
+
 pub const RIGHT: usize = 3;
 // "Not together".
 pub const NONASSOC: usize = 4;
@@ -110,7 +116,9 @@ pub fn both(a: bool, b: bool) -> bool
 }
 
 // The closure of a table: an entry is true exactly if a chain of true entries leads there.
-pub fn closed(table: [[bool; PRODUCTION_LIMIT]; PRODUCTION_LIMIT]) -> [[bool; PRODUCTION_LIMIT]; PRODUCTION_LIMIT]
+pub fn closed(
+    table: [[bool; PRODUCTION_LIMIT]; PRODUCTION_LIMIT],
+) -> [[bool; PRODUCTION_LIMIT]; PRODUCTION_LIMIT]
     ensures { λ r. ⌜ ((x y : ℕ) → (entry r x y ≡ true) ↔ Chain (entry table) x y) ⌝ }
 {
     let mut closure = table;
@@ -124,7 +132,10 @@ pub fn closed(table: [[bool; PRODUCTION_LIMIT]; PRODUCTION_LIMIT]) -> [[bool; PR
 }
 
 // Chains that may also pass through `middle`.
-fn with_middle(table: [[bool; PRODUCTION_LIMIT]; PRODUCTION_LIMIT], middle: usize) -> [[bool; PRODUCTION_LIMIT]; PRODUCTION_LIMIT]
+fn with_middle(
+    table: [[bool; PRODUCTION_LIMIT]; PRODUCTION_LIMIT],
+    middle: usize,
+) -> [[bool; PRODUCTION_LIMIT]; PRODUCTION_LIMIT]
     requires { ⌜ middle < 64 ⌝ }
     ensures { λ r. ⌜ ((x y : ℕ) → entry r x y ≡ (entry table x y || entry table x middle && entry table middle y)) ⌝ }
 {
@@ -139,7 +150,11 @@ fn with_middle(table: [[bool; PRODUCTION_LIMIT]; PRODUCTION_LIMIT], middle: usiz
 }
 
 // A row, and where `on` is set the other row with it.
-pub fn joined(row: [bool; PRODUCTION_LIMIT], on: bool, other: [bool; PRODUCTION_LIMIT]) -> [bool; PRODUCTION_LIMIT]
+pub fn joined(
+    row: [bool; PRODUCTION_LIMIT],
+    on: bool,
+    other: [bool; PRODUCTION_LIMIT],
+) -> [bool; PRODUCTION_LIMIT]
     ensures { λ r. ⌜ ((y : ℕ) → getD r y false ≡ (getD row y false || on && getD other y false)) ⌝ }
 {
     let mut out = row;

@@ -1,9 +1,8 @@
 -- Parse trees (000, Definition 2.2; 01's trees and readings), what they spell, and their listings.
-use Prim.Native.Nat.{ℕ, zero, suc, _+_}
+use Prim.Native.Nat.{ℕ, _+_}
 use mathlib.Core.List.{List, [], _∷_, _++_}
 
 infixl 60 _▷_
-
 -- A tree is a character, or a production with a list of trees, one to an argument. The list grows at its end: f ▷ t is f with t behind it.
 mutual
   pub data Tree : Type 0 where

@@ -20,14 +20,6 @@ use Rattle.grammar.specs.Layout.{productions}
 use Rattle.priority.specs.Conflict.{fits}
 use Rattle.ccg.proofs.write_accepted.Statement.{statement}
 use Rattle.ccg.proofs.write_accepted.Tie as tie
-use Rattle.ccg.proofs.write_accepted.Reads as reads
-use Rattle.ccg.proofs.write_accepted.Lts as lts
-use Rattle.ccg.proofs.tables.flatten.Reads as flatten-reads
-use Rattle.ccg.proofs.text.put_grammar.Reads as put-grammar-reads
-use Rattle.ccg.proofs.zero_chars.Reads as zero-chars-reads
-use Rattle.ccg.proofs.zero_counts.Reads as zero-counts-reads
-use Rattle.ccg.proofs.zero_subs.Reads as zero-subs-reads
-use Rattle.grammar.proofs.layout.production_count.Reads as production-count-reads
 
 abbrev textOf : List ℕ → List ℕ
 textOf b = grammarText (flatGrammar b)
@@ -93,9 +85,10 @@ returns c =
     let text = text-is b _ _ _ (c .before .before .before .before .before .before .before .before .before .before .before .before .before .before .before .before .before .before .before .before .before .pre) bytes (c .before .before .before .before .before .before .before .before .before .before .before .before .flatten .ensures) (c .before .before .before .before .before .before .before .before .production-count .result) (c .before .before .before .before .before .before .before .before .production-count .ensures) in
     let same = unchanged _ _ (c .before .before .before .before .before .before .before .before .before .before .before .before .before .before .before .before .before .before .before .before .before .args .out .now) _ (c .before .before .before .put-grammar .ensures) in
     let needed : c .before .before .before .put-grammar .result ≡ length (textOf b) = c .before .before .before .put-grammar .ensures .next ∙ zero-add _ ∙ ap length text in
-    let long : length (c .before .before .before .before .before .before .before .before .before .before .before .before .before .before .before .before .before .before .before .before .before .args .out .now) < length (textOf b) = omega (arith, c .if1 .taken, ap (length {A = ℕ}) same) in
-    (rw (lt-leb (length (textOf b)) (length (c .before .before .before .before .before .before .before .before .before .before .before .before .before .before .before .before .before .before .before .before .before .args .out .now)) long) (ap (λ (n : ℕ). Refused 21 n) needed)
-    , rw (lt-leb (length (textOf b)) (length (c .before .before .before .before .before .before .before .before .before .before .before .before .before .before .before .before .before .before .before .before .before .args .out .now)) long) same)
+    let long : length (c .before .before .before .before .before .before .before .before .before .before .before .before .before .before .before .before .before .before .before .before .before .args .out .now) < length (textOf b) = omega (arith, c .if1 .taken, ap (length {A = ℕ}) same) in (
+      rw (lt-leb (length (textOf b)) (length (c .before .before .before .before .before .before .before .before .before .before .before .before .before .before .before .before .before .before .before .before .before .args .out .now)) long) (ap (λ (n : ℕ). Refused 21 n) needed),
+      rw (lt-leb (length (textOf b)) (length (c .before .before .before .before .before .before .before .before .before .before .before .before .before .before .before .before .before .before .before .before .before .args .out .now)) long) same,
+    )
 
 slice-aggregate-put-grammar-5 : tie.Need-slice-aggregate-put-grammar-5
 slice-aggregate-put-grammar-5 c = search needs
@@ -122,9 +115,10 @@ returns-2 c =
     let needed : c .before .before .before .before .before .before .before .before .before .before .put-grammar .result ≡ length (textOf b) = c .before .before .before .before .before .before .before .before .before .before .put-grammar .ensures .next ∙ zero-add _ ∙ ap length text in
     let fits : length (textOf b) ≤ length (c .before .before .before .before .before .before .before .before .before .before .before .before .before .before .before .before .before .before .before .before .before .before .before .before .before .before .before .before .args .out .now) = omega (arith, c .before .before .before .before .before .before .before .if1 .left, ap (length {A = ℕ}) same) in
     let put = put-same _ _ _ _ _ _ text (c .before .before .put-grammar2 .ensures) in
-    let put₀ = subst (λ (l : List ℕ). Put (textOf b) l 0 (c .before .before .put-grammar2 .last .0) (c .before .before .put-grammar2 .result)) same put in
-    (rw (le-leb (length (textOf b)) (length (c .before .before .before .before .before .before .before .before .before .before .before .before .before .before .before .before .before .before .before .before .before .before .before .before .before .before .before .before .args .out .now)) fits) (ap (λ (n : ℕ). Written n) needed)
-    , rw (le-leb (length (textOf b)) (length (c .before .before .before .before .before .before .before .before .before .before .before .before .before .before .before .before .before .before .before .before .before .before .before .before .before .before .before .before .args .out .now)) fits) (put-start (textOf b) (c .before .before .before .before .before .before .before .before .before .before .before .before .before .before .before .before .before .before .before .before .before .before .before .before .before .before .before .before .args .out .now) _ _ put₀ fits))
+    let put₀ = subst (λ (l : List ℕ). Put (textOf b) l 0 (c .before .before .put-grammar2 .last .0) (c .before .before .put-grammar2 .result)) same put in (
+      rw (le-leb (length (textOf b)) (length (c .before .before .before .before .before .before .before .before .before .before .before .before .before .before .before .before .before .before .before .before .before .before .before .before .before .before .before .before .args .out .now)) fits) (ap (λ (n : ℕ). Written n) needed),
+      rw (le-leb (length (textOf b)) (length (c .before .before .before .before .before .before .before .before .before .before .before .before .before .before .before .before .before .before .before .before .before .before .before .before .before .before .before .before .args .out .now)) fits) (put-start (textOf b) (c .before .before .before .before .before .before .before .before .before .before .before .before .before .before .before .before .before .before .before .before .before .before .before .before .before .before .before .before .args .out .now) _ _ put₀ fits),
+    )
 
 pub write-accepted-spec : {M : Type 1} → statement M
 write-accepted-spec =

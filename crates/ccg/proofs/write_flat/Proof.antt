@@ -5,10 +5,6 @@ use Rattle.ccg.specs.Text.{flatAnswer}
 use Rattle.priority.proofs.CheckLaws.{accepted-formed}
 use Rattle.ccg.proofs.write_flat.Statement.{statement}
 use Rattle.ccg.proofs.write_flat.Tie as tie
-use Rattle.ccg.proofs.write_flat.Reads as reads
-use Rattle.ccg.proofs.write_flat.Lts as lts
-use Rattle.ccg.proofs.write_accepted.Reads as write-accepted-reads
-use Rattle.priority.proofs.check_grammar.Reads as check-grammar-reads
 
 check-grammar-requires : tie.Need-check-grammar-requires
 check-grammar-requires c κs = search needs
@@ -24,14 +20,14 @@ write-accepted-requires c κs = accepted-formed (c .before .before .before .befo
 
 returns : tie.Need-returns
 unfolding flatAnswer
-returns c =     (rw (← (c .before .before .before .check-grammar .ensures), c .before .verdict .given .1) refl, rw (← (c .before .before .before .check-grammar .ensures), c .before .verdict .given .1) refl)
+returns c = (rw (← (c .before .before .before .check-grammar .ensures), c .before .verdict .given .1) refl, rw (← (c .before .before .before .check-grammar .ensures), c .before .verdict .given .1) refl)
 
 same-length : tie.Need-same-length
 same-length c = search needs
 
 returns-2 : tie.Need-returns-2
 unfolding flatAnswer
-returns-2 c =     (rw (← (c .before .before .before .before .before .before .check-grammar .ensures), c .before .before .before .before .enum-told .given .1) (c .before .before .write-accepted .ensures .0), rw (← (c .before .before .before .before .before .before .check-grammar .ensures), c .before .before .before .before .enum-told .given .1) (c .before .before .write-accepted .ensures .1))
+returns-2 c = (rw (← (c .before .before .before .before .before .before .check-grammar .ensures), c .before .before .before .before .enum-told .given .1) (c .before .before .write-accepted .ensures .0), rw (← (c .before .before .before .before .before .before .check-grammar .ensures), c .before .before .before .before .enum-told .given .1) (c .before .before .write-accepted .ensures .1))
 
 pub write-flat-spec : {M : Type 1} → statement M
 write-flat-spec =

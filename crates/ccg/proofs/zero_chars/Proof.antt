@@ -3,8 +3,6 @@ use Rattle.ccg.proofs.TableLaws.{all-zero}
 use Rattle.ccg.specs.Tables.{charWords}
 use Rattle.ccg.proofs.zero_chars.Statement.{statement}
 use Rattle.ccg.proofs.zero_chars.Tie as tie
-use Rattle.ccg.proofs.zero_chars.Reads as reads
-use Rattle.ccg.proofs.zero_chars.Lts as lts
 
 returns : tie.Need-returns
 returns c = all-zero charWords

@@ -2,8 +2,6 @@
 use Rattle.ccg.proofs.TableLaws.{all-zero}
 use Rattle.ccg.proofs.zero_counts.Statement.{statement}
 use Rattle.ccg.proofs.zero_counts.Tie as tie
-use Rattle.ccg.proofs.zero_counts.Reads as reads
-use Rattle.ccg.proofs.zero_counts.Lts as lts
 
 returns : tie.Need-returns
 returns c = all-zero 64

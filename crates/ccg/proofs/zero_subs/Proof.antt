@@ -3,8 +3,6 @@ use Rattle.ccg.proofs.TableLaws.{all-zero}
 use Rattle.ccg.specs.Tables.{subBytes}
 use Rattle.ccg.proofs.zero_subs.Statement.{statement}
 use Rattle.ccg.proofs.zero_subs.Tie as tie
-use Rattle.ccg.proofs.zero_subs.Reads as reads
-use Rattle.ccg.proofs.zero_subs.Lts as lts
 
 returns : tie.Need-returns
 returns c = all-zero subBytes

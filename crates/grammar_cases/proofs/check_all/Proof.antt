@@ -4,11 +4,6 @@ use native.Mathlib.Omega.{arith}
 use lib.ListN.{length}
 use Rattle.grammar_cases.proofs.check_all.Statement.{statement}
 use Rattle.grammar_cases.proofs.check_all.Tie as tie
-use Rattle.grammar_cases.proofs.check_all.Reads as reads
-use Rattle.grammar_cases.proofs.check_all.Lts as lts
-use Rattle.grammar_cases.proofs.print.Reads as print-reads
-use Rattle.priority.proofs.check_grammar.Reads as check-grammar-reads
-use Rattle.records.proofs.field_at.Reads as field-at-reads
 
 abbrev Inv-loop : tie.InvT-loop
 Inv-loop input at₀ at = at ≤ length input

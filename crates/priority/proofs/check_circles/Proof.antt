@@ -9,8 +9,6 @@ use Rattle.priority.specs.Chain.{entry}
 use Rattle.priority.specs.Check.{onDiagonal}
 use Rattle.priority.proofs.check_circles.Statement.{statement}
 use Rattle.priority.proofs.check_circles.Tie as tie
-use Rattle.priority.proofs.check_circles.Reads as reads
-use Rattle.priority.proofs.check_circles.Lts as lts
 
 abbrev Inv-loop : tie.InvT-loop
 Inv-loop count table p₀ p = (p ≤ count) × (firstRefusal p (onDiagonal table) ≡ Accepted)
@@ -32,7 +30,7 @@ index-2-if1 c = omega arith
 
 returns : tie.Need-returns Inv-loop μ-loop
 unfolding onDiagonal entry
-returns c =     sym (first-found (onDiagonal (c .before .before .before .before .args .t1)) (c .before .before .before .loop .p) _ 9 (c .before .before .before .loop .p) (c .before .before .loop-test .taken) (c .before .before .before .loop .inv .1) (rw (c .if1 .taken) refl))
+returns c = sym (first-found (onDiagonal (c .before .before .before .before .args .t1)) (c .before .before .before .loop .p) _ 9 (c .before .before .before .loop .p) (c .before .before .loop-test .taken) (c .before .before .before .loop .inv .1) (rw (c .if1 .taken) refl))
 
 add-p : tie.Need-add-p Inv-loop μ-loop
 add-p c = omega arith
@@ -42,7 +40,7 @@ loop-less c = omega arith
 
 loop-again : tie.Need-loop-again Inv-loop μ-loop
 unfolding onDiagonal entry
-loop-again c =     (omega arith, first-more (onDiagonal (c .before .before .before .before .args .t1)) (c .before .before .before .loop .p) (c .before .before .before .loop .inv .1) (rw (c .if1 .left) refl))
+loop-again c = (omega arith, first-more (onDiagonal (c .before .before .before .before .args .t1)) (c .before .before .before .loop .p) (c .before .before .before .loop .inv .1) (rw (c .if1 .left) refl))
 
 returns-2 : tie.Need-returns-2 Inv-loop μ-loop
 returns-2 c = first-done (onDiagonal (c .before .before .args .t1)) _ _ (c .before .loop .inv .1) (omega arith)

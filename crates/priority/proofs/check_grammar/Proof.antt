@@ -12,13 +12,6 @@ use Rattle.priority.proofs.PriorityLaws.{diagonal-circle}
 use Rattle.priority.specs.Check.{circle, onDiagonal}
 use Rattle.priority.proofs.check_grammar.Statement.{statement}
 use Rattle.priority.proofs.check_grammar.Tie as tie
-use Rattle.priority.proofs.check_grammar.Reads as reads
-use Rattle.priority.proofs.check_grammar.Lts as lts
-use Rattle.grammar.proofs.check.check_bodies.Reads as check-bodies-reads
-use Rattle.grammar.proofs.check.check_frame.Reads as check-frame-reads
-use Rattle.grammar.proofs.layout.production_count.Reads as production-count-reads
-use Rattle.priority.proofs.check_circles.Reads as check-circles-reads
-use Rattle.priority.proofs.priorities.Reads as priorities-reads
 
 check-frame-requires : tie.Need-check-frame-requires
 check-frame-requires c κs = search needs

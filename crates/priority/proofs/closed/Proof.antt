@@ -14,14 +14,9 @@ use Rattle.priority.proofs.TableLaws.{entry-out}
 use Rattle.priority.specs.Chain.{through, entry}
 use Rattle.priority.proofs.closed.Statement.{statement}
 use Rattle.priority.proofs.closed.Tie as tie
-use Rattle.priority.proofs.closed.Reads as reads
-use Rattle.priority.proofs.closed.Lts as lts
-use Rattle.priority.proofs.with_middle.Reads as with-middle-reads
 
 in-table : (t : List (List Bool)) → length t ≡ 64 → (x y : ℕ) → entry t x y ≡ true → x < 64
 in-table t e x y h = by-cases (decLt x 64) (λ l. l) (λ n. not-both (entry t x y) h (entry-out t x y (omega arith)))
-
-
 
 abbrev Inv-loop : tie.InvT-loop
 Inv-loop closure₀ middle₀ closure middle = ((x y : ℕ) → entry closure x y ≡ through (entry closure₀) middle x y) × (middle ≤ 64)

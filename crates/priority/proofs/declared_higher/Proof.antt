@@ -14,13 +14,6 @@ use Rattle.priority.proofs.TableLaws.{square-put}
 use Rattle.priority.specs.Chain.{entry, Square}
 use Rattle.priority.proofs.declared_higher.Statement.{statement}
 use Rattle.priority.proofs.declared_higher.Tie as tie
-use Rattle.priority.proofs.declared_higher.Reads as reads
-use Rattle.priority.proofs.declared_higher.Lts as lts
-use Rattle.grammar.proofs.layout.byte_at.Reads as byte-at-reads
-use Rattle.grammar.proofs.layout.declaration_at.Reads as declaration-at-reads
-use Rattle.grammar.proofs.layout.declaration_count.Reads as declaration-count-reads
-use Rattle.priority.proofs.either.Reads as either-reads
-use Rattle.priority.proofs.no_pairs.Reads as no-pairs-reads
 
 record Taken (b : List ℕ) (count at d : ℕ) (table : List (List Bool)) : Type 0 where
   square : Square 64 table
@@ -46,9 +39,12 @@ declaration-at-requires c κs = (bodies-in (c .before .before .before .args .boo
 loop-holds : tie.Need-loop-holds Inv-loop μ-loop
 loop-holds c =
     let b = c .before .before .before .before .args .book .now in
-    record
-    { square = c .before .before .no-pairs .ensures .0; place = c .declaration-at .ensures; within = omega arith
-    ; pairs = λ x y. c .before .before .no-pairs .ensures .1 x y ∙ sym (declared-none b x y) }
+    record {
+      square = c .before .before .no-pairs .ensures .0;
+      place = c .declaration-at .ensures;
+      within = omega arith;
+      pairs = λ x y. c .before .before .no-pairs .ensures .1 x y ∙ sym (declared-none b x y);
+    }
 
 add-byte-at : tie.Need-add-byte-at Inv-loop μ-loop
 add-byte-at c = omega (arith, c .before .loop .inv .place, declaration-in (c .before .before .before .before .before .before .args .book .now) (c .before .before .before .before .before .before .pre .framed) (c .before .loop .d) (omega (arith, c .before .before .before .declaration-count .ensures)))
@@ -119,11 +115,12 @@ loop-again c =
     let v : c .either .result ≡ (getD (getD (c .before .before .before .before .before .before .loop .table) (first b d) []) (second b d) false || eqb (kind b d) 1) = rw (f, s, k) at (c .either .ensures) in
     let h : d < declarations b = omega (arith, c .before .before .before .before .before .before .before .before .declaration-count .ensures) in
     rw (f, s)
-    (record
-    { square = square-put 64 (c .before .before .before .before .before .before .loop .table) (first b d) (second b d) (c .either .result) (i .square) (small-first b (c .before .before .before .before .before .before .before .before .before .before .before .pre) d h) (small-second b (c .before .before .before .before .before .before .before .before .before .before .before .pre) d h)
-    ; place = omega (arith, i .place, declaration-next b d)
-    ; within = omega arith
-    ; pairs = declared-more 64 b d (c .before .before .before .before .before .before .loop .table) (i .square) (small-first b (c .before .before .before .before .before .before .before .before .before .before .before .pre) d h) (small-second b (c .before .before .before .before .before .before .before .before .before .before .before .pre) d h) (i .pairs) (c .either .result) v })
+    (record {
+      square = square-put 64 (c .before .before .before .before .before .before .loop .table) (first b d) (second b d) (c .either .result) (i .square) (small-first b (c .before .before .before .before .before .before .before .before .before .before .before .pre) d h) (small-second b (c .before .before .before .before .before .before .before .before .before .before .before .pre) d h);
+      place = omega (arith, i .place, declaration-next b d);
+      within = omega arith;
+      pairs = declared-more 64 b d (c .before .before .before .before .before .before .loop .table) (i .square) (small-first b (c .before .before .before .before .before .before .before .before .before .before .before .pre) d h) (small-second b (c .before .before .before .before .before .before .before .before .before .before .before .pre) d h) (i .pairs) (c .either .result) v;
+    })
 
 returns : tie.Need-returns Inv-loop μ-loop
 returns c x y = c .before .loop .inv .pairs x y ∙ declared-all (c .before .before .before .before .before .before .args .book .now) (c .before .loop .d) x y (omega (arith, c .before .before .before .declaration-count .ensures))

@@ -11,10 +11,6 @@ use borrow.Author.Needs.{needs}
 use Rattle.common.proofs.FillLaws.{Filled, filled-none, filled-more}
 use Rattle.priority.proofs.joined.Statement.{statement}
 use Rattle.priority.proofs.joined.Tie as tie
-use Rattle.priority.proofs.joined.Reads as reads
-use Rattle.priority.proofs.joined.Lts as lts
-use Rattle.priority.proofs.both.Reads as both-reads
-use Rattle.priority.proofs.either.Reads as either-reads
 
 -- what stands at place k of the joined row
 Joined : List Bool → Bool → List Bool → ℕ → Bool → Type 0

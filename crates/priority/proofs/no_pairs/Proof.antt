@@ -2,8 +2,6 @@
 use Rattle.priority.proofs.TableLaws.{entry-none, square-none}
 use Rattle.priority.proofs.no_pairs.Statement.{statement}
 use Rattle.priority.proofs.no_pairs.Tie as tie
-use Rattle.priority.proofs.no_pairs.Reads as reads
-use Rattle.priority.proofs.no_pairs.Lts as lts
 
 returns : tie.Need-returns
 returns c = (square-none 64, entry-none 64)

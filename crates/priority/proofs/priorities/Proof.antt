@@ -4,10 +4,6 @@ use borrow.Author.Needs.{needs}
 use Rattle.priority.proofs.ChainLaws.{chain-map}
 use Rattle.priority.proofs.priorities.Statement.{statement}
 use Rattle.priority.proofs.priorities.Tie as tie
-use Rattle.priority.proofs.priorities.Reads as reads
-use Rattle.priority.proofs.priorities.Lts as lts
-use Rattle.priority.proofs.closed.Reads as closed-reads
-use Rattle.priority.proofs.declared_higher.Reads as declared-higher-reads
 
 declared-higher-requires : tie.Need-declared-higher-requires
 declared-higher-requires c κs = search needs

@@ -13,9 +13,6 @@ use Rattle.priority.proofs.TableLaws.{entry-out}
 use Rattle.priority.specs.Chain.{entry}
 use Rattle.priority.proofs.with_middle.Statement.{statement}
 use Rattle.priority.proofs.with_middle.Tie as tie
-use Rattle.priority.proofs.with_middle.Reads as reads
-use Rattle.priority.proofs.with_middle.Lts as lts
-use Rattle.priority.proofs.joined.Reads as joined-reads
 
 -- what row x of the wider table holds
 Passes : List (List Bool) → ℕ → ℕ → List Bool → Type 0

@@ -5,16 +5,13 @@ use borrow.Author.Needs.{needs}
 use Rattle.records.specs.Fields.{fieldSize, fieldStart, fieldEnd}
 use Rattle.records.proofs.field_at.Statement.{statement}
 use Rattle.records.proofs.field_at.Tie as tie
-use Rattle.records.proofs.field_at.Reads as reads
-use Rattle.records.proofs.field_at.Lts as lts
-use Rattle.records.proofs.wide.Reads as wide-reads
 
 sub-left : tie.Need-sub-left
 sub-left c = search needs
 
 returns : tie.Need-returns
 unfolding fieldStart fieldEnd
-returns c =     ((omega arith, omega arith), (omega arith, omega arith, omega arith))
+returns c = ((omega arith, omega arith), (omega arith, omega arith, omega arith))
 
 shared-slice-read-wide : tie.Need-shared-slice-read-wide
 shared-slice-read-wide c = search needs
@@ -42,7 +39,7 @@ add-t16 c = search needs
 
 returns-2 : tie.Need-returns-2
 unfolding fieldStart fieldEnd fieldSize
-returns-2 c =     ((omega arith, omega (arith, c .before .before .before .wide .ensures, c .before .wide2 .ensures)), (omega arith, omega arith, omega arith))
+returns-2 c = ((omega arith, omega (arith, c .before .before .before .wide .ensures, c .before .wide2 .ensures)), (omega arith, omega arith, omega arith))
 
 add-t15 : tie.Need-add-t15
 add-t15 c = search needs
@@ -55,7 +52,7 @@ add-t12 c = search needs
 
 returns-3 : tie.Need-returns-3
 unfolding fieldStart fieldEnd fieldSize
-returns-3 c =     ((omega arith, omega (arith, c .before .before .before .wide .ensures, c .before .wide2 .ensures)), (omega arith, omega arith, omega arith))
+returns-3 c = ((omega arith, omega (arith, c .before .before .before .wide .ensures, c .before .wide2 .ensures)), (omega arith, omega arith, omega arith))
 
 pub field-at-spec : {M : Type 1} → statement M
 field-at-spec =

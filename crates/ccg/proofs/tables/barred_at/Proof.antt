@@ -3,10 +3,6 @@ use mathlib.Core.Path.{refl, _∙_}
 use borrow.Author.Needs.{needs}
 use Rattle.ccg.proofs.tables.barred_at.Statement.{statement}
 use Rattle.ccg.proofs.tables.barred_at.Tie as tie
-use Rattle.ccg.proofs.tables.barred_at.Reads as reads
-use Rattle.ccg.proofs.tables.barred_at.Lts as lts
-use Rattle.priority.proofs.both.Reads as both-reads
-use Rattle.priority.proofs.joined.Reads as joined-reads
 
 both-requires : tie.Need-both-requires
 both-requires c κs = search needs
@@ -24,7 +20,7 @@ joined-requires-2 : tie.Need-joined-requires-2
 joined-requires-2 c κs = search needs
 
 returns : tie.Need-returns
-returns c q =     c .joined2 .ensures q ∙ rw (c .before .before .joined .ensures q, c .before .before .before .both .ensures, c .before .both2 .ensures) refl
+returns c q = c .joined2 .ensures q ∙ rw (c .before .before .joined .ensures q, c .before .before .before .both .ensures, c .before .both2 .ensures) refl
 
 pub barred-at-spec : {M : Type 1} → statement M
 barred-at-spec =

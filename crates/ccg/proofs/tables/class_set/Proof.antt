@@ -13,12 +13,6 @@ use Rattle.grammar.proofs.FormedLaws.{class-in, bodies-in}
 use Rattle.grammar.specs.Layout.{rangeCount, classAt, low, high}
 use Rattle.ccg.proofs.tables.class_set.Statement.{statement}
 use Rattle.ccg.proofs.tables.class_set.Tie as tie
-use Rattle.ccg.proofs.tables.class_set.Reads as reads
-use Rattle.ccg.proofs.tables.class_set.Lts as lts
-use Rattle.charset.proofs.CharSet.empty.Reads as empty-reads
-use Rattle.charset.proofs.CharSet.insert_range.Reads as insert-range-reads
-use Rattle.grammar.proofs.layout.class_at.Reads as class-at-reads
-use Rattle.grammar.proofs.layout.range_count.Reads as range-count-reads
 
 -- the characters of the ranges below r
 inRanges : List ℕ → ℕ → ℕ → ℕ → Bool
@@ -54,7 +48,7 @@ class-at-requires c κs = (bodies-in (c .before .before .before .args .book .now
 
 loop-holds : tie.Need-loop-holds Inv-loop μ-loop
 unfolding inRanges
-loop-holds c =     (omega arith, λ x l. c .before .before .empty .ensures x l ∙ sym (any-none (λ j. inRange (low (c .before .before .before .before .args .book .now) (c .before .before .before .before .args .k) j) (high (c .before .before .before .before .args .book .now) (c .before .before .before .before .args .k) j) x)))
+loop-holds c = (omega arith, λ x l. c .before .before .empty .ensures x l ∙ sym (any-none (λ j. inRange (low (c .before .before .before .before .args .book .now) (c .before .before .before .before .args .k) j) (high (c .before .before .before .before .args .book .now) (c .before .before .before .before .args .k) j) x)))
 
 mul-insert-range : tie.Need-mul-insert-range Inv-loop μ-loop
 mul-insert-range c = omega (arith, c .before .before .before .range-count .ensures, c .before .before .class-at .ensures, class-in (c .before .before .before .before .before .before .args .book .now) (c .before .before .before .before .before .before .pre .0 .framed) (c .before .before .before .before .before .before .args .k) (c .before .before .before .before .before .before .pre .1))

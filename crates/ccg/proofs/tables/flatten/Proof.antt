@@ -8,15 +8,6 @@ use Rattle.grammar.proofs.LayoutLaws.{production-first, production-next}
 use Rattle.grammar.specs.Layout.{sorts, productions, argumentCount, productionAt}
 use Rattle.ccg.proofs.tables.flatten.Statement.{statement}
 use Rattle.ccg.proofs.tables.flatten.Tie as tie
-use Rattle.ccg.proofs.tables.flatten.Reads as reads
-use Rattle.ccg.proofs.tables.flatten.Lts as lts
-use Rattle.ccg.proofs.tables.results.Reads as results-reads
-use Rattle.ccg.proofs.tables.write_production.Reads as write-production-reads
-use Rattle.grammar.proofs.layout.argument_count.Reads as argument-count-reads
-use Rattle.grammar.proofs.layout.bodies_at.Reads as bodies-at-reads
-use Rattle.grammar.proofs.layout.production_count.Reads as production-count-reads
-use Rattle.priority.proofs.conflict.associations.Reads as associations-reads
-use Rattle.priority.proofs.priorities.Reads as priorities-reads
 
 abbrev Inv-loop : tie.InvT-loop
 Inv-loop book counts₀ chars₀ subs₀ above firsts lasts sorts count at₀ p₀ counts chars subs at p = ProductionsWritten book p counts chars subs × ((at ≡ productionAt book p) × (p ≤ count))
@@ -66,7 +57,7 @@ array-copy-out-write-production-3 : tie.Need-array-copy-out-write-production-3 I
 array-copy-out-write-production-3 c = omega (arith, c .before .before .before .before .before .production-count .ensures, c .before .before .before .before .before .before .before .before .before .before .before .before .before .before .pre .0 .framed .fewProductions)
 
 write-production-requires : tie.Need-write-production-requires Inv-loop μ-loop
-write-production-requires c κs =     (c .before .before .before .before .before .before .before .before .before .before .before .before .before .before .before .before .before .pre .0, ((omega (arith, c .before .before .before .before .before .before .before .before .production-count .ensures), c .before .before .before .before .before .before .loop .inv .1 .0), ((c .before .before .before .before .before .before .loop .inv .0 .charsLong, c .before .before .before .before .before .before .loop .inv .0 .subsLong), (barring-rows (c .before .before .before .before .before .before .before .before .before .before .before .before .before .before .before .before .before .args .book .now) (c .before .before .before .before .before .before .before .before .before .before .before .before .before .before .before .before .before .pre .0) (c .before .before .before .before .before .before .before .before .before .before .before .before .priorities .result) (c .before .before .before .before .before .before .before .before .before .before .before .associations .result) (c .before .before .before .before .before .before .before .before .before .before .associations2 .result) (c .before .before .before .before .before .before .before .before .before .before .before .before .priorities .ensures) (c .before .before .before .before .before .before .before .before .before .before .before .associations .ensures) (c .before .before .before .before .before .before .before .before .before .before .associations2 .ensures) (c .before .before .before .before .before .before .loop .p), c .before .before .before .before .before .before .before .before .before .results .ensures))))
+write-production-requires c κs = (c .before .before .before .before .before .before .before .before .before .before .before .before .before .before .before .before .before .pre .0, ((omega (arith, c .before .before .before .before .before .before .before .before .production-count .ensures), c .before .before .before .before .before .before .loop .inv .1 .0), ((c .before .before .before .before .before .before .loop .inv .0 .charsLong, c .before .before .before .before .before .before .loop .inv .0 .subsLong), (barring-rows (c .before .before .before .before .before .before .before .before .before .before .before .before .before .before .before .before .before .args .book .now) (c .before .before .before .before .before .before .before .before .before .before .before .before .before .before .before .before .before .pre .0) (c .before .before .before .before .before .before .before .before .before .before .before .before .priorities .result) (c .before .before .before .before .before .before .before .before .before .before .before .associations .result) (c .before .before .before .before .before .before .before .before .before .before .associations2 .result) (c .before .before .before .before .before .before .before .before .before .before .before .before .priorities .ensures) (c .before .before .before .before .before .before .before .before .before .before .before .associations .ensures) (c .before .before .before .before .before .before .before .before .before .before .associations2 .ensures) (c .before .before .before .before .before .before .loop .p), c .before .before .before .before .before .before .before .before .before .results .ensures))))
 
 add-counts : tie.Need-add-counts Inv-loop μ-loop
 add-counts c = omega (arith, c .before .before .before .before .before .before .before .before .before .before .before .before .before .production-count .ensures, c .before .before .before .before .before .before .before .before .before .before .before .before .before .before .before .before .before .before .before .before .before .before .pre .0 .framed .fewProductions)
@@ -97,9 +88,10 @@ unfolding argumentCount
 loop-again c =
     let b = c .before .before .before .before .before .before .before .before .before .before .before .before .before .before .before .before .before .before .before .before .before .before .before .before .args .book .now in
     let p = c .before .before .before .before .before .before .before .before .before .before .before .before .before .loop .p in
-    let l : p < productions b = omega (arith, c .before .before .before .before .before .before .before .before .before .before .before .before .before .before .before .production-count .ensures) in
-    (productions-more b p (omega (arith, c .before .before .before .before .before .before .before .before .before .before .before .before .before .before .before .before .before .before .before .before .before .before .before .before .pre .0 .framed .fewProductions)) (c .before .before .before .before .before .before .before .before .before .before .before .before .before .loop .counts) (c .before .before .before .before .before .before .before .before .before .before .before .before .before .loop .chars) (c .before .before .before .before .before .before .before .before .before .before .before .before .before .loop .subs) (c .before .before .before .before .before .before .write-production .last .1 .1 .1 .1 .1 .1 .1 .0) (c .before .before .before .before .before .before .write-production .last .1 .1 .1 .1 .1 .1 .1 .1 .0) (c .before .before .before .before .before .before .before .before .before .before .before .before .before .before .before .before .before .before .before .before .before .before .before .before .pre .0 .framed .fewArguments p l) (c .before .before .before .before .before .before .before .before .before .before .before .before .before .loop .inv .0) (c .before .before .before .before .before .before .write-production .ensures)
-    , (omega (arith, c .argument-count .ensures, production-next b p), omega arith))
+    let l : p < productions b = omega (arith, c .before .before .before .before .before .before .before .before .before .before .before .before .before .before .before .production-count .ensures) in (
+      productions-more b p (omega (arith, c .before .before .before .before .before .before .before .before .before .before .before .before .before .before .before .before .before .before .before .before .before .before .before .before .pre .0 .framed .fewProductions)) (c .before .before .before .before .before .before .before .before .before .before .before .before .before .loop .counts) (c .before .before .before .before .before .before .before .before .before .before .before .before .before .loop .chars) (c .before .before .before .before .before .before .before .before .before .before .before .before .before .loop .subs) (c .before .before .before .before .before .before .write-production .last .1 .1 .1 .1 .1 .1 .1 .0) (c .before .before .before .before .before .before .write-production .last .1 .1 .1 .1 .1 .1 .1 .1 .0) (c .before .before .before .before .before .before .before .before .before .before .before .before .before .before .before .before .before .before .before .before .before .before .before .before .pre .0 .framed .fewArguments p l) (c .before .before .before .before .before .before .before .before .before .before .before .before .before .loop .inv .0) (c .before .before .before .before .before .before .write-production .ensures),
+      (omega (arith, c .argument-count .ensures, production-next b p), omega arith),
+    )
 
 same-length : tie.Need-same-length Inv-loop μ-loop
 same-length c = c .before .loop .inv .0 .countsLong ∙ sym (c .before .before .before .before .before .before .before .before .before .before .before .before .pre .1 .countsLong)

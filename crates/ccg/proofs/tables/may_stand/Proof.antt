@@ -6,9 +6,6 @@ use Rattle.ccg.specs.Tables.{bitOf}
 use mir.Val.{boolByte}
 use Rattle.ccg.proofs.tables.may_stand.Statement.{statement}
 use Rattle.ccg.proofs.tables.may_stand.Tie as tie
-use Rattle.ccg.proofs.tables.may_stand.Reads as reads
-use Rattle.ccg.proofs.tables.may_stand.Lts as lts
-use Rattle.priority.proofs.both.Reads as both-reads
 
 byte-bit : (v w : Bool) → v ≡ w → boolByte v ≡ bitOf w
 byte-bit true w e = ap bitOf e

@@ -6,14 +6,10 @@ use lib.ListN.{length, getD, replicate, getD-replicate}
 use Rattle.common.proofs.FillLaws.{Filled, filled-none, filled-more}
 use Rattle.grammar.proofs.FormedLaws.{production-in, bodies-in}
 use Rattle.grammar.proofs.LayoutLaws.{production-first, production-next}
+use Rattle.grammar.proofs.VerdictLaws.{there}
 use Rattle.grammar.specs.Layout.{productionAt, result}
 use Rattle.ccg.proofs.tables.results.Statement.{statement}
 use Rattle.ccg.proofs.tables.results.Tie as tie
-use Rattle.ccg.proofs.tables.results.Reads as reads
-use Rattle.ccg.proofs.tables.results.Lts as lts
-use Rattle.grammar.proofs.layout.argument_count.Reads as argument-count-reads
-use Rattle.grammar.proofs.layout.bodies_at.Reads as bodies-at-reads
-use Rattle.grammar.proofs.layout.production_count.Reads as production-count-reads
 
 abbrev Inv-loop : tie.InvT-loop
 Inv-loop book out₀ count at₀ q₀ out at q = (at ≡ productionAt book q) × (q ≤ count) × Filled (λ (k : ℕ) (v : ℕ). v ≡ result book k) 0 (replicate 64 255) q out
@@ -56,9 +52,11 @@ unfolding result
 loop-again c =
     let b = c .before .before .before .before .before .before .before .args .book .now in
     let q = c .before .before .before .loop .q in
-    let n : length {A = ℕ} (replicate 64 255) ≡ 64 = refl in
-    (omega (arith, c .argument-count .ensures, production-next b q), omega arith
-    , filled-more (λ (k : ℕ) (v : ℕ). v ≡ result b k) 0 (replicate 64 255) q (c .before .before .before .loop .out) (getD b (c .before .before .before .loop .at) 0) (omega (arith, c .before .before .before .before .before .production-count .ensures, c .before .before .before .before .before .before .before .pre .framed .fewProductions)) (c .before .before .before .loop .inv .2) (ap (λ (a : ℕ). getD b a 0) (c .before .before .before .loop .inv .0)))
+    let n : length {A = ℕ} (replicate 64 255) ≡ 64 = refl in (
+      omega (arith, c .argument-count .ensures, production-next b q),
+      omega arith,
+      filled-more (λ (k : ℕ) (v : ℕ). v ≡ result b k) 0 (replicate 64 255) q (c .before .before .before .loop .out) (getD b (c .before .before .before .loop .at) 0) (omega (arith, c .before .before .before .before .before .production-count .ensures, c .before .before .before .before .before .before .before .pre .framed .fewProductions)) (c .before .before .before .loop .inv .2) (ap (λ (a : ℕ). getD b a 0) (c .before .before .before .loop .inv .0)),
+    )
 
 returns : tie.Need-returns Inv-loop μ-loop
 returns c =

@@ -9,8 +9,6 @@ use Rattle.common.proofs.RegionLaws.{region-none, region-more}
 use Rattle.common.specs.Region.{Region}
 use Rattle.ccg.proofs.tables.write_chars.Statement.{statement}
 use Rattle.ccg.proofs.tables.write_chars.Tie as tie
-use Rattle.ccg.proofs.tables.write_chars.Reads as reads
-use Rattle.ccg.proofs.tables.write_chars.Lts as lts
 
 Word : List ℕ → ℕ → ℕ → Type 0
 Word words k v = v ≡ getD words k 0
@@ -47,7 +45,7 @@ loop-less c = omega arith
 
 loop-again : tie.Need-loop-again Inv-loop μ-loop
 unfolding Word
-loop-again c =     (region-more (Word (c .before .before .before .args .set .words)) 0 (c .before .before .before .args .base) (c .before .before .before .args .chars .now) (c .before .loop .k) (c .before .loop .chars) _ (omega arith) (c .before .loop .inv .0) refl, omega arith)
+loop-again c = (region-more (Word (c .before .before .before .args .set .words)) 0 (c .before .before .before .args .base) (c .before .before .before .args .chars .now) (c .before .loop .k) (c .before .loop .chars) _ (omega arith) (c .before .loop .inv .0) refl, omega arith)
 
 same-length : tie.Need-same-length Inv-loop μ-loop
 same-length c = c .before .loop .inv .0 .long

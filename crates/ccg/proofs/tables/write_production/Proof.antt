@@ -15,14 +15,6 @@ use Rattle.grammar.specs.Layout.{productions, argumentCount, productionAt, argu
 use Rattle.priority.specs.Conflict.{barred}
 use Rattle.ccg.proofs.tables.write_production.Statement.{statement}
 use Rattle.ccg.proofs.tables.write_production.Tie as tie
-use Rattle.ccg.proofs.tables.write_production.Reads as reads
-use Rattle.ccg.proofs.tables.write_production.Lts as lts
-use Rattle.ccg.proofs.tables.argument_set.Reads as argument-set-reads
-use Rattle.ccg.proofs.tables.barred_at.Reads as barred-at-reads
-use Rattle.ccg.proofs.tables.wide.Reads as wide-reads
-use Rattle.ccg.proofs.tables.write_chars.Reads as write-chars-reads
-use Rattle.ccg.proofs.tables.write_subs.Reads as write-subs-reads
-use Rattle.grammar.proofs.layout.argument_count.Reads as argument-count-reads
 
 -- production p has a slot for each of its arguments
 module _ (b : List ℕ) (w : WellFormed b) (p i : ℕ) (lp : p < productions b) (li : i < argumentCount b p) where

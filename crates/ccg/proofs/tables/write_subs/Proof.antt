@@ -12,9 +12,6 @@ use Rattle.common.specs.Region.{Region}
 use Rattle.priority.specs.Conflict.{barred}
 use Rattle.ccg.proofs.tables.write_subs.Statement.{statement}
 use Rattle.ccg.proofs.tables.write_subs.Tie as tie
-use Rattle.ccg.proofs.tables.write_subs.Reads as reads
-use Rattle.ccg.proofs.tables.write_subs.Lts as lts
-use Rattle.ccg.proofs.tables.may_stand.Reads as may-stand-reads
 
 Entry : List ℕ → ℕ → List Bool → ℕ → ℕ → Type 0
 Entry results x barred q v = v ≡ bitOf (eqb (getD results q 0) x && not (getD barred q false))
@@ -51,7 +48,7 @@ loop-less c = omega arith
 
 loop-again : tie.Need-loop-again Inv-loop μ-loop
 unfolding Entry
-loop-again c =     (region-more (Entry (c .before .before .before .before .args .t5) (c .before .before .before .before .args .x) (c .before .before .before .before .args .t4)) 0 (c .before .before .before .before .args .base) (c .before .before .before .before .args .subs .now) (c .before .before .loop .q) (c .before .before .loop .subs) (c .may-stand .result) (omega arith) (c .before .before .loop .inv .0) (c .may-stand .ensures), omega arith)
+loop-again c = (region-more (Entry (c .before .before .before .before .args .t5) (c .before .before .before .before .args .x) (c .before .before .before .before .args .t4)) 0 (c .before .before .before .before .args .base) (c .before .before .before .before .args .subs .now) (c .before .before .loop .q) (c .before .before .loop .subs) (c .may-stand .result) (omega arith) (c .before .before .loop .inv .0) (c .may-stand .ensures), omega arith)
 
 same-length : tie.Need-same-length Inv-loop μ-loop
 same-length c = c .before .loop .inv .0 .long

@@ -4,9 +4,6 @@ use Rattle.ccg.specs.Tables.{subNumber}
 use Rattle.charset.proofs.RunLaws.{first-run-end, first-run}
 use Rattle.ccg.proofs.text.next_production_run.Statement.{statement}
 use Rattle.ccg.proofs.text.next_production_run.Tie as tie
-use Rattle.ccg.proofs.text.next_production_run.Reads as reads
-use Rattle.ccg.proofs.text.next_production_run.Lts as lts
-use Rattle.ccg.proofs.text.seek_number.Reads as seek-number-reads
 
 seek-number-requires : tie.Need-seek-number-requires
 seek-number-requires c κs = search needs

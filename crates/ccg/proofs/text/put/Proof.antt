@@ -3,8 +3,6 @@ use borrow.Author.Needs.{needs}
 use Rattle.ccg.proofs.PutLaws.{put-past}
 use Rattle.ccg.proofs.text.put.Statement.{statement}
 use Rattle.ccg.proofs.text.put.Tie as tie
-use Rattle.ccg.proofs.text.put.Reads as reads
-use Rattle.ccg.proofs.text.put.Lts as lts
 
 slice-write-out : tie.Need-slice-write-out
 slice-write-out c = search needs

@@ -10,10 +10,6 @@ use Rattle.ccg.specs.Put.{farthest}
 use Rattle.charset.specs.Set.{has}
 use Rattle.ccg.proofs.text.put_char_runs.Statement.{statement}
 use Rattle.ccg.proofs.text.put_char_runs.Tie as tie
-use Rattle.ccg.proofs.text.put_char_runs.Reads as reads
-use Rattle.ccg.proofs.text.put_char_runs.Lts as lts
-use Rattle.ccg.proofs.text.put_range.Reads as put-range-reads
-use Rattle.charset.proofs.CharSet.next_run.Reads as next-run-reads
 
 abbrev Inv-loop : tie.InvT-loop
 Inv-loop out₀ at set place₀ from₀ out place from = RunsPut (has (set .words)) 0 256 out₀ at from out place
@@ -43,10 +39,13 @@ put-range-requires : tie.Need-put-range-requires Inv-loop μ-loop
 put-range-requires c κs =
     let f = has (c .before .before .before .before .before .before .before .before .args .set .words) in
     let e = sym (c .before .before .before .before .next-run .ensures) ∙ c .before .before .low .given .1 in
-    let p = c .before .before .before .before .before .before .loop .inv in
-    ((omega (arith, run-rises f 0 256 (c .before .before .before .before .before .before .before .before .args .out .now) (c .before .before .before .before .before .before .before .before .args .at) (c .before .before .before .before .before .before .loop .from) (c .before .before .before .before .before .before .loop .out) (c .before .before .before .before .before .before .loop .place) _ _ p (c .before .before .before .before .before .loop-test .taken) e, run-below f 0 256 (c .before .before .before .before .before .before .before .before .args .out .now) (c .before .before .before .before .before .before .before .before .args .at) (c .before .before .before .before .before .before .loop .from) (c .before .before .before .before .before .before .loop .out) (c .before .before .before .before .before .before .loop .place) _ _ p (c .before .before .before .before .before .loop-test .taken) e)
-    , omega (arith, run-below f 0 256 (c .before .before .before .before .before .before .before .before .args .out .now) (c .before .before .before .before .before .before .before .before .args .at) (c .before .before .before .before .before .before .loop .from) (c .before .before .before .before .before .before .loop .out) (c .before .before .before .before .before .before .loop .place) _ _ p (c .before .before .before .before .before .loop-test .taken) e))
-    , run-room f 0 256 (c .before .before .before .before .before .before .before .before .args .out .now) (c .before .before .before .before .before .before .before .before .args .at) (c .before .before .before .before .before .before .loop .from) (c .before .before .before .before .before .before .loop .out) (c .before .before .before .before .before .before .loop .place) _ _ p (c .before .before .before .before .before .loop-test .taken) e farthest (c .before .before .before .before .before .before .before .before .pre))
+    let p = c .before .before .before .before .before .before .loop .inv in (
+      (
+        omega (arith, run-rises f 0 256 (c .before .before .before .before .before .before .before .before .args .out .now) (c .before .before .before .before .before .before .before .before .args .at) (c .before .before .before .before .before .before .loop .from) (c .before .before .before .before .before .before .loop .out) (c .before .before .before .before .before .before .loop .place) _ _ p (c .before .before .before .before .before .loop-test .taken) e, run-below f 0 256 (c .before .before .before .before .before .before .before .before .args .out .now) (c .before .before .before .before .before .before .before .before .args .at) (c .before .before .before .before .before .before .loop .from) (c .before .before .before .before .before .before .loop .out) (c .before .before .before .before .before .before .loop .place) _ _ p (c .before .before .before .before .before .loop-test .taken) e),
+        omega (arith, run-below f 0 256 (c .before .before .before .before .before .before .before .before .args .out .now) (c .before .before .before .before .before .before .before .before .args .at) (c .before .before .before .before .before .before .loop .from) (c .before .before .before .before .before .before .loop .out) (c .before .before .before .before .before .before .loop .place) _ _ p (c .before .before .before .before .before .loop-test .taken) e),
+      ),
+      run-room f 0 256 (c .before .before .before .before .before .before .before .before .args .out .now) (c .before .before .before .before .before .before .before .before .args .at) (c .before .before .before .before .before .before .loop .from) (c .before .before .before .before .before .before .loop .out) (c .before .before .before .before .before .before .loop .place) _ _ p (c .before .before .before .before .before .loop-test .taken) e farthest (c .before .before .before .before .before .before .before .before .pre),
+    )
 
 add-from : tie.Need-add-from Inv-loop μ-loop
 add-from c =

@@ -16,12 +16,6 @@ use Rattle.charset.specs.Set.{has}
 use Rattle.common.specs.Lists.{joined}
 use Rattle.ccg.proofs.text.put_class.Statement.{statement}
 use Rattle.ccg.proofs.text.put_class.Tie as tie
-use Rattle.ccg.proofs.text.put_class.Reads as reads
-use Rattle.ccg.proofs.text.put_class.Lts as lts
-use Rattle.ccg.proofs.text.put.Reads as put-reads
-use Rattle.ccg.proofs.text.put_char_runs.Reads as put-char-runs-reads
-use Rattle.ccg.proofs.text.put_production_runs.Reads as put-production-runs-reads
-use Rattle.ccg.proofs.text.slot_set.Reads as slot-set-reads
 
 module _ (chars subs : List ℕ) (s : ℕ) (words : List ℕ) (ws : (c : ℕ) → c < 256 → has words c ≡ slotHas chars s c) where
   characters : runs (tableClass chars subs s) 0 256 ≡ runs (has words) 0 256
@@ -52,7 +46,7 @@ mul-put-production-runs : tie.Need-mul-put-production-runs
 mul-put-production-runs c = search needs
 
 put-production-runs-requires : tie.Need-put-production-runs-requires
-put-production-runs-requires c κs =     (omega (arith, c .before .before .before .before .before .before .before .before .before .before .before .before .before .pre .0 .1, c .before .before .before .before .before .before .before .before .before .before .before .before .before .pre .0 .2), omega (arith, c .before .before .before .before .before .before .before .before .before .before .before .before .before .pre .1, c .before .before .before .before .before .before .before .before .put .ensures .next, c .before .before .before .put-char-runs .ensures .next, class-long (c .before .before .before .before .before .before .before .before .before .before .before .before .before .args .chars .now) (c .before .before .before .before .before .before .before .before .before .before .before .before .before .args .subs .now) (c .before .before .before .before .before .before .before .before .before .before .before .before .before .args .s) (c .before .before .before .before .slot-set .result .words) (c .before .before .before .before .slot-set .ensures)))
+put-production-runs-requires c κs = (omega (arith, c .before .before .before .before .before .before .before .before .before .before .before .before .before .pre .0 .1, c .before .before .before .before .before .before .before .before .before .before .before .before .before .pre .0 .2), omega (arith, c .before .before .before .before .before .before .before .before .before .before .before .before .before .pre .1, c .before .before .before .before .before .before .before .before .put .ensures .next, c .before .before .before .put-char-runs .ensures .next, class-long (c .before .before .before .before .before .before .before .before .before .before .before .before .before .args .chars .now) (c .before .before .before .before .before .before .before .before .before .before .before .before .before .args .subs .now) (c .before .before .before .before .before .before .before .before .before .before .before .before .before .args .s) (c .before .before .before .before .slot-set .result .words) (c .before .before .before .before .slot-set .ensures)))
 
 put-requires-2 : tie.Need-put-requires-2
 put-requires-2 c κs = omega (arith, c .before .before .before .before .before .before .before .before .before .before .before .before .before .before .before .before .before .pre .1, c .before .before .before .before .before .before .before .before .before .before .before .before .put .ensures .next, c .before .before .before .before .before .before .before .put-char-runs .ensures .next, c .before .before .before .put-production-runs .ensures .next, class-long (c .before .before .before .before .before .before .before .before .before .before .before .before .before .before .before .before .before .args .chars .now) (c .before .before .before .before .before .before .before .before .before .before .before .before .before .before .before .before .before .args .subs .now) (c .before .before .before .before .before .before .before .before .before .before .before .before .before .before .before .before .before .args .s) (c .before .before .before .before .before .before .before .before .slot-set .result .words) (c .before .before .before .before .before .before .before .before .slot-set .ensures))

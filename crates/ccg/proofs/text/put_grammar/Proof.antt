@@ -14,10 +14,6 @@ use Rattle.common.proofs.ListLaws.{length-tabulate}
 use Rattle.common.specs.Lists.{tabulate}
 use Rattle.ccg.proofs.text.put_grammar.Statement.{statement}
 use Rattle.ccg.proofs.text.put_grammar.Tie as tie
-use Rattle.ccg.proofs.text.put_grammar.Reads as reads
-use Rattle.ccg.proofs.text.put_grammar.Lts as lts
-use Rattle.ccg.proofs.tables.wide.Reads as wide-reads
-use Rattle.ccg.proofs.text.put_line.Reads as put-line-reads
 
 module _ (counts chars subs : List ℕ) (few : FewArguments counts chars subs) where
   argument-few : (p : ℕ) → length (tableLine counts chars subs p .arguments) ≤ 8
@@ -30,8 +26,6 @@ module _ (counts chars subs : List ℕ) (few : FewArguments counts chars subs) w
 
   lines-short : (n : ℕ) → n ≤ 64 → length (grammarText (tabulate n (tableLine counts chars subs))) ≤ 200000000
   lines-short n l = tabulate-text-short n (tableLine counts chars subs) l (λ p h. argument-few p)
-
-
 
 abbrev Inv-loop : tie.InvT-loop
 Inv-loop out₀ counts chars subs count place₀ p₀ out place p = Put (grammarText (tabulate p (tableLine counts chars subs))) out₀ 0 out place × (p ≤ count)
@@ -52,9 +46,10 @@ put-line-requires : tie.Need-put-line-requires Inv-loop μ-loop
 put-line-requires c κs =
     let s = (c .before .before .before .before .before .before .before .before .before .args) in
     let line = line-short (s .counts .now) (s .chars .now) (s .subs .now) (c .before .before .before .before .before .before .before .before .before .pre .0) (c .before .before .before .before .loop .p) in
-    let e = ap (λ (n : ℕ). length (lineText (slotLine (s .chars .now) (s .subs .now) (c .before .before .before .before .loop .p) n))) (c .wide .ensures) in
-    ((c .before .before .before .before .before .before .before .before .before .pre .0 .charsLong, c .before .before .before .before .before .before .before .before .before .pre .0 .subsLong, omega (arith, c .before .before .before .before .before .before .before .before .before .pre .1), omega (arith, c .wide .ensures, c .before .before .before .before .before .before .before .before .before .pre .0 .few (c .before .before .before .before .loop .p)))
-    , omega (arith, c .before .before .before .before .loop .inv .0 .next, lines-short (s .counts .now) (s .chars .now) (s .subs .now) (c .before .before .before .before .before .before .before .before .before .pre .0) (c .before .before .before .before .loop .p) (omega (arith, c .before .before .before .before .before .before .before .before .before .pre .1)), line, e))
+    let e = ap (λ (n : ℕ). length (lineText (slotLine (s .chars .now) (s .subs .now) (c .before .before .before .before .loop .p) n))) (c .wide .ensures) in (
+      (c .before .before .before .before .before .before .before .before .before .pre .0 .charsLong, c .before .before .before .before .before .before .before .before .before .pre .0 .subsLong, omega (arith, c .before .before .before .before .before .before .before .before .before .pre .1), omega (arith, c .wide .ensures, c .before .before .before .before .before .before .before .before .before .pre .0 .few (c .before .before .before .before .loop .p))),
+      omega (arith, c .before .before .before .before .loop .inv .0 .next, lines-short (s .counts .now) (s .chars .now) (s .subs .now) (c .before .before .before .before .before .before .before .before .before .pre .0) (c .before .before .before .before .loop .p) (omega (arith, c .before .before .before .before .before .before .before .before .before .pre .1)), line, e),
+    )
 
 add-p : tie.Need-add-p Inv-loop μ-loop
 add-p c = omega arith

@@ -13,11 +13,6 @@ use Rattle.ccg.specs.Text.{argumentsText, resultText, lineText}
 use Rattle.common.specs.Lists.{tabulate}
 use Rattle.ccg.proofs.text.put_line.Statement.{statement}
 use Rattle.ccg.proofs.text.put_line.Tie as tie
-use Rattle.ccg.proofs.text.put_line.Reads as reads
-use Rattle.ccg.proofs.text.put_line.Lts as lts
-use Rattle.ccg.proofs.text.put.Reads as put-reads
-use Rattle.ccg.proofs.text.put_class.Reads as put-class-reads
-use Rattle.ccg.proofs.text.put_result.Reads as put-result-reads
 
 classes : List ℕ → List ℕ → ℕ → ℕ → Class
 classes chars subs p i = tableClass chars subs (slot p i)
@@ -47,9 +42,10 @@ add-put-class c = omega (arith, c .before .before .before .before .before .befor
 put-class-requires : tie.Need-put-class-requires Inv-loop μ-loop
 unfolding classes slot
 put-class-requires c κs =
-    let g = classes (c .before .before .before .before .before .before .args .chars .now) (c .before .before .before .before .before .before .args .subs .now) (c .before .before .before .before .before .before .args .p) in
-    ((c .before .before .before .before .before .before .pre .0 .0, c .before .before .before .before .before .before .pre .0 .1, omega (arith, c .before .before .before .before .before .before .pre .0 .2, c .before .before .before .before .before .before .pre .0 .3))
-    , omega (arith, c .before .before .before .before .before .before .pre .1, c .before .before .loop .inv .0 .next, arguments-text-room g (c .before .before .loop .i) (c .before .before .before .before .before .before .args .count) (c .before .loop-test .taken), line-long (c .before .before .before .before .before .before .args .chars .now) (c .before .before .before .before .before .before .args .subs .now) (c .before .before .before .before .before .before .args .p) (c .before .before .before .before .before .before .args .count)))
+    let g = classes (c .before .before .before .before .before .before .args .chars .now) (c .before .before .before .before .before .before .args .subs .now) (c .before .before .before .before .before .before .args .p) in (
+      (c .before .before .before .before .before .before .pre .0 .0, c .before .before .before .before .before .before .pre .0 .1, omega (arith, c .before .before .before .before .before .before .pre .0 .2, c .before .before .before .before .before .before .pre .0 .3)),
+      omega (arith, c .before .before .before .before .before .before .pre .1, c .before .before .loop .inv .0 .next, arguments-text-room g (c .before .before .loop .i) (c .before .before .before .before .before .before .args .count) (c .before .loop-test .taken), line-long (c .before .before .before .before .before .before .args .chars .now) (c .before .before .before .before .before .before .args .subs .now) (c .before .before .before .before .before .before .args .p) (c .before .before .before .before .before .before .args .count)),
+    )
 
 put-requires : tie.Need-put-requires Inv-loop μ-loop
 unfolding classes slot

@@ -3,10 +3,6 @@ use borrow.Author.Needs.{needs}
 use Rattle.ccg.proofs.PutLaws.{put-append}
 use Rattle.ccg.proofs.text.put_number.Statement.{statement}
 use Rattle.ccg.proofs.text.put_number.Tie as tie
-use Rattle.ccg.proofs.text.put_number.Reads as reads
-use Rattle.ccg.proofs.text.put_number.Lts as lts
-use Rattle.ccg.proofs.text.put.Reads as put-reads
-use Rattle.ccg.proofs.text.put_numeral.Reads as put-numeral-reads
 
 put-requires : tie.Need-put-requires
 put-requires c κs = search needs

@@ -11,10 +11,6 @@ use Rattle.ccg.proofs.TextLaws.{numeral-small}
 use Rattle.ccg.specs.Text.{numeral}
 use Rattle.ccg.proofs.text.put_numeral.Statement.{statement}
 use Rattle.ccg.proofs.text.put_numeral.Tie as tie
-use Rattle.ccg.proofs.text.put_numeral.Reads as reads
-use Rattle.ccg.proofs.text.put_numeral.Lts as lts
-use Rattle.ccg.proofs.text.digit.Reads as digit-reads
-use Rattle.ccg.proofs.text.put.Reads as put-reads
 
 digit-requires : tie.Need-digit-requires
 digit-requires c κs = search needs
@@ -26,7 +22,7 @@ same-length : tie.Need-same-length
 same-length c = search needs
 
 returns : tie.Need-returns
-returns c =     put-same _ _ _ _ _ _ (ap (λ (d : ℕ). d ∷ []) (c .before .before .before .digit .ensures) ∙ sym (numeral-small (c .before .before .before .before .before .before .before .args .n) (c .before .before .before .before .before .if1 .taken))) (c .before .before .put .ensures)
+returns c = put-same _ _ _ _ _ _ (ap (λ (d : ℕ). d ∷ []) (c .before .before .before .digit .ensures) ∙ sym (numeral-small (c .before .before .before .before .before .before .before .args .n) (c .before .before .before .before .before .if1 .taken))) (c .before .before .put .ensures)
 
 digit-requires-2 : tie.Need-digit-requires-2
 digit-requires-2 c κs = search needs
@@ -72,7 +68,7 @@ same-length-3 c = search needs
 returns-3 : tie.Need-returns-3
 returns-3 c =
     let e : c .before .before .before .before .before .before .before .before .before .before .before .before .before .digit4 .result ∷ c .before .before .before .before .before .before .before .before .digit5 .result ∷ c .before .before .before .digit6 .result ∷ [] ≡ numeral (c .before .before .before .before .before .before .before .before .before .before .before .before .before .before .before .before .before .before .args .n) =
-            rw (c .before .before .before .before .before .before .before .before .before .before .before .before .before .digit4 .ensures, c .before .before .before .before .before .before .before .before .digit5 .ensures, c .before .before .before .digit6 .ensures) (sym (numeral-three (c .before .before .before .before .before .before .before .before .before .before .before .before .before .before .before .before .before .before .args .n) (c .before .before .before .before .before .before .before .before .before .before .before .before .before .before .before .if2 .left) (c .before .before .before .before .before .before .before .before .before .before .before .before .before .before .before .before .before .before .pre .0))) in
+    rw (c .before .before .before .before .before .before .before .before .before .before .before .before .before .digit4 .ensures, c .before .before .before .before .before .before .before .before .digit5 .ensures, c .before .before .before .digit6 .ensures) (sym (numeral-three (c .before .before .before .before .before .before .before .before .before .before .before .before .before .before .before .before .before .before .args .n) (c .before .before .before .before .before .before .before .before .before .before .before .before .before .before .before .if2 .left) (c .before .before .before .before .before .before .before .before .before .before .before .before .before .before .before .before .before .before .pre .0))) in
     put-same _ _ _ _ _ _ e (put-append _ _ _ _ _ _ _ _ (put-append _ _ _ _ _ _ _ _ (c .before .before .before .before .before .before .before .before .before .before .before .before .put4 .ensures) (c .before .before .before .before .before .before .before .put5 .ensures)) (c .before .before .put6 .ensures))
 
 pub put-numeral-spec : {M : Type 1} → statement M

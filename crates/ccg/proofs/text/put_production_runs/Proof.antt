@@ -9,10 +9,6 @@ use Rattle.ccg.specs.Put.{farthest}
 use Rattle.ccg.specs.Tables.{subNumber}
 use Rattle.ccg.proofs.text.put_production_runs.Statement.{statement}
 use Rattle.ccg.proofs.text.put_production_runs.Tie as tie
-use Rattle.ccg.proofs.text.put_production_runs.Reads as reads
-use Rattle.ccg.proofs.text.put_production_runs.Lts as lts
-use Rattle.ccg.proofs.text.next_production_run.Reads as next-production-run-reads
-use Rattle.ccg.proofs.text.put_range.Reads as put-range-reads
 
 abbrev Inv-loop : tie.InvT-loop
 Inv-loop out₀ at subs base place₀ from₀ out place from = RunsPut (subNumber subs base) 258 322 out₀ at from out place
@@ -45,10 +41,13 @@ put-range-requires : tie.Need-put-range-requires Inv-loop μ-loop
 put-range-requires c κs =
     let f = subNumber (c .before .before .before .before .before .before .before .before .before .args .subs .now) (c .before .before .before .before .before .before .before .before .before .args .base) in
     let e = sym (c .before .before .before .before .next-production-run .ensures) ∙ c .before .before .low .given .1 in
-    let p = c .before .before .before .before .before .before .loop .inv in
-    ((omega (arith, run-rises f 258 322 (c .before .before .before .before .before .before .before .before .before .args .out .now) (c .before .before .before .before .before .before .before .before .before .args .at) (c .before .before .before .before .before .before .loop .from) (c .before .before .before .before .before .before .loop .out) (c .before .before .before .before .before .before .loop .place) _ _ p (c .before .before .before .before .before .loop-test .taken) e, run-below f 258 322 (c .before .before .before .before .before .before .before .before .before .args .out .now) (c .before .before .before .before .before .before .before .before .before .args .at) (c .before .before .before .before .before .before .loop .from) (c .before .before .before .before .before .before .loop .out) (c .before .before .before .before .before .before .loop .place) _ _ p (c .before .before .before .before .before .loop-test .taken) e)
-    , omega (arith, run-below f 258 322 (c .before .before .before .before .before .before .before .before .before .args .out .now) (c .before .before .before .before .before .before .before .before .before .args .at) (c .before .before .before .before .before .before .loop .from) (c .before .before .before .before .before .before .loop .out) (c .before .before .before .before .before .before .loop .place) _ _ p (c .before .before .before .before .before .loop-test .taken) e))
-    , run-room f 258 322 (c .before .before .before .before .before .before .before .before .before .args .out .now) (c .before .before .before .before .before .before .before .before .before .args .at) (c .before .before .before .before .before .before .loop .from) (c .before .before .before .before .before .before .loop .out) (c .before .before .before .before .before .before .loop .place) _ _ p (c .before .before .before .before .before .loop-test .taken) e farthest (c .before .before .before .before .before .before .before .before .before .pre .1))
+    let p = c .before .before .before .before .before .before .loop .inv in (
+      (
+        omega (arith, run-rises f 258 322 (c .before .before .before .before .before .before .before .before .before .args .out .now) (c .before .before .before .before .before .before .before .before .before .args .at) (c .before .before .before .before .before .before .loop .from) (c .before .before .before .before .before .before .loop .out) (c .before .before .before .before .before .before .loop .place) _ _ p (c .before .before .before .before .before .loop-test .taken) e, run-below f 258 322 (c .before .before .before .before .before .before .before .before .before .args .out .now) (c .before .before .before .before .before .before .before .before .before .args .at) (c .before .before .before .before .before .before .loop .from) (c .before .before .before .before .before .before .loop .out) (c .before .before .before .before .before .before .loop .place) _ _ p (c .before .before .before .before .before .loop-test .taken) e),
+        omega (arith, run-below f 258 322 (c .before .before .before .before .before .before .before .before .before .args .out .now) (c .before .before .before .before .before .before .before .before .before .args .at) (c .before .before .before .before .before .before .loop .from) (c .before .before .before .before .before .before .loop .out) (c .before .before .before .before .before .before .loop .place) _ _ p (c .before .before .before .before .before .loop-test .taken) e),
+      ),
+      run-room f 258 322 (c .before .before .before .before .before .before .before .before .before .args .out .now) (c .before .before .before .before .before .before .before .before .before .args .at) (c .before .before .before .before .before .before .loop .from) (c .before .before .before .before .before .before .loop .out) (c .before .before .before .before .before .before .loop .place) _ _ p (c .before .before .before .before .before .loop-test .taken) e farthest (c .before .before .before .before .before .before .before .before .before .pre .1),
+    )
 
 add-from : tie.Need-add-from Inv-loop μ-loop
 add-from c =

@@ -12,10 +12,6 @@ use Rattle.ccg.specs.Text.{numeral, rangeText}
 use Rattle.charset.specs.Runs.{range}
 use Rattle.ccg.proofs.text.put_range.Statement.{statement}
 use Rattle.ccg.proofs.text.put_range.Tie as tie
-use Rattle.ccg.proofs.text.put_range.Reads as reads
-use Rattle.ccg.proofs.text.put_range.Lts as lts
-use Rattle.ccg.proofs.text.put.Reads as put-reads
-use Rattle.ccg.proofs.text.put_number.Reads as put-number-reads
 
 one : (n m : ℕ) → n ≡ m → 92 ∷ numeral n ≡ rangeText (range n m)
 unfolding rangeText
@@ -28,9 +24,10 @@ two n m e = sym (rw (ne-eqb n m e) refl)
 -- the text of a range begins with its low number
 low-fits : (n m : ℕ) → length (92 ∷ numeral n) ≤ length (rangeText (range n m))
 low-fits n m =
-    elim (ℕ-discrete n m)
-    [ yes e ↦ omega (arith, ap (length {A = ℕ}) (one n m e))
-    | no e ↦ omega (arith, ap (length {A = ℕ}) (two n m e), length-append (92 ∷ numeral n) (45 ∷ (92 ∷ numeral m))) ]
+    elim (ℕ-discrete n m) [
+      | yes e ↦ omega (arith, ap (length {A = ℕ}) (one n m e))
+      | no e ↦ omega (arith, ap (length {A = ℕ}) (two n m e), length-append (92 ∷ numeral n) (45 ∷ (92 ∷ numeral m)))
+    ]
 
 put-number-requires : tie.Need-put-number-requires
 put-number-requires c κs = (c .before .before .pre .0 .0, omega (arith, c .before .before .pre .1, low-fits (c .before .before .args .low) (c .before .before .args .high)))

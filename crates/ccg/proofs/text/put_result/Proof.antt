@@ -10,10 +10,6 @@ use Rattle.ccg.proofs.TextLaws.{one-text}
 use Rattle.ccg.specs.Text.{numeral, resultText}
 use Rattle.ccg.proofs.text.put_result.Statement.{statement}
 use Rattle.ccg.proofs.text.put_result.Tie as tie
-use Rattle.ccg.proofs.text.put_result.Reads as reads
-use Rattle.ccg.proofs.text.put_result.Lts as lts
-use Rattle.ccg.proofs.text.put.Reads as put-reads
-use Rattle.ccg.proofs.text.put_number.Reads as put-number-reads
 
 result-is : (n : ℕ) → n < 322 → resultText n ≡ 45 ∷ 62 ∷ 32 ∷ 91 ∷ ((92 ∷ numeral n) ++ (93 ∷ 10 ∷ []))
 unfolding resultText

@@ -7,8 +7,6 @@ use Rattle.charset.proofs.SeekLaws.{Passed, seek-none, seek-more, seek-found, s
 use Rattle.common.proofs.BoolLaws.{beq-true, beq-false}
 use Rattle.ccg.proofs.text.seek_number.Statement.{statement}
 use Rattle.ccg.proofs.text.seek_number.Tie as tie
-use Rattle.ccg.proofs.text.seek_number.Reads as reads
-use Rattle.ccg.proofs.text.seek_number.Lts as lts
 
 abbrev Inv-loop : tie.InvT-loop
 Inv-loop subs base from wanted at₀ at = Passed 322 (subNumber subs base) wanted from at
@@ -33,7 +31,7 @@ shared-slice-read-if1 c = omega (arith, c .before .before .loop .inv .after)
 
 returns : tie.Need-returns Inv-loop μ-loop
 unfolding subNumber
-returns c =     seek-found 322 (subNumber (c .before .before .before .before .args .subs .now) (c .before .before .before .before .args .base)) (c .before .before .before .before .args .wanted) (c .before .before .before .before .args .from) (c .before .before .before .loop .at) (beq-true _ _ (c .if1 .taken)) (c .before .before .before .loop .inv)
+returns c = seek-found 322 (subNumber (c .before .before .before .before .args .subs .now) (c .before .before .before .before .args .base)) (c .before .before .before .before .args .wanted) (c .before .before .before .before .args .from) (c .before .before .before .loop .at) (beq-true _ _ (c .if1 .taken)) (c .before .before .before .loop .inv)
 
 add-at : tie.Need-add-at Inv-loop μ-loop
 add-at c = omega arith
@@ -43,7 +41,7 @@ loop-less c = omega arith
 
 loop-again : tie.Need-loop-again Inv-loop μ-loop
 unfolding subNumber
-loop-again c =     seek-more 322 (subNumber (c .before .before .before .before .args .subs .now) (c .before .before .before .before .args .base)) (c .before .before .before .before .args .wanted) (c .before .before .before .before .args .from) (c .before .before .before .loop .at) (c .before .before .loop-test .taken) (beq-false _ _ (c .if1 .left)) (c .before .before .before .loop .inv)
+loop-again c = seek-more 322 (subNumber (c .before .before .before .before .args .subs .now) (c .before .before .before .before .args .base)) (c .before .before .before .before .args .wanted) (c .before .before .before .before .args .from) (c .before .before .before .loop .at) (c .before .before .loop-test .taken) (beq-false _ _ (c .if1 .left)) (c .before .before .before .loop .inv)
 
 returns-2 : tie.Need-returns-2 Inv-loop μ-loop
 returns-2 c = seek-end 322 (subNumber (c .before .before .args .subs .now) (c .before .before .args .base)) (c .before .before .args .wanted) (c .before .before .args .from) (c .before .loop .at) (c .loop-test .left) (c .before .loop .inv)

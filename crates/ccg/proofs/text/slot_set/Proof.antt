@@ -10,8 +10,6 @@ use Rattle.ccg.specs.Tables.{wordAt, slotHas}
 use Rattle.charset.specs.Set.{bit, has}
 use Rattle.ccg.proofs.text.slot_set.Statement.{statement}
 use Rattle.ccg.proofs.text.slot_set.Tie as tie
-use Rattle.ccg.proofs.text.slot_set.Reads as reads
-use Rattle.ccg.proofs.text.slot_set.Lts as lts
 
 four-words : (chars : List ℕ) (s c : ℕ) → c < 256
     → has (getD chars (s * 4) 0 ∷ getD chars (s * 4 + 1) 0 ∷ getD chars (s * 4 + 2) 0 ∷ getD chars (s * 4 + 3) 0 ∷ []) c ≡ slotHas chars s c

@@ -25,7 +25,7 @@ contains-requires : tie.Need-contains-requires Inv-loop μ-loop
 contains-requires c κs = search needs
 
 returns : tie.Need-returns Inv-loop μ-loop
-returns c =     seek-found 256 (has (c .before .before .before .before .args .self .words)) (c .before .before .before .before .args .wanted) (c .before .before .before .before .args .from) (c .before .before .before .loop .at) (sym (c .before .contains .ensures) ∙ beq-true _ _ (c .if1 .taken)) (c .before .before .before .loop .inv)
+returns c = seek-found 256 (has (c .before .before .before .before .args .self .words)) (c .before .before .before .before .args .wanted) (c .before .before .before .before .args .from) (c .before .before .before .loop .at) (sym (c .before .contains .ensures) ∙ beq-true _ _ (c .if1 .taken)) (c .before .before .before .loop .inv)
 
 add-at : tie.Need-add-at Inv-loop μ-loop
 add-at c = omega arith
@@ -34,7 +34,7 @@ loop-less : tie.Need-loop-less Inv-loop μ-loop
 loop-less c = omega arith
 
 loop-again : tie.Need-loop-again Inv-loop μ-loop
-loop-again c =     seek-more 256 (has (c .before .before .before .before .args .self .words)) (c .before .before .before .before .args .wanted) (c .before .before .before .before .args .from) (c .before .before .before .loop .at) (c .before .before .loop-test .taken) (sym (c .before .contains .ensures) ∙ beq-false _ _ (c .if1 .left)) (c .before .before .before .loop .inv)
+loop-again c = seek-more 256 (has (c .before .before .before .before .args .self .words)) (c .before .before .before .before .args .wanted) (c .before .before .before .before .args .from) (c .before .before .before .loop .at) (c .before .before .loop-test .taken) (sym (c .before .contains .ensures) ∙ beq-false _ _ (c .if1 .left)) (c .before .before .before .loop .inv)
 
 returns-2 : tie.Need-returns-2 Inv-loop μ-loop
 returns-2 c = seek-end 256 (has (c .before .before .args .self .words)) (c .before .before .args .wanted) (c .before .before .args .from) (c .before .loop .at) (c .loop-test .left) (c .before .loop .inv)

@@ -10,19 +10,13 @@ use Rattle.grammar.specs.Layout.{productions, argumentCount}
 use Rattle.priority.specs.Conflict.{isThere}
 use Rattle.priority.proofs.conflict.answer.Statement.{statement}
 use Rattle.priority.proofs.conflict.answer.Tie as tie
-use Rattle.priority.proofs.conflict.answer.Reads as reads
-use Rattle.priority.proofs.conflict.answer.Lts as lts
-use Rattle.grammar.proofs.layout.argument_count.Reads as argument-count-reads
-use Rattle.grammar.proofs.layout.production_count.Reads as production-count-reads
-use Rattle.priority.proofs.conflict.is_conflict.Reads as is-conflict-reads
-use Rattle.priority.proofs.priorities.Reads as priorities-reads
 
 production-count-requires : tie.Need-production-count-requires
 production-count-requires c κs = search needs
 
 returns : tie.Need-returns
 unfolding isThere
-returns c =     rw (le-ltb (c .before .before .before .args .p) (productions (c .before .before .before .args .book .now)) (omega (arith, c .before .production-count .ensures))) refl
+returns c = rw (le-ltb (c .before .before .before .args .p) (productions (c .before .before .before .args .book .now)) (omega (arith, c .before .production-count .ensures))) refl
 
 argument-count-requires : tie.Need-argument-count-requires
 argument-count-requires c κs = (bodies-in (c .before .before .before .args .book .now) (c .before .before .before .pre .framed), omega (arith, c .before .production-count .ensures))
@@ -46,7 +40,7 @@ priorities-requires : tie.Need-priorities-requires
 priorities-requires c κs = search needs
 
 is-conflict-requires : tie.Need-is-conflict-requires
-is-conflict-requires c κs =     ((c .before .before .before .before .before .before .before .before .pre), (c .priorities .ensures, (omega (arith, c .before .before .before .before .before .before .production-count .ensures), omega (arith, c .before .before .before .before .argument-count .ensures), omega (arith, c .before .before .production-count2 .ensures))))
+is-conflict-requires c κs = ((c .before .before .before .before .before .before .before .before .pre), (c .priorities .ensures, (omega (arith, c .before .before .before .before .before .before .production-count .ensures), omega (arith, c .before .before .before .before .argument-count .ensures), omega (arith, c .before .before .production-count2 .ensures))))
 
 returns-4 : tie.Need-returns-4
 unfolding isThere

@@ -15,13 +15,6 @@ use Rattle.priority.proofs.TableLaws.{square-put}
 use Rattle.priority.specs.Chain.{entry, Square}
 use Rattle.priority.proofs.conflict.associations.Statement.{statement}
 use Rattle.priority.proofs.conflict.associations.Tie as tie
-use Rattle.priority.proofs.conflict.associations.Reads as reads
-use Rattle.priority.proofs.conflict.associations.Lts as lts
-use Rattle.grammar.proofs.layout.byte_at.Reads as byte-at-reads
-use Rattle.grammar.proofs.layout.declaration_at.Reads as declaration-at-reads
-use Rattle.grammar.proofs.layout.declaration_count.Reads as declaration-count-reads
-use Rattle.priority.proofs.either.Reads as either-reads
-use Rattle.priority.proofs.no_pairs.Reads as no-pairs-reads
 
 record Taken (b : List ℕ) (side count at d : ℕ) (table : List (List Bool)) : Type 0 where
   square : Square 64 table
@@ -47,9 +40,12 @@ declaration-at-requires c κs = (bodies-in (c .before .before .before .args .boo
 loop-holds : tie.Need-loop-holds Inv-loop μ-loop
 loop-holds c =
     let b = c .before .before .before .before .args .book .now in
-    record
-    { square = c .before .before .no-pairs .ensures .0; place = c .declaration-at .ensures; within = omega arith
-    ; pairs = λ x y. c .before .before .no-pairs .ensures .1 x y ∙ sym (associated-none b (c .before .before .before .before .args .side) x y) }
+    record {
+      square = c .before .before .no-pairs .ensures .0;
+      place = c .declaration-at .ensures;
+      within = omega arith;
+      pairs = λ x y. c .before .before .no-pairs .ensures .1 x y ∙ sym (associated-none b (c .before .before .before .before .args .side) x y);
+    }
 
 byte-at-requires : tie.Need-byte-at-requires Inv-loop μ-loop
 byte-at-requires c κs = omega (arith, declaration-ends (c .before .before .before .before .before .before .args .book .now) (c .before .before .before .before .before .before .pre) (c .before .loop .d) (c .before .loop .at) (omega (arith, c .before .before .before .declaration-count .ensures)) (c .before .loop .inv .place))
@@ -137,11 +133,12 @@ loop-again c =
     let w : c .either3 .result ≡ (getD (getD t₁ (second b d) []) (first b d) false || c .before .before .before .before .either .result) = rw (f, s) at (c .either3 .ensures) in
     let q₁ = square-put 64 t (first b d) (second b d) (c .before .before .either2 .result) (i .square) (small-first b (c .before .before .before .before .before .before .before .before .before .before .before .before .before .before .pre) d h) (small-second b (c .before .before .before .before .before .before .before .before .before .before .before .before .before .before .pre) d h) in
     rw (f, s)
-    (record
-    { square = square-put 64 t₁ (second b d) (first b d) (c .either3 .result) q₁ (small-second b (c .before .before .before .before .before .before .before .before .before .before .before .before .before .before .pre) d h) (small-first b (c .before .before .before .before .before .before .before .before .before .before .before .before .before .before .pre) d h)
-    ; place = omega (arith, i .place, declaration-next b d)
-    ; within = omega arith
-    ; pairs = associated-more 64 b (c .before .before .before .before .before .before .before .before .before .before .before .before .before .before .args .side) d t (i .square) (small-first b (c .before .before .before .before .before .before .before .before .before .before .before .before .before .before .pre) d h) (small-second b (c .before .before .before .before .before .before .before .before .before .before .before .before .before .before .pre) d h) (i .pairs) (c .before .before .before .before .either .result) (c .before .before .either2 .result) (c .either3 .result) on v w })
+    (record {
+      square = square-put 64 t₁ (second b d) (first b d) (c .either3 .result) q₁ (small-second b (c .before .before .before .before .before .before .before .before .before .before .before .before .before .before .pre) d h) (small-first b (c .before .before .before .before .before .before .before .before .before .before .before .before .before .before .pre) d h);
+      place = omega (arith, i .place, declaration-next b d);
+      within = omega arith;
+      pairs = associated-more 64 b (c .before .before .before .before .before .before .before .before .before .before .before .before .before .before .args .side) d t (i .square) (small-first b (c .before .before .before .before .before .before .before .before .before .before .before .before .before .before .pre) d h) (small-second b (c .before .before .before .before .before .before .before .before .before .before .before .before .before .before .pre) d h) (i .pairs) (c .before .before .before .before .either .result) (c .before .before .either2 .result) (c .either3 .result) on v w;
+    })
 
 returns : tie.Need-returns Inv-loop μ-loop
 returns c x y = c .before .loop .inv .pairs x y ∙ associated-all (c .before .before .before .before .before .before .args .book .now) (c .before .before .before .before .before .before .args .side) (c .before .loop .d) x y (omega (arith, c .before .before .before .declaration-count .ensures))

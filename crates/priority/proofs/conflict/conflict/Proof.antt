@@ -5,10 +5,6 @@ use Rattle.priority.proofs.CheckLaws.{accepted-formed}
 use Rattle.priority.specs.Conflict.{conflictAnswer}
 use Rattle.priority.proofs.conflict.conflict.Statement.{statement}
 use Rattle.priority.proofs.conflict.conflict.Tie as tie
-use Rattle.priority.proofs.conflict.conflict.Reads as reads
-use Rattle.priority.proofs.conflict.conflict.Lts as lts
-use Rattle.priority.proofs.check_grammar.Reads as check-grammar-reads
-use Rattle.priority.proofs.conflict.answer.Reads as answer-reads
 
 check-grammar-requires : tie.Need-check-grammar-requires
 check-grammar-requires c κs = search needs
@@ -24,11 +20,11 @@ answer-requires c κs = accepted-formed (c .before .before .before .before .args
 
 returns : tie.Need-returns
 unfolding conflictAnswer
-returns c =     rw (← (c .before .before .before .check-grammar .ensures), c .before .verdict .given .1) refl
+returns c = rw (← (c .before .before .before .check-grammar .ensures), c .before .verdict .given .1) refl
 
 returns-2 : tie.Need-returns-2
 unfolding conflictAnswer
-returns-2 c =     rw (← (c .before .before .before .check-grammar .ensures), c .before .enum-told .given .1) (c .answer .ensures)
+returns-2 c = rw (← (c .before .before .before .check-grammar .ensures), c .before .enum-told .given .1) (c .answer .ensures)
 
 pub conflict-spec : {M : Type 1} → statement M
 conflict-spec =

@@ -4,8 +4,6 @@ use borrow.Author.Needs.{needs}
 use Rattle.priority.specs.Chain.{entry}
 use Rattle.priority.proofs.conflict.is_associated.Statement.{statement}
 use Rattle.priority.proofs.conflict.is_associated.Tie as tie
-use Rattle.priority.proofs.conflict.is_associated.Reads as reads
-use Rattle.priority.proofs.conflict.is_associated.Lts as lts
 
 mul-result : tie.Need-mul-result
 mul-result c = search needs

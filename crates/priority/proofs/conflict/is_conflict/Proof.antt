@@ -15,13 +15,6 @@ use Rattle.priority.specs.Chain.{entry}
 use Rattle.priority.specs.Conflict.{barred, conflicts}
 use Rattle.priority.proofs.conflict.is_conflict.Statement.{statement}
 use Rattle.priority.proofs.conflict.is_conflict.Tie as tie
-use Rattle.priority.proofs.conflict.is_conflict.Reads as reads
-use Rattle.priority.proofs.conflict.is_conflict.Lts as lts
-use Rattle.grammar.proofs.layout.argument.Reads as argument-reads
-use Rattle.grammar.proofs.layout.argument_count.Reads as argument-count-reads
-use Rattle.grammar.proofs.layout.result.Reads as result-reads
-use Rattle.priority.proofs.conflict.associations.Reads as associations-reads
-use Rattle.priority.proofs.conflict.is_associated.Reads as is-associated-reads
 
 module _ (b : List ℕ) (w : WellFormed b) (p i q a r : ℕ) (l : q < productions b) (ea : a ≡ argument b p i) (er : r ≡ result b q) where
   unfit : (a ≡ r → ⊥) → false ≡ conflicts b p i q
