@@ -4,7 +4,13 @@
 BUILD := build
 CASE_CRATES := grammar_cases conflict_cases flat_cases
 
-.PHONY: test cases store-cases check clean
+.PHONY: run test cases store-cases check clean
+
+# the character class grammar of book T
+run:
+	@mkdir -p $(BUILD)
+	@rt check flat > $(BUILD)/run.log 2>&1 || { cat $(BUILD)/run.log; exit 1; }
+	@target/bin/flat < crates/flat/stdin
 
 test: cases
 	rt fmt --check
