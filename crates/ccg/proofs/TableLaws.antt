@@ -11,11 +11,12 @@ use lib.ListN.{length, getD, set, length-set, replicate, length-replicate, getD-
 use lib.Seq.{getD-set-same, getD-set-other}
 use borrow.Author.Tests.{ltb-true, lt-ltb, le-ltb, eq-eqb, ne-eqb}
 use Rattle.ccg.specs.Flat.{mayStand}
-use Rattle.ccg.specs.Tables.{slot, tableMay, tableHas, tableCount, bitOf, subAt, wordAt, slotHas, charWords, subBytes, AllZero, ZeroTables, FlatTables, FewArguments, ArgumentsWritten, BarringRows, Results}
+use Rattle.ccg.specs.Tables.{slot, tableMay, tableHas, tableCount, subAt, wordAt, slotHas, charWords, subBytes, AllZero, ZeroTables, FlatTables, FewArguments, ArgumentsWritten, BarringRows, Results}
 use Rattle.ccg.specs.Trees.{isClass, classHas}
 use Rattle.charset.proofs.BitLaws.{bit-zero}
 use Rattle.charset.specs.Set.{bit, has}
 use Rattle.common.proofs.BoolLaws.{or-cases, and-second-true}
+use Rattle.common.specs.Below.{bitOf}
 use Rattle.common.specs.Region.{Region}
 use Rattle.grammar.specs.Check.{namesArgument}
 use Rattle.grammar.specs.Formed.{Framed, WellFormed}

@@ -12,11 +12,12 @@ use borrow.Author.Tests.{leb-true, lt-ltb, le-ltb, le-leb, lt-leb}
 use Rattle.ccg.proofs.FlatLaws.{class-small, flat-of-class, flat-of-sort}
 use Rattle.ccg.proofs.TextLaws.{class-text-same}
 use Rattle.ccg.specs.Flat.{isProduction, mayStand, flatClass, flatLine, flatGrammar}
-use Rattle.ccg.specs.Tables.{slot, tableMay, tableHas, tableCount, bitOf, subAt, slotHas, FlatTables, tableClass, slotLine, tableLine, tableGrammar}
+use Rattle.ccg.specs.Tables.{slot, tableMay, tableHas, tableCount, subAt, slotHas, FlatTables, tableClass, slotLine, tableLine, tableGrammar}
 use Rattle.ccg.specs.Text.{classText, argumentsText, lineText, grammarText}
 use Rattle.ccg.specs.Trees.{isClass, classHas}
 use Rattle.common.proofs.BoolLaws.{and-first-true, true-or-false}
 use Rattle.common.proofs.ListLaws.{joined-append, joined-one}
+use Rattle.common.specs.Below.{bitOf}
 use Rattle.common.specs.Lists.{tabulate, joined}
 use Rattle.grammar.specs.Formed.{WellFormed}
 use Rattle.grammar.specs.Layout.{sorts, productions, classes, argumentCount, argument}

@@ -1,7 +1,7 @@
 -- The flat tables: the character class grammar as plain numbers, for code that reads it through slices.
 use Prim.Native.Nat.{ℕ, _+_, _-_, _*_, _/_, _%_, _≤_, _<_}
 use mathlib.Core.Path.{_≡_}
-use mathlib.Core.Bool.{Bool, false, true, cond, _&&_}
+use mathlib.Core.Bool.{Bool, false, cond, _&&_}
 use mathlib.Core.List.{List}
 use lib.Dec.{leb, ltb, eqb}
 use lib.ListN.{length, getD}
@@ -9,6 +9,7 @@ use Rattle.ccg.specs.Ccg.{Line}
 use Rattle.ccg.specs.Flat.{mayStand}
 use Rattle.ccg.specs.Trees.{isClass, classHas}
 use Rattle.charset.specs.Set.{bit}
+use Rattle.common.specs.Below.{bitOf}
 use Rattle.common.specs.Lists.{tabulate}
 use Rattle.grammar.specs.Layout.{productions, argumentCount, result, argument}
 use Rattle.grammar.specs.Limits.{productionLimit, argumentLimit, classBase}
@@ -33,10 +34,6 @@ tableHas b p i c = ltb p (productions b) && ltb i (argumentCount b p) && (isClas
 -- the argument count of p, if it is there
 unfoldable pub tableCount : List ℕ → ℕ → ℕ
 tableCount b p = cond (ltb p (productions b)) (argumentCount b p) 0
-
-abbrev pub bitOf : Bool → ℕ
-bitOf true = 1
-bitOf false = 0
 
 -- ---- where they hold it
 

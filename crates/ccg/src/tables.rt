@@ -24,10 +24,10 @@ ghost use lib.ListN.{length, getD};
 ghost use Rattle.charset.specs.Set.{has, inRange};
 ghost use Rattle.grammar.specs.Layout.{productions, classes, argumentCount, productionAt};
 ghost use Rattle.grammar.specs.Formed.{WellFormed};
-ghost use Rattle.common.specs.Below.{anyBelow};
+ghost use Rattle.common.specs.Below.{bitOf};
 ghost use Rattle.common.specs.Region.{Region};
 ghost use Rattle.ccg.specs.Trees.{isClass, classHas};
-ghost use Rattle.ccg.specs.Tables.{bitOf, subAt, wordAt, slot, Results, BarringRows, ArgumentsWritten, ZeroTables, FlatTables, charWords, subBytes};
+ghost use Rattle.ccg.specs.Tables.{subAt, wordAt, slot, Results, BarringRows, ArgumentsWritten, ZeroTables, FlatTables, charWords, subBytes};
 
 // How many words hold the characters of a slot.
 pub const WORDS: usize = 4;

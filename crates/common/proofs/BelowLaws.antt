@@ -2,7 +2,7 @@
 use Prim.Native.Nat.{ℕ, zero, suc, _+_, _*_, _≤_, _<_}
 use mathlib.Core.Path.{_≡_, refl, sym, _∙_, ap, subst}
 use mathlib.Core.Bool.{Bool, false, true, _||_, false≢true, and-false, or-true, or-false, or-assoc}
-use mathlib.Core.Logic.{⊎-elim, by-cases}
+use mathlib.Core.Logic.{_⊎_, inl, inr, ⊎-elim, by-cases}
 use native.Mathlib.Omega.{arith}
 use native.Mathlib.Decide.{decLt}
 use native.Mathlib.Nat.{le-refl}
@@ -37,6 +37,35 @@ pub sum-double : (f : ℕ → ℕ) (n : ℕ) → sumBelow n (λ k. 2 * f k) ≡ 
 unfolding sumBelow
 sum-double f zero = refl
 sum-double f (suc n) = omega (arith, sum-double f n)
+
+-- a sum that is not 0 has a part that is not 0; one of 2 or more has such a part, or two parts
+pub sum-one : (f : ℕ → ℕ) (n : ℕ) → 1 ≤ sumBelow n f → (i : ℕ) × (i < n) × (1 ≤ f i)
+unfolding sumBelow
+sum-one f zero h = absurd (omega arith)
+sum-one f (suc n) h =
+    by-cases (decLt 0 (f n))
+    (λ l. (n, omega arith, l))
+    (λ l. let (i, m, k) = sum-one f n (omega arith) in (i, omega arith, k))
+
+pub sum-two : (f : ℕ → ℕ) (n : ℕ) → 2 ≤ sumBelow n f
+    → ((i : ℕ) × (i < n) × (2 ≤ f i)) ⊎ ((i : ℕ) × (j : ℕ) × (i < j) × (j < n) × (1 ≤ f i) × (1 ≤ f j))
+unfolding sumBelow
+sum-two f zero h = absurd (omega arith)
+sum-two f (suc n) h =
+    by-cases (decLt 1 (f n))
+    (λ l. inl (n, omega arith, l))
+    (λ l. by-cases (decLt 0 (f n))
+    (λ k. let (i, m, o) = sum-one f n (omega arith) in inr (i, n, m, omega arith, o, k))
+    (λ k. ⊎-elim
+    (λ a. inl (a .0, omega (arith, a .1), a .2))
+    (λ a. inr (a .0, a .1, a .2, omega (arith, a .3), a .4, a .5))
+    (sum-two f n (omega arith))))
+
+pub sum-at : (f : ℕ → ℕ) (n i : ℕ) → i < n → f i ≤ sumBelow n f
+sum-at f n i l = omega (arith, sum-grows f i n l)
+
+pub sum-pair : (f : ℕ → ℕ) (n i j : ℕ) → i < j → j < n → f i + f j ≤ sumBelow n f
+sum-pair f n i j l m = omega (arith, sum-grows f i j l, sum-grows f j n m)
 
 -- ---- one of them
 

@@ -2,6 +2,7 @@
 
 pub mod BoolLaws
 pub mod BelowLaws
+pub mod ProductLaws
 pub mod FillLaws
 pub mod ListLaws
 pub mod RegionLaws

@@ -16,3 +16,8 @@ allBelow (suc n) f = allBelow n f && f n
 unfoldable pub anyBelow : ℕ → (ℕ → Bool) → Bool
 anyBelow zero f = false
 anyBelow (suc n) f = anyBelow n f || f n
+
+-- 1 for true, 0 for false
+abbrev pub bitOf : Bool → ℕ
+bitOf true = 1
+bitOf false = 0

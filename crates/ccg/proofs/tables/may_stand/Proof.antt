@@ -2,7 +2,7 @@
 use mathlib.Core.Path.{_≡_, ap}
 use mathlib.Core.Bool.{Bool, false, true}
 use borrow.Author.Needs.{needs}
-use Rattle.ccg.specs.Tables.{bitOf}
+use Rattle.common.specs.Below.{bitOf}
 use mir.Val.{boolByte}
 use Rattle.ccg.proofs.tables.may_stand.Statement.{statement}
 use Rattle.ccg.proofs.tables.may_stand.Tie as tie

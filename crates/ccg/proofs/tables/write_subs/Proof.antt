@@ -6,8 +6,8 @@ use mathlib.Core.List.{List}
 use native.Mathlib.Omega.{arith}
 use lib.Dec.{eqb}
 use lib.ListN.{getD}
-use Rattle.ccg.specs.Tables.{bitOf}
 use Rattle.common.proofs.RegionLaws.{region-none, region-more}
+use Rattle.common.specs.Below.{bitOf}
 use Rattle.common.specs.Region.{Region}
 use Rattle.priority.specs.Conflict.{barred}
 use Rattle.ccg.proofs.tables.write_subs.Statement.{statement}

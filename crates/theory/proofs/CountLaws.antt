@@ -1,0 +1,152 @@
+-- Counts determine the number; and a chart that is sound and closed counts the lists of trees of each entry, and the parses.
+use Prim.Native.Nat.{ℕ, _*_, _≤_, _<_}
+use mathlib.Core.Path.{_≡_, refl, sym, _∙_, ap₂, subst⁻¹}
+use mathlib.Core.Bool.{Bool, true}
+use mathlib.Core.List.{List}
+use mathlib.Core.Logic.{_↔_, ⊎-elim, by-cases}
+use native.Mathlib.Omega.{arith}
+use native.Mathlib.Decide.{decLt}
+use native.Mathlib.Nat.{le-refl}
+use lib.ListN.{length}
+use lib.Seq.{take-length}
+use Rattle.common.proofs.BelowLaws.{sum-one, sum-two, sum-at, sum-pair}
+use Rattle.common.proofs.ProductLaws.{product-one, product-two, one-product, right-below}
+use Rattle.common.specs.Below.{bitOf}
+use Rattle.theory.proofs.ClosedLaws.{meets, true-bit, spells-counted, spells-same}
+use Rattle.theory.proofs.SoundLaws.{bit-one, bit-small, node-forest, node-number}
+use Rattle.theory.proofs.SpellsLaws.{spells-yield, spells-derived, derived-spells}
+use Rattle.theory.specs.Counts.{Counts}
+use Rattle.theory.specs.Grammar.{Grammar, Spells, Parse}
+use Rattle.theory.specs.Steps.{Chart, cap, Sound, Closed, rootSum}
+use Rattle.theory.specs.Tree.{Tree, leaf, node, Forest}
+
+-- ---- counts
+
+not-fewer : {A : Type 0} (P : A → Type 0) (u v : ℕ) → Counts P u → Counts P v → u < v → ⊥
+not-fewer P u v a b l =
+    by-cases (decLt 1 v)
+    (λ h. let t = b .two h in t .4 (a .same (omega (arith, b .atMostTwo)) (t .0) (t .1) (t .2) (t .3)))
+    (λ h. let t = b .one (omega arith) in omega (arith, a .some (t .0) (t .1)))
+
+pub counts-unique : {A : Type 0} (P : A → Type 0) (u v : ℕ) → Counts P u → Counts P v → u ≡ v
+counts-unique P u v a b =
+    meets
+    (λ l. not-fewer P u v a b l)
+    (λ l. not-fewer P v u b a l)
+
+-- the same count for a predicate that says the same
+pub counts-same : {A : Type 0} (P Q : A → Type 0) (v : ℕ) → ((x : A) → P x ↔ Q x) → Counts P v → Counts Q v
+counts-same P Q v e a =
+    record {
+      atMostTwo = a .atMostTwo;
+      one = λ h. let t = a .one h in (t .0, e (t .0) .0 (t .1));
+      two = λ h. let t = a .two h in (t .0, t .1, e (t .0) .0 (t .2), e (t .1) .0 (t .3), t .4);
+      some = λ x q. a .some x (e x .1 q);
+      same = λ h x y q r. a .same h x y (e x .1 q) (e y .1 r);
+    }
+
+-- ---- each entry
+
+module _ (g : Grammar) (w : List ℕ) (c : Chart) (sound : Sound g w c) (closed : Closed g w c) (small : (p d i j : ℕ) → c p d i j ≤ 2) where
+  pub entry-counts : (p d i j : ℕ) → p < g .count → d ≤ g .arity p → Counts (λ (f : Forest). Spells g w p f d i j) (c p d i j)
+  entry-counts p d i j lp ld =
+      record {
+        atMostTwo = small p d i j;
+        one = sound .shown p d i j;
+        two = sound .shownTwo p d i j;
+        some = λ f s. spells-counted g w c closed p f d i j lp ld s;
+        same = λ h f k s r. spells-same g w c closed p f k d i j lp ld h s r;
+      }
+
+  -- ---- the parses
+
+  module _ (roots : ℕ → Bool) where
+    root : ℕ → ℕ
+    root p = bitOf (roots p) * c p (g .arity p) 0 (length w)
+
+    parse-of : (p : ℕ) (f : Forest) → p < g .count → roots p ≡ true → Spells g w p f (g .arity p) 0 (length w) → Parse g roots w (node p f)
+    unfolding Parse
+    parse-of p f l e s = (l, e, spells-derived g w p f (g .arity p) 0 (length w) s, spells-yield g w p f (g .arity p) 0 (length w) s ∙ take-length w)
+
+    spells-of : (p : ℕ) (f : Forest) → Parse g roots w (node p f) → Spells g w p f (g .arity p) 0 (length w)
+    unfolding Parse
+    spells-of p f s = derived-spells g w p f (g .arity p) 0 (length w) (s .2) (omega arith) (le-refl (length w)) (s .3 ∙ sym (take-length w))
+
+    root-one : (p : ℕ) → p < g .count → 1 ≤ root p → (t : Tree) × Parse g roots w t × ((f : Forest) × (t ≡ node p f))
+    unfolding root
+    root-one p l h =
+        let a = product-one (bitOf (roots p)) (c p (g .arity p) 0 (length w)) h in
+        let s = sound .shown p (g .arity p) 0 (length w) (a .1) in
+        (node p (s .0), parse-of p (s .0) l (bit-one (roots p) (a .0)) (s .1), (s .0, refl))
+
+    root-two : (p : ℕ) → p < g .count → 2 ≤ root p → (t : Tree) × (u : Tree) × Parse g roots w t × Parse g roots w u × (t ≡ u → ⊥)
+    unfolding root
+    root-two p l h =
+        ⊎-elim
+        (λ a. absurd (omega (arith, a .0, bit-small (roots p))))
+        (λ a. let s = sound .shownTwo p (g .arity p) 0 (length w) (a .1) in
+        let e = bit-one (roots p) (a .0) in
+        (node p (s .0), node p (s .1), parse-of p (s .0) l e (s .2), parse-of p (s .1) l e (s .3), λ q. s .4 (node-forest p p (s .0) (s .1) q)))
+        (product-two (bitOf (roots p)) (c p (g .arity p) 0 (length w)) h)
+
+    two-parses : 2 ≤ rootSum g roots w c → (t : Tree) × (u : Tree) × Parse g roots w t × Parse g roots w u × (t ≡ u → ⊥)
+    unfolding rootSum root
+    two-parses h =
+        ⊎-elim
+        (λ a. root-two (a .0) (a .1) (a .2))
+        (λ a. let s = root-one (a .0) (omega (arith, a .2, a .3)) (a .4) in
+        let r = root-one (a .1) (a .3) (a .5) in (
+          s .0,
+          r .0,
+          s .1,
+          r .1,
+          λ e. let n = node-number (a .0) (a .1) (s .2 .0) (r .2 .0) (sym (s .2 .1) ∙ e ∙ r .2 .1) in omega (arith, a .2),
+        ))
+        (sum-two root (g .count) h)
+
+    first-root : 1 ≤ rootSum g roots w c → (p : ℕ) × (p < g .count) × (1 ≤ root p)
+    unfolding rootSum root
+    first-root h = sum-one root (g .count) h
+
+    root-counted : (p : ℕ) (f : Forest) → Parse g roots w (node p f) → (p < g .count) × (1 ≤ root p)
+    unfolding Parse root
+    root-counted p f s = (
+      s .0,
+      one-product (bitOf (roots p)) (c p (g .arity p) 0 (length w)) (true-bit (roots p) (s .1))
+          (spells-counted g w c closed p f (g .arity p) 0 (length w) (s .0) (le-refl (g .arity p)) (spells-of p f s)),
+    )
+
+    some-parse : (t : Tree) → Parse g roots w t → 1 ≤ rootSum g roots w c
+    unfolding Parse rootSum root
+    some-parse (leaf x) s = absurd s
+    some-parse (node p f) s = let a = root-counted p f s in omega (arith, sum-at root (g .count) p (a .0))
+
+    root-small : (p : ℕ) → p < g .count → roots p ≡ true → rootSum g roots w c ≤ 1 → c p (g .arity p) 0 (length w) ≤ 1
+    unfolding rootSum root
+    root-small p l e h = omega (arith, sum-at root (g .count) p l, right-below (bitOf (roots p)) (c p (g .arity p) 0 (length w)) (true-bit (roots p) e))
+
+    one-root : rootSum g roots w c ≤ 1 → (p q : ℕ) → p < q → q < g .count → 1 ≤ root p → 1 ≤ root q → ⊥
+    unfolding rootSum root
+    one-root h p q l m a b = omega (arith, sum-pair root (g .count) p q l m)
+
+    same-parse : rootSum g roots w c ≤ 1 → (t u : Tree) → Parse g roots w t → Parse g roots w u → t ≡ u
+    unfolding Parse
+    same-parse h (leaf x) u s r = absurd s
+    same-parse h (node p f) (leaf y) s r = absurd r
+    same-parse h (node p f) (node q k) s r =
+        let a = root-counted p f s in
+        let b = root-counted q k r in
+        let e : p ≡ q = meets (λ l. one-root h p q l (b .0) (a .1) (b .1)) (λ l. one-root h q p l (a .0) (b .1) (a .1)) in
+        let r′ = subst⁻¹ (λ (n : ℕ). Spells g w n k (g .arity n) 0 (length w)) e (spells-of q k r) in
+        ap₂ node e (spells-same g w c closed p f k (g .arity p) 0 (length w) (s .0) (le-refl (g .arity p)) (root-small p (s .0) (s .1) h) (spells-of p f s) r′)
+
+    -- Parses of every size are counted, and no other.
+    pub parse-counts : Counts (Parse g roots w) (cap (rootSum g roots w c))
+    parse-counts =
+        record {
+          atMostTwo = omega arith;
+          one = λ h. let (p, l, k) = first-root (omega arith) in let s = root-one p l k in (s .0, s .1);
+          two = λ h. two-parses (omega arith);
+          some = λ t s. omega (arith, some-parse t s);
+          same = λ h t u s r. same-parse (omega arith) t u s r;
+        }

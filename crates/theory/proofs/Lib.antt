@@ -1,0 +1,5 @@
+-- Laws of parse trees and of counting them.
+pub mod SpellsLaws
+pub mod SoundLaws
+pub mod ClosedLaws
+pub mod CountLaws

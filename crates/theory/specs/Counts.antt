@@ -1,0 +1,13 @@
+-- How many things there are of which P holds: none, one, or more than one.
+use Prim.Native.Nat.{ℕ, _≤_}
+use mathlib.Core.Path.{_≡_}
+
+-- v is 0, 1, or 2 for more: v things can be shown, and no more are there.
+pub record Counts {A : Type 0} (P : A → Type 0) (v : ℕ) : Type 0 where
+  pub atMostTwo : v ≤ 2
+  -- at least v
+  pub one : 1 ≤ v → (x : A) × P x
+  pub two : 2 ≤ v → (x : A) × (y : A) × P x × P y × (x ≡ y → ⊥)
+  -- at most v
+  pub some : (x : A) → P x → 1 ≤ v
+  pub same : v ≤ 1 → (x y : A) → P x → P y → x ≡ y
