@@ -21,6 +21,9 @@ use Rattle.theory.specs.Tree.{productionNumber}
 unfoldable pub slot : ℕ → ℕ → ℕ
 slot p i = p * argumentLimit + i
 
+abbrev pub slots : ℕ
+slots = productionLimit * argumentLimit
+
 -- ---- what the tables hold
 
 -- production q may stand as argument i of p, all of which are there
@@ -42,18 +45,21 @@ unfoldable pub subAt : ℕ → ℕ → ℕ
 subAt s q = s * productionLimit + q
 
 -- four words for each slot: the set of its characters
+abbrev pub slotWords : ℕ
+slotWords = 4
+
 unfoldable pub wordAt : ℕ → ℕ → ℕ
-wordAt s k = s * 4 + k
+wordAt s k = s * slotWords + k
 
 unfoldable pub slotHas : List ℕ → ℕ → ℕ → Bool
 slotHas chars s c = bit (getD chars (wordAt s (c / 64)) 0) (c % 64)
 
 -- how long the tables are
 abbrev pub charWords : ℕ
-charWords = productionLimit * argumentLimit * 4
+charWords = slots * slotWords
 
 abbrev pub subBytes : ℕ
-subBytes = productionLimit * argumentLimit * productionLimit
+subBytes = slots * productionLimit
 
 -- n zeros
 pub record AllZero (n : ℕ) (l : List ℕ) : Type 0 where

@@ -14,6 +14,7 @@ ghost use mathlib.Core.Path.{_≡_};
 ghost use mathlib.Core.List.{List};
 ghost use Prim.Native.Nat.{ℕ};
 ghost use lib.ListN.{length, getD};
+ghost use Rattle.grammar.specs.Limits.{productionLimit};
 ghost use Rattle.grammar.specs.Formed.{WellFormed};
 ghost use Rattle.ccg.specs.Flat.{flatGrammar};
 ghost use Rattle.ccg.specs.Tables.{AllZero, charWords, subBytes};
@@ -59,7 +60,7 @@ fn write_accepted(book: &[u8], out: &mut [u8]) -> FlatAnswer
 }
 
 fn zero_counts() -> [u8; PRODUCTION_LIMIT]
-    ensures { λ r. ⌜ AllZero 64 r ⌝ }
+    ensures { λ r. ⌜ AllZero productionLimit r ⌝ }
 {
     [0; PRODUCTION_LIMIT]
 }

@@ -5,6 +5,7 @@ use grammar::layout::bodies_at;
 use grammar::layout::class_at;
 use grammar::layout::production_count;
 use grammar::layout::range_count;
+use grammar::layout::wide;
 use grammar::limits::ARGUMENT_LIMIT;
 use grammar::limits::CLASS_BASE;
 use grammar::limits::HEADER_LENGTH;
@@ -22,12 +23,13 @@ ghost use Prim.Native.Nat.{ℕ, _+_, _*_, _-_, _<_, _≤_};
 ghost use lib.Dec.{eqb, leb, ltb};
 ghost use lib.ListN.{length, getD};
 ghost use Rattle.charset.specs.Set.{has, inRange};
+ghost use Rattle.grammar.specs.Limits.{productionLimit, classBase};
 ghost use Rattle.grammar.specs.Layout.{productions, classes, argumentCount, productionAt};
 ghost use Rattle.grammar.specs.Formed.{WellFormed};
 ghost use Rattle.common.specs.Below.{bitOf};
 ghost use Rattle.common.specs.Region.{Region};
 ghost use Rattle.ccg.specs.Trees.{isClass, classHas};
-ghost use Rattle.ccg.specs.Tables.{subAt, wordAt, slot, Results, BarringRows, ArgumentsWritten, ZeroTables, FlatTables, charWords, subBytes};
+ghost use Rattle.ccg.specs.Tables.{subAt, wordAt, slot, Results, BarringRows, ArgumentsWritten, ZeroTables, FlatTables, slotWords, charWords, subBytes};
 
 // How many words hold the characters of a slot.
 pub const WORDS: usize = 4;
@@ -78,8 +80,8 @@ pub fn class_set(book: &[u8], k: usize) -> CharSet
 // The characters that argument byte x lets stand: none if x is a sort.
 fn argument_set(book: &[u8], x: usize) -> CharSet
     requires { ⌜ WellFormed (now book) ⌝ }
-    requires { ⌜ x < 64 + classes (now book) ⌝ }
-    ensures { λ r. ⌜ ((c : ℕ) → c < 256 → has (r .words) c ≡ (isClass (now (book .entry)) x && classHas (now (book .entry)) (x - 64) c)) ⌝ }
+    requires { ⌜ x < classBase + classes (now book) ⌝ }
+    ensures { λ r. ⌜ ((c : ℕ) → c < 256 → has (r .words) c ≡ (isClass (now (book .entry)) x && classHas (now (book .entry)) (x - classBase) c)) ⌝ }
 {
     if x < CLASS_BASE {
         return CharSet::empty();
@@ -117,8 +119,8 @@ fn write_subs(
     barred: [bool; PRODUCTION_LIMIT],
     results: [u8; PRODUCTION_LIMIT],
 )
-    requires { ⌜ base + 64 ≤ length (now subs) ⌝ }
-    ensures { λ _. ⌜ Region (λ (q : ℕ) (v : ℕ). v ≡ bitOf (eqb (getD results q 0) x && not (getD barred q false))) 0 base 64 (now (subs .entry)) (now (subs .exit)) ⌝ }
+    requires { ⌜ base + productionLimit ≤ length (now subs) ⌝ }
+    ensures { λ _. ⌜ Region (λ (q : ℕ) (v : ℕ). v ≡ bitOf (eqb (getD results q 0) x && not (getD barred q false))) 0 base productionLimit (now (subs .entry)) (now (subs .exit)) ⌝ }
 {
     let mut q = 0;
     while q < PRODUCTION_LIMIT {
@@ -129,8 +131,8 @@ fn write_subs(
 
 // Copies the words of a set to a slot.
 fn write_chars(chars: &mut [u64], base: usize, set: CharSet)
-    requires { ⌜ base + 4 ≤ length (now chars) ⌝ }
-    ensures { λ _. ⌜ Region (λ (k : ℕ) (v : ℕ). v ≡ getD (set .words) k 0) 0 base 4 (now (chars .entry)) (now (chars .exit)) ⌝ }
+    requires { ⌜ base + slotWords ≤ length (now chars) ⌝ }
+    ensures { λ _. ⌜ Region (λ (k : ℕ) (v : ℕ). v ≡ getD (set .words) k 0) 0 base slotWords (now (chars .entry)) (now (chars .exit)) ⌝ }
 {
     let words = set.words;
     let mut k = 0;
@@ -178,12 +180,6 @@ fn write_production(
         );
         i += 1;
     }
-}
-
-pub fn wide(x: u8) -> usize
-    ensures { λ r. ⌜ r ≡ x ⌝ }
-{
-    x as usize
 }
 
 // Fills the three tables, which hold zeros before.

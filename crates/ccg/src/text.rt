@@ -1,9 +1,10 @@
 // The written form of a character class grammar. What does not fit the buffer is dropped and still counted, so a first pass over an empty buffer
 // gives the length.
 use crate::tables::WORDS;
-use crate::tables::wide;
+use charset::CHARACTERS;
 use charset::CharSet;
 use charset::NextRun;
+use grammar::layout::wide;
 use grammar::limits::ARGUMENT_LIMIT;
 use grammar::limits::PRODUCTION_LIMIT;
 ghost use mathlib.Core.Path.{_≡_};
@@ -11,13 +12,15 @@ ghost use mathlib.Core.List.{List, [], _∷_, _++_};
 ghost use Prim.Native.Nat.{ℕ, _+_, _*_, _-_, _<_, _≤_};
 ghost use lib.Dec.{eqb};
 ghost use lib.ListN.{length, getD};
+ghost use Rattle.grammar.specs.Limits.{productionLimit, argumentLimit};
+ghost use Rattle.theory.specs.Tree.{productionNumber};
 ghost use Rattle.charset.specs.Set.{has};
 ghost use Rattle.charset.specs.Runs.{range, runs, firstRun};
 ghost use Rattle.charset.specs.Sought.{Sought};
 ghost use Rattle.common.specs.Lists.{joined};
 ghost use Rattle.ccg.specs.Put.{Put, farthest};
-ghost use Rattle.ccg.specs.Text.{numeral, rangeText, classText, resultText, lineText, grammarText};
-ghost use Rattle.ccg.specs.Tables.{slotHas, subNumber, tableClass, slotLine, tableGrammar, FewArguments, charWords, subBytes};
+ghost use Rattle.ccg.specs.Text.{numeral, numberLimit, rangeText, classText, resultText, lineText, grammarText};
+ghost use Rattle.ccg.specs.Tables.{slotHas, subNumber, tableClass, slotLine, tableGrammar, FewArguments, slots, slotWords, charWords, subBytes};
 
 // The number of production 0.
 pub const FIRST_PRODUCTION: usize = 258;
@@ -92,7 +95,7 @@ fn put_char_runs(out: &mut [u8], at: usize, set: CharSet) -> usize
 {
     let mut place = at;
     let mut from = 0;
-    while from < 256 {
+    while from < CHARACTERS {
         let NextRun::Run(low, high) = set.next_run(from) else {
             return place;
         };
@@ -105,9 +108,9 @@ fn put_char_runs(out: &mut [u8], at: usize, set: CharSet) -> usize
 
 // The normal ranges of the production numbers of a slot, whose entries begin at `base`.
 fn put_production_runs(out: &mut [u8], at: usize, subs: &[u8], base: usize) -> usize
-    requires { ⌜ base + 64 ≤ length (now subs) ⌝ }
-    requires { ⌜ at + length (joined rangeText (runs (subNumber (now subs) base) 258 64)) ≤ farthest ⌝ }
-    ensures { λ r. ⌜ Put (joined rangeText (runs (subNumber (now (subs .entry)) base) 258 64)) (now (out .entry)) at (now (out .exit)) r ⌝ }
+    requires { ⌜ base + productionLimit ≤ length (now subs) ⌝ }
+    requires { ⌜ at + length (joined rangeText (runs (subNumber (now subs) base) (productionNumber 0) productionLimit)) ≤ farthest ⌝ }
+    ensures { λ r. ⌜ Put (joined rangeText (runs (subNumber (now (subs .entry)) base) (productionNumber 0) productionLimit)) (now (out .entry)) at (now (out .exit)) r ⌝ }
 {
     let mut place = at;
     let mut from = FIRST_PRODUCTION;
@@ -124,9 +127,9 @@ fn put_production_runs(out: &mut [u8], at: usize, subs: &[u8], base: usize) -> u
 
 // The first of the normal ranges of a slot's production numbers from `from` on.
 fn next_production_run(subs: &[u8], base: usize, from: usize) -> NextRun
-    requires { ⌜ base + 64 ≤ length (now subs) ⌝ }
-    requires { ⌜ (258 ≤ from) × (from < 322) ⌝ }
-    ensures { λ r. ⌜ r ≡ firstRun (runs (subNumber (now (subs .entry)) base) from (322 - from)) ⌝ }
+    requires { ⌜ base + productionLimit ≤ length (now subs) ⌝ }
+    requires { ⌜ (productionNumber 0 ≤ from) × (from < numberLimit) ⌝ }
+    ensures { λ r. ⌜ r ≡ firstRun (runs (subNumber (now (subs .entry)) base) from (numberLimit - from)) ⌝ }
 {
     let low = seek_number(subs, base, from, true);
     if FIRST_PRODUCTION + PRODUCTION_LIMIT <= low {
@@ -137,9 +140,9 @@ fn next_production_run(subs: &[u8], base: usize, from: usize) -> NextRun
 
 // The first production number from `from` on whose entry is as wanted, past all of them if there is none.
 fn seek_number(subs: &[u8], base: usize, from: usize, wanted: bool) -> usize
-    requires { ⌜ base + 64 ≤ length (now subs) ⌝ }
-    requires { ⌜ 258 ≤ from ⌝ }
-    ensures { λ r. ⌜ Sought 322 (subNumber (now (subs .entry)) base) wanted from r ⌝ }
+    requires { ⌜ base + productionLimit ≤ length (now subs) ⌝ }
+    requires { ⌜ productionNumber 0 ≤ from ⌝ }
+    ensures { λ r. ⌜ Sought numberLimit (subNumber (now (subs .entry)) base) wanted from r ⌝ }
 {
     let mut at = from;
     while at < FIRST_PRODUCTION + PRODUCTION_LIMIT {
@@ -153,7 +156,7 @@ fn seek_number(subs: &[u8], base: usize, from: usize, wanted: bool) -> usize
 
 // The characters of slot s.
 fn slot_set(chars: &[u64], s: usize) -> CharSet
-    requires { ⌜ s * 4 + 4 ≤ length (now chars) ⌝ }
+    requires { ⌜ s * slotWords + slotWords ≤ length (now chars) ⌝ }
     ensures { λ r. ⌜ ((c : ℕ) → c < 256 → has (r .words) c ≡ slotHas (now (chars .entry)) s c) ⌝ }
 {
     let base = s * WORDS;
@@ -169,7 +172,7 @@ fn slot_set(chars: &[u64], s: usize) -> CharSet
 
 // The class of slot s.
 fn put_class(out: &mut [u8], at: usize, chars: &[u64], subs: &[u8], s: usize) -> usize
-    requires { ⌜ (length (now chars) ≡ charWords) × (length (now subs) ≡ subBytes) × (s < 512) ⌝ }
+    requires { ⌜ (length (now chars) ≡ charWords) × (length (now subs) ≡ subBytes) × (s < slots) ⌝ }
     requires { ⌜ at + length (classText (tableClass (now chars) (now subs) s)) ≤ farthest ⌝ }
     ensures { λ r. ⌜ Put (classText (tableClass (now (chars .entry)) (now (subs .entry)) s)) (now (out .entry)) at (now (out .exit)) r ⌝ }
 {
@@ -183,9 +186,9 @@ fn put_class(out: &mut [u8], at: usize, chars: &[u64], subs: &[u8], s: usize) ->
 
 // What follows the arguments of production p.
 fn put_result(out: &mut [u8], at: usize, p: usize) -> usize
-    requires { ⌜ p < 64 ⌝ }
-    requires { ⌜ at + length (resultText (258 + p)) ≤ farthest ⌝ }
-    ensures { λ r. ⌜ Put (resultText (258 + p)) (now (out .entry)) at (now (out .exit)) r ⌝ }
+    requires { ⌜ p < productionLimit ⌝ }
+    requires { ⌜ at + length (resultText (productionNumber p)) ≤ farthest ⌝ }
+    ensures { λ r. ⌜ Put (resultText (productionNumber p)) (now (out .entry)) at (now (out .exit)) r ⌝ }
 {
     let dash = put(out, at, b'-');
     let arrow = put(out, dash, b'>');
@@ -198,7 +201,7 @@ fn put_result(out: &mut [u8], at: usize, p: usize) -> usize
 
 // The line of production p, which has `count` arguments.
 fn put_line(out: &mut [u8], at: usize, chars: &[u64], subs: &[u8], p: usize, count: usize) -> usize
-    requires { ⌜ (length (now chars) ≡ charWords) × (length (now subs) ≡ subBytes) × (p < 64) × (count ≤ 8) ⌝ }
+    requires { ⌜ (length (now chars) ≡ charWords) × (length (now subs) ≡ subBytes) × (p < productionLimit) × (count ≤ argumentLimit) ⌝ }
     requires { ⌜ at + length (lineText (slotLine (now chars) (now subs) p count)) ≤ farthest ⌝ }
     ensures { λ r. ⌜ Put (lineText (slotLine (now (chars .entry)) (now (subs .entry)) p count)) (now (out .entry)) at (now (out .exit)) r ⌝ }
 {
@@ -216,7 +219,7 @@ fn put_line(out: &mut [u8], at: usize, chars: &[u64], subs: &[u8], p: usize, cou
 // The first `count` lines of the grammar that tables hold. What does not fit is dropped; the length of the whole comes back.
 pub fn put_grammar(out: &mut [u8], counts: &[u8], chars: &[u64], subs: &[u8], count: usize) -> usize
     requires { ⌜ FewArguments (now counts) (now chars) (now subs) ⌝ }
-    requires { ⌜ count ≤ 64 ⌝ }
+    requires { ⌜ count ≤ productionLimit ⌝ }
     ensures { λ r. ⌜ Put (grammarText (tableGrammar count (now (counts .entry)) (now (chars .entry)) (now (subs .entry)))) (now (out .entry)) 0 (now (out .exit)) r ⌝ }
 {
     let mut place = 0;

@@ -67,7 +67,7 @@ impl CharSet {
         ensures { λ r. ⌜ r ≡ firstRun (runs (has (self .words)) from (256 - from)) ⌝ }
     {
         let low = self.seek(from, true);
-        if 256 <= low {
+        if CHARACTERS <= low {
             return NextRun::End;
         }
         NextRun::Run(low, self.seek(low, false) - 1)
@@ -78,7 +78,7 @@ impl CharSet {
         ensures { λ r. ⌜ Sought 256 (has (self .words)) wanted from r ⌝ }
     {
         let mut at = from;
-        while at < 256 {
+        while at < CHARACTERS {
             if self.contains(at as u8) == wanted {
                 return at;
             }

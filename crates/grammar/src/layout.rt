@@ -14,7 +14,8 @@ pub fn byte_at(book: &[u8], k: usize) -> usize
     wide(book[k])
 }
 
-fn wide(x: u8) -> usize
+// A byte as a number.
+pub fn wide(x: u8) -> usize
     ensures { λ r. ⌜ r ≡ x ⌝ }
 {
     x as usize

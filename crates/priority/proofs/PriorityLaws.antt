@@ -15,6 +15,7 @@ use Rattle.common.specs.Below.{anyBelow}
 use Rattle.grammar.proofs.FormedLaws.{declaration-in}
 use Rattle.grammar.specs.Formed.{WellFormed}
 use Rattle.grammar.specs.Layout.{productions, declarations, declarationAt, kind, first, second}
+use Rattle.grammar.specs.Limits.{productionLimit}
 use Rattle.grammar.specs.Verdict.{refuseIf}
 use Rattle.priority.proofs.ChainLaws.{through-chain, chain-through}
 use Rattle.priority.proofs.TableLaws.{entry-put-same, entry-put-other}
@@ -107,10 +108,10 @@ module _ (b : List ℕ) (w : WellFormed b) (t : List (List Bool)) (h : (x y : �
 -- ---- the bytes of a declaration, as code reads them
 
 module _ (b : List ℕ) (w : WellFormed b) (d : ℕ) (h : d < declarations b) where
-  pub small-first : first b d < 64
+  pub small-first : first b d < productionLimit
   small-first = omega (arith, w .firstThere d h, w .framed .fewProductions)
 
-  pub small-second : second b d < 64
+  pub small-second : second b d < productionLimit
   small-second = omega (arith, w .secondThere d h, w .framed .fewProductions)
 
 pub first-is : (b : List ℕ) (d at x : ℕ) → at ≡ declarationAt b d → x ≡ getD b (at + 1) 0 → x ≡ first b d
@@ -127,10 +128,10 @@ kind-is b d at x e f = f ∙ ap (λ (a : ℕ). getD b a 0) e
 
 -- what was read as first or second production fits the table
 module _ (b : List ℕ) (w : WellFormed b) (d at : ℕ) (h : d < declarations b) (e : at ≡ declarationAt b d) where
-  pub first-below : (x : ℕ) → x ≡ getD b (at + 1) 0 → x < 64
+  pub first-below : (x : ℕ) → x ≡ getD b (at + 1) 0 → x < productionLimit
   first-below x f = omega (arith, first-is b d at x e f, small-first b w d h)
 
-  pub second-below : (x : ℕ) → x ≡ getD b (at + 2) 0 → x < 64
+  pub second-below : (x : ℕ) → x ≡ getD b (at + 2) 0 → x < productionLimit
   second-below x f = omega (arith, second-is b d at x e f, small-second b w d h)
 
   pub declaration-ends : at + 3 ≤ length b

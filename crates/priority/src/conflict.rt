@@ -21,6 +21,7 @@ ghost use mathlib.Core.Bool.{Bool, true, cond, _||_};
 ghost use mathlib.Core.Logic.{_↔_};
 ghost use Prim.Native.Nat.{ℕ, _<_, _≤_};
 ghost use lib.Dec.{eqb};
+ghost use Rattle.grammar.specs.Limits.{productionLimit};
 ghost use Rattle.grammar.specs.Layout.{productions, argumentCount};
 ghost use Rattle.grammar.specs.Formed.{WellFormed};
 ghost use Rattle.priority.specs.Chain.{entry};
@@ -91,7 +92,7 @@ fn is_conflict(
 }
 
 fn is_associated(pairs: [[bool; PRODUCTION_LIMIT]; PRODUCTION_LIMIT], p: usize, q: usize) -> bool
-    requires { ⌜ (p < 64) × (q < 64) ⌝ }
+    requires { ⌜ (p < productionLimit) × (q < productionLimit) ⌝ }
     ensures { λ r. ⌜ r ≡ entry pairs p q ⌝ }
 {
     pairs[p][q]

@@ -15,6 +15,7 @@ ghost use mathlib.Core.Logic.{_↔_};
 ghost use mathlib.Core.List.{List};
 ghost use Prim.Native.Nat.{ℕ, _<_, _≤_};
 ghost use lib.ListN.{getD};
+ghost use Rattle.grammar.specs.Limits.{productionLimit};
 ghost use Rattle.grammar.specs.Layout.{productions};
 ghost use Rattle.grammar.specs.Formed.{Framed, WellFormed};
 ghost use Rattle.grammar.specs.Verdict.{firstRefusal};
@@ -64,7 +65,7 @@ pub fn priorities(book: &[u8]) -> [[bool; PRODUCTION_LIMIT]; PRODUCTION_LIMIT]
 
 // 9: the lowest production higher than itself.
 fn check_circles(table: [[bool; PRODUCTION_LIMIT]; PRODUCTION_LIMIT], count: usize) -> Verdict
-    requires { ⌜ count ≤ 64 ⌝ }
+    requires { ⌜ count ≤ productionLimit ⌝ }
     ensures { λ r. ⌜ r ≡ firstRefusal count (onDiagonal table) ⌝ }
 {
     let mut p = 0;
@@ -97,7 +98,7 @@ fn declared_higher(book: &[u8]) -> [[bool; PRODUCTION_LIMIT]; PRODUCTION_LIMIT]
 }
 
 fn no_pairs() -> [[bool; PRODUCTION_LIMIT]; PRODUCTION_LIMIT]
-    ensures { λ r. ⌜ Square 64 r ⌝ }
+    ensures { λ r. ⌜ Square productionLimit r ⌝ }
     ensures { λ r. ⌜ ((x y : ℕ) → entry r x y ≡ false) ⌝ }
 {
     [[false; PRODUCTION_LIMIT]; PRODUCTION_LIMIT]
@@ -136,7 +137,7 @@ fn with_middle(
     table: [[bool; PRODUCTION_LIMIT]; PRODUCTION_LIMIT],
     middle: usize,
 ) -> [[bool; PRODUCTION_LIMIT]; PRODUCTION_LIMIT]
-    requires { ⌜ middle < 64 ⌝ }
+    requires { ⌜ middle < productionLimit ⌝ }
     ensures { λ r. ⌜ ((x y : ℕ) → entry r x y ≡ (entry table x y || entry table x middle && entry table middle y)) ⌝ }
 {
     let mut wider = table;

@@ -9,20 +9,21 @@ use native.Mathlib.Decide.{decLt}
 use lib.ListN.{length}
 use borrow.Author.Needs.{needs}
 use Rattle.common.proofs.BoolLaws.{not-both}
+use Rattle.grammar.specs.Limits.{productionLimit}
 use Rattle.priority.proofs.ChainLaws.{through-next, through-chain, chain-through}
 use Rattle.priority.proofs.TableLaws.{entry-out}
 use Rattle.priority.specs.Chain.{through, entry}
 use Rattle.priority.proofs.closed.Statement.{statement}
 use Rattle.priority.proofs.closed.Tie as tie
 
-in-table : (t : List (List Bool)) → length t ≡ 64 → (x y : ℕ) → entry t x y ≡ true → x < 64
-in-table t e x y h = by-cases (decLt x 64) (λ l. l) (λ n. not-both (entry t x y) h (entry-out t x y (omega arith)))
+in-table : (t : List (List Bool)) → length t ≡ productionLimit → (x y : ℕ) → entry t x y ≡ true → x < productionLimit
+in-table t e x y h = by-cases (decLt x productionLimit) (λ l. l) (λ n. not-both (entry t x y) h (entry-out t x y (omega arith)))
 
 abbrev Inv-loop : tie.InvT-loop
-Inv-loop closure₀ middle₀ closure middle = ((x y : ℕ) → entry closure x y ≡ through (entry closure₀) middle x y) × (middle ≤ 64)
+Inv-loop closure₀ middle₀ closure middle = ((x y : ℕ) → entry closure x y ≡ through (entry closure₀) middle x y) × (middle ≤ productionLimit)
 
 abbrev μ-loop : tie.MeasureT-loop
-μ-loop closure₀ middle₀ closure middle = 64 - middle
+μ-loop closure₀ middle₀ closure middle = productionLimit - middle
 
 loop-holds : tie.Need-loop-holds Inv-loop μ-loop
 unfolding through
@@ -47,10 +48,10 @@ loop-again c =
 returns : tie.Need-returns Inv-loop μ-loop
 returns c x y =
     let t = c .before .before .args .table in
-    let n : length t ≡ 64 = search needs in
-    let e : c .before .loop .middle ≡ 64 = omega arith in
+    let n : length t ≡ productionLimit = search needs in
+    let e : c .before .loop .middle ≡ productionLimit = omega arith in
     let i = subst (λ (k : ℕ). entry (c .before .loop .closure) x y ≡ through (entry t) k x y) e (c .before .loop .inv .0 x y) in
-    ((λ h. through-chain (entry t) 64 x y (sym i ∙ h)), (λ h. i ∙ chain-through (entry t) 64 (in-table t n) h))
+    ((λ h. through-chain (entry t) productionLimit x y (sym i ∙ h)), (λ h. i ∙ chain-through (entry t) productionLimit (in-table t n) h))
 
 pub closed-spec : {M : Type 1} → statement M
 closed-spec =

@@ -9,6 +9,7 @@ use lib.ListN.{getD}
 use Rattle.grammar.proofs.FormedLaws.{declaration-in, bodies-in}
 use Rattle.grammar.proofs.LayoutLaws.{declaration-next}
 use Rattle.grammar.specs.Layout.{declarations, declarationAt, kind, first, second}
+use Rattle.grammar.specs.Limits.{productionLimit}
 use Rattle.priority.proofs.PriorityLaws.{declaredBelow, declared-none, declared-all, declared-more, small-first, small-second, first-is, second-is, kind-is}
 use Rattle.priority.proofs.TableLaws.{square-put}
 use Rattle.priority.specs.Chain.{entry, Square}
@@ -16,7 +17,7 @@ use Rattle.priority.proofs.declared_higher.Statement.{statement}
 use Rattle.priority.proofs.declared_higher.Tie as tie
 
 record Taken (b : List ℕ) (count at d : ℕ) (table : List (List Bool)) : Type 0 where
-  square : Square 64 table
+  square : Square productionLimit table
   place : at ≡ declarationAt b d
   within : d ≤ count
   pairs : (x y : ℕ) → entry table x y ≡ declaredBelow b d x y
@@ -116,10 +117,10 @@ loop-again c =
     let h : d < declarations b = omega (arith, c .before .before .before .before .before .before .before .before .declaration-count .ensures) in
     rw (f, s)
     (record {
-      square = square-put 64 (c .before .before .before .before .before .before .loop .table) (first b d) (second b d) (c .either .result) (i .square) (small-first b (c .before .before .before .before .before .before .before .before .before .before .before .pre) d h) (small-second b (c .before .before .before .before .before .before .before .before .before .before .before .pre) d h);
+      square = square-put productionLimit (c .before .before .before .before .before .before .loop .table) (first b d) (second b d) (c .either .result) (i .square) (small-first b (c .before .before .before .before .before .before .before .before .before .before .before .pre) d h) (small-second b (c .before .before .before .before .before .before .before .before .before .before .before .pre) d h);
       place = omega (arith, i .place, declaration-next b d);
       within = omega arith;
-      pairs = declared-more 64 b d (c .before .before .before .before .before .before .loop .table) (i .square) (small-first b (c .before .before .before .before .before .before .before .before .before .before .before .pre) d h) (small-second b (c .before .before .before .before .before .before .before .before .before .before .before .pre) d h) (i .pairs) (c .either .result) v;
+      pairs = declared-more productionLimit b d (c .before .before .before .before .before .before .loop .table) (i .square) (small-first b (c .before .before .before .before .before .before .before .before .before .before .before .pre) d h) (small-second b (c .before .before .before .before .before .before .before .before .before .before .before .pre) d h) (i .pairs) (c .either .result) v;
     })
 
 returns : tie.Need-returns Inv-loop μ-loop

@@ -9,6 +9,7 @@ use native.Mathlib.Decide.{decLt}
 use lib.ListN.{length, getD}
 use borrow.Author.Needs.{needs}
 use Rattle.common.proofs.FillLaws.{Filled, filled-none, filled-more}
+use Rattle.grammar.specs.Limits.{productionLimit}
 use Rattle.priority.proofs.TableLaws.{entry-out}
 use Rattle.priority.specs.Chain.{entry}
 use Rattle.priority.proofs.with_middle.Statement.{statement}
@@ -18,14 +19,14 @@ use Rattle.priority.proofs.with_middle.Tie as tie
 Passes : List (List Bool) → ℕ → ℕ → List Bool → Type 0
 Passes table middle x row = (y : ℕ) → getD row y false ≡ (entry table x y || entry table x middle && entry table middle y)
 
-beyond-all : (t : List (List Bool)) (m x y : ℕ) → length t ≡ 64 → 64 ≤ x → entry t x y ≡ (entry t x y || entry t x m && entry t m y)
+beyond-all : (t : List (List Bool)) (m x y : ℕ) → length t ≡ productionLimit → productionLimit ≤ x → entry t x y ≡ (entry t x y || entry t x m && entry t m y)
 beyond-all t m x y e h = rw (entry-out t x y (omega arith), entry-out t x m (omega arith)) refl
 
 abbrev Inv-loop : tie.InvT-loop
-Inv-loop middle table wider₀ beyond x₀ wider x = Filled (Passes table middle) [] table x wider × (x ≤ 64)
+Inv-loop middle table wider₀ beyond x₀ wider x = Filled (Passes table middle) [] table x wider × (x ≤ productionLimit)
 
 abbrev μ-loop : tie.MeasureT-loop
-μ-loop middle table wider₀ beyond x₀ wider x = 64 - x
+μ-loop middle table wider₀ beyond x₀ wider x = productionLimit - x
 
 mul-beyond : tie.Need-mul-beyond Inv-loop μ-loop
 mul-beyond c = omega arith
@@ -70,15 +71,15 @@ loop-again : tie.Need-loop-again Inv-loop μ-loop
 unfolding Passes entry
 loop-again c =
     let t = c .before .before .before .before .before .before .args .t1 in
-    let n : length t ≡ 64 = search needs in
+    let n : length t ≡ productionLimit = search needs in
     (filled-more (Passes t (c .before .before .before .before .before .before .args .middle)) [] t (c .before .before .before .before .loop .x) (c .before .before .before .before .loop .wider) (c .joined .result) (omega arith) (c .before .before .before .before .loop .inv .0) (c .joined .ensures), omega arith)
 
 returns : tie.Need-returns Inv-loop μ-loop
 unfolding Passes entry
 returns c x y =
     let t = c .before .before .before .args .t1 in
-    let n : length t ≡ 64 = search needs in
-    by-cases (decLt x 64)
+    let n : length t ≡ productionLimit = search needs in
+    by-cases (decLt x productionLimit)
     (λ l. c .before .loop .inv .0 .done x (omega arith) y)
     (λ l. ap (λ (row : List Bool). getD row y false) (c .before .loop .inv .0 .rest x (omega arith)) ∙ beyond-all t (c .before .before .before .args .middle) x y n (omega arith))
 

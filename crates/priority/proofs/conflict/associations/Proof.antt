@@ -9,6 +9,7 @@ use lib.ListN.{getD, set}
 use Rattle.grammar.proofs.FormedLaws.{bodies-in}
 use Rattle.grammar.proofs.LayoutLaws.{declaration-next}
 use Rattle.grammar.specs.Layout.{declarations, declarationAt, kind, first, second}
+use Rattle.grammar.specs.Limits.{productionLimit}
 use Rattle.priority.proofs.ConflictLaws.{associatedBelow, associated-none, associated-all, associated-more}
 use Rattle.priority.proofs.PriorityLaws.{small-first, small-second, first-is, second-is, kind-is, first-below, second-below, declaration-ends}
 use Rattle.priority.proofs.TableLaws.{square-put}
@@ -17,7 +18,7 @@ use Rattle.priority.proofs.conflict.associations.Statement.{statement}
 use Rattle.priority.proofs.conflict.associations.Tie as tie
 
 record Taken (b : List ℕ) (side count at d : ℕ) (table : List (List Bool)) : Type 0 where
-  square : Square 64 table
+  square : Square productionLimit table
   place : at ≡ declarationAt b d
   within : d ≤ count
   pairs : (x y : ℕ) → entry table x y ≡ associatedBelow b side d x y
@@ -131,13 +132,13 @@ loop-again c =
     let v : c .before .before .either2 .result ≡ (getD (getD t (first b d) []) (second b d) false || c .before .before .before .before .either .result) = rw (f, s) at (c .before .before .either2 .ensures) in
     let t₁ = set t (first b d) (set (getD t (first b d) []) (second b d) (c .before .before .either2 .result)) in
     let w : c .either3 .result ≡ (getD (getD t₁ (second b d) []) (first b d) false || c .before .before .before .before .either .result) = rw (f, s) at (c .either3 .ensures) in
-    let q₁ = square-put 64 t (first b d) (second b d) (c .before .before .either2 .result) (i .square) (small-first b (c .before .before .before .before .before .before .before .before .before .before .before .before .before .before .pre) d h) (small-second b (c .before .before .before .before .before .before .before .before .before .before .before .before .before .before .pre) d h) in
+    let q₁ = square-put productionLimit t (first b d) (second b d) (c .before .before .either2 .result) (i .square) (small-first b (c .before .before .before .before .before .before .before .before .before .before .before .before .before .before .pre) d h) (small-second b (c .before .before .before .before .before .before .before .before .before .before .before .before .before .before .pre) d h) in
     rw (f, s)
     (record {
-      square = square-put 64 t₁ (second b d) (first b d) (c .either3 .result) q₁ (small-second b (c .before .before .before .before .before .before .before .before .before .before .before .before .before .before .pre) d h) (small-first b (c .before .before .before .before .before .before .before .before .before .before .before .before .before .before .pre) d h);
+      square = square-put productionLimit t₁ (second b d) (first b d) (c .either3 .result) q₁ (small-second b (c .before .before .before .before .before .before .before .before .before .before .before .before .before .before .pre) d h) (small-first b (c .before .before .before .before .before .before .before .before .before .before .before .before .before .before .pre) d h);
       place = omega (arith, i .place, declaration-next b d);
       within = omega arith;
-      pairs = associated-more 64 b (c .before .before .before .before .before .before .before .before .before .before .before .before .before .before .args .side) d t (i .square) (small-first b (c .before .before .before .before .before .before .before .before .before .before .before .before .before .before .pre) d h) (small-second b (c .before .before .before .before .before .before .before .before .before .before .before .before .before .before .pre) d h) (i .pairs) (c .before .before .before .before .either .result) (c .before .before .either2 .result) (c .either3 .result) on v w;
+      pairs = associated-more productionLimit b (c .before .before .before .before .before .before .before .before .before .before .before .before .before .before .args .side) d t (i .square) (small-first b (c .before .before .before .before .before .before .before .before .before .before .before .before .before .before .pre) d h) (small-second b (c .before .before .before .before .before .before .before .before .before .before .before .before .before .before .pre) d h) (i .pairs) (c .before .before .before .before .either .result) (c .before .before .either2 .result) (c .either3 .result) on v w;
     })
 
 returns : tie.Need-returns Inv-loop μ-loop
