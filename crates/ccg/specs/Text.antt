@@ -11,8 +11,7 @@ use Rattle.ccg.specs.declared.FlatAnswer.the-variants.{Written, Refused}
 use Rattle.charset.specs.Runs.{Range, runs}
 use Rattle.common.specs.Lists.{joined}
 use Rattle.grammar.specs.Limits.{productionLimit}
-use Rattle.grammar.specs.declared.Verdict.{Verdict}
-use Rattle.grammar.specs.declared.Verdict.the-variants.{Accepted}
+use Rattle.grammar.specs.Verdict.{unlessRefused}
 use Rattle.priority.specs.Check.{checked}
 use Rattle.theory.specs.Tree.{productionNumber}
 
@@ -64,12 +63,8 @@ grammarText g = joined lineText g
 unfoldable pub writeAnswer : ℕ → ℕ → FlatAnswer
 writeAnswer needed room = cond (leb needed room) (Written needed) (Refused 21 needed)
 
-abbrev pub unlessRefused : Verdict → FlatAnswer → FlatAnswer
-unlessRefused Accepted answer = answer
-unlessRefused (Verdict.Refused number place) answer = Refused number place
-
 unfoldable pub flatAnswer : List ℕ → ℕ → FlatAnswer
-flatAnswer b room = unlessRefused (checked b) (writeAnswer (length (grammarText (flatGrammar b))) room)
+flatAnswer b room = unlessRefused Refused (checked b) (writeAnswer (length (grammarText (flatGrammar b))) room)
 
 -- what the lent buffer holds afterwards: the text and, beyond it, what it held; unchanged by a refusal
 abbrev pub bufferAfter : FlatAnswer → List ℕ → List ℕ → List ℕ

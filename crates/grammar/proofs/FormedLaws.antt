@@ -14,7 +14,7 @@ use Rattle.grammar.proofs.VerdictLaws.{refuse-accepted, and-first, and-
 use Rattle.grammar.specs.Check.{outside, shortHeader, headerLines, headerBytes, badHeader, shortContents, badArgumentCount, badRangeCount, badLength, namesArgument, badArgument, badArguments, badProduction, badRange, badClass, declarationLines, declarationBytes, badDeclaration, sameProduction, repeatedProduction, frameLines, frameCheck, bodiesLines, bodiesCheck}
 use Rattle.grammar.specs.Formed.{Framed, WellFormed}
 use Rattle.grammar.specs.Layout.{byteAt, sorts, productions, classes, declarations, startSort, argumentCount, rangeCount, bodiesAt, productionAt, result, argument, classAt, low, high, declarationAt, kind, first, second, neededLength}
-use Rattle.grammar.specs.Limits.{sortLimit, productionLimit, classLimit, argumentLimit, rangeLimit, headerLength}
+use Rattle.grammar.specs.Limits.{sortLimit, productionLimit, classLimit, argumentLimit, rangeLimit, kindLimit, headerLength}
 use Rattle.grammar.specs.Verdict.{refuseIf, inOrder}
 use Rattle.grammar.specs.declared.Verdict.{Verdict}
 use Rattle.grammar.specs.declared.Verdict.the-variants.{Accepted}
@@ -92,7 +92,7 @@ module _ (b : List ℕ) (d : ℕ) (e : badDeclaration b d ≡ Accepted) where
   unfolding badDeclaration declarationBytes
   parts = each-accepted (declarationLines (declarationAt b d) (productions b) (kind b d) (first b d) (second b d)) e
 
-  kind-inside : outside 1 4 (kind b d) ≡ false
+  kind-inside : outside 1 kindLimit (kind b d) ≡ false
   kind-inside = refuse-accepted _ 7 _ (parts .0)
 
   first-there : first b d < productions b
@@ -112,8 +112,8 @@ well-formed b e f =
       resultNamed = λ p l. leb-false (sorts b) (result b p) (refuse-accepted _ 5 _ (and-first _ (badArguments b p) (production p l)));
       argumentNamed = λ p i l m. not-false (namesArgument b (argument b p i)) (refuse-accepted _ 5 _ (first-all (badArgument b p) (argumentCount b p) (and-second (refuseIf (leb (sorts b) (result b p)) 5 (productionAt b p)) _ (production p l)) i m));
       rangesRise = λ k r l m. ltb-false (high b k r) (low b k r) (refuse-accepted _ 6 _ (first-all (badRange b k) (rangeCount b k) (first-all (badClass b) (classes b) (a .1 .0) k l) r m));
-      someKind = λ d l. inside-low 1 4 (kind b d) (kind-inside b d (declaration d l));
-      fewKinds = λ d l. inside-high 1 4 (kind b d) (kind-inside b d (declaration d l));
+      someKind = λ d l. inside-low 1 kindLimit (kind b d) (kind-inside b d (declaration d l));
+      fewKinds = λ d l. inside-high 1 kindLimit (kind b d) (kind-inside b d (declaration d l));
       firstThere = λ d l. first-there b d (declaration d l);
       secondThere = λ d l. second-there b d (declaration d l);
       different = λ p q l m. any-never (sameProduction b p) p (refuse-accepted _ 8 _ (first-all (repeatedProduction b) (productions b) (a .1 .1 .1 .0) p l)) q m;

@@ -6,7 +6,7 @@ use lib.Dec.{leb, ltb, eqb}
 use lib.ListN.{length}
 use Rattle.common.specs.Below.{allBelow, anyBelow}
 use Rattle.grammar.specs.Layout.{byteAt, sorts, productions, classes, declarations, startSort, argumentCountAt, rangeCountAt, argumentCount, rangeCount, bodiesAt, productionAt, argumentAt, result, argument, rangeAt, low, high, declarationAt, kind, first, second, neededLength}
-use Rattle.grammar.specs.Limits.{sortLimit, productionLimit, classLimit, argumentLimit, rangeLimit, classBase, headerLength}
+use Rattle.grammar.specs.Limits.{sortLimit, productionLimit, classLimit, argumentLimit, rangeLimit, kindLimit, classBase, headerLength}
 use Rattle.grammar.specs.Verdict.{refuseIf, andThen, firstRefusal, inOrder}
 use Rattle.grammar.specs.declared.Verdict.{Verdict}
 
@@ -85,7 +85,7 @@ badClasses b = firstRefusal (classes b) (badClass b)
 -- 7: a kind that is not 1 to 4, or a production that isn't there; the place is that byte
 abbrev pub declarationLines : ℕ → ℕ → ℕ → ℕ → ℕ → List Verdict
 declarationLines at productions kind first second =
-    refuseIf (outside 1 4 kind) 7 at
+    refuseIf (outside 1 kindLimit kind) 7 at
     ∷ refuseIf (leb productions first) 7 (at + 1)
     ∷ refuseIf (leb productions second) 7 (at + 2)
     ∷ []
@@ -100,13 +100,13 @@ abbrev pub badDeclarations : List ℕ → Verdict
 badDeclarations b = firstRefusal (declarations b) (badDeclaration b)
 
 -- an argument of one production is the same as that of another: the bytes are
-abbrev pub sameArgument : List ℕ → ℕ → ℕ → Bool
-sameArgument b x y = eqb x y
+abbrev pub sameArgument : ℕ → ℕ → Bool
+sameArgument x y = eqb x y
 
 -- two productions are equal: result and argument bytes are the same
 unfoldable pub sameProduction : List ℕ → ℕ → ℕ → Bool
 sameProduction b p q =
-    eqb (result b p) (result b q) && eqb (argumentCount b p) (argumentCount b q) && allBelow (argumentCount b p) (λ i. sameArgument b (argument b p i) (argument b q i))
+    eqb (result b p) (result b q) && eqb (argumentCount b p) (argumentCount b q) && allBelow (argumentCount b p) (λ i. sameArgument (argument b p i) (argument b q i))
 
 -- 8: a production equal to an earlier one; the place is the result byte of the first such
 unfoldable pub repeatedProduction : List ℕ → ℕ → Verdict

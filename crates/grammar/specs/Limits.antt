@@ -21,6 +21,10 @@ argumentLimit = 8
 abbrev pub rangeLimit : ℕ
 rangeLimit = 16
 
+-- the kinds of declaration are 1, 2, … up to this
+abbrev pub kindLimit : ℕ
+kindLimit = 4
+
 -- the argument byte of class 0
 abbrev pub classBase : ℕ
 classBase = 64

@@ -5,16 +5,6 @@ use mathlib.Core.List.{List, [], _∷_}
 use Rattle.grammar.specs.declared.Verdict.{Verdict}
 use Rattle.grammar.specs.declared.Verdict.the-variants.{Accepted, Refused}
 
--- 01's number of a verdict: 0 where nothing is refused.
-unfoldable pub numberOf : Verdict → ℕ
-numberOf Accepted = 0
-numberOf (Refused number place) = number
-
--- 01's place of a verdict.
-unfoldable pub placeOf : Verdict → ℕ
-placeOf Accepted = 0
-placeOf (Refused number place) = place
-
 -- Refused with this number and place if the test holds.
 abbrev pub refuseIf : Bool → ℕ → ℕ → Verdict
 refuseIf test number place = cond test (Refused number place) Accepted
@@ -34,3 +24,8 @@ abbrev pub inOrder : List Verdict → Verdict
 inOrder [] = Accepted
 inOrder (v ∷ []) = v
 inOrder (v ∷ w ∷ vs) = andThen v (inOrder (w ∷ vs))
+
+-- An operation refuses what the check of its grammar refuses, with the same number and place, and only then answers for itself.
+abbrev pub unlessRefused : {A : Type 0} → (ℕ → ℕ → A) → Verdict → A → A
+unlessRefused refused Accepted answer = answer
+unlessRefused refused (Refused number place) answer = refused number place

@@ -15,6 +15,7 @@ use crate::limits::ARGUMENT_LIMIT;
 use crate::limits::CLASS_BASE;
 use crate::limits::CLASS_LIMIT;
 use crate::limits::HEADER_LENGTH;
+use crate::limits::KIND_LIMIT;
 use crate::limits::PRODUCTION_LIMIT;
 use crate::limits::RANGE_LIMIT;
 use crate::limits::SORT_LIMIT;
@@ -24,6 +25,7 @@ ghost use Prim.Native.Nat.{_+_, _*_, _<_, _≤_};
 ghost use lib.Dec.{ltb, leb, eqb};
 ghost use lib.ListN.{length, getD};
 ghost use Rattle.common.specs.Below.{anyBelow, allBelow};
+ghost use Rattle.grammar.specs.Limits.{headerLength};
 ghost use Rattle.grammar.specs.Layout.{sorts, productions, classes, declarations, bodiesAt, productionAt, classAt, declarationAt};
 ghost use Rattle.grammar.specs.Check.{badHeader, headerBytes, badArgumentCounts, badRangeCounts, badLength, frameCheck, badProductions, badProduction, badArguments, namesArgument, badClasses, badClass, badDeclarations, badDeclaration, declarationBytes, repeatedProductions, sameProduction, sameArgument, bodiesCheck};
 ghost use Rattle.grammar.specs.Formed.{Framed};
@@ -55,7 +57,7 @@ pub fn check_frame(book: &[u8]) -> Verdict
 
 // 2: the lowest header byte outside its range.
 fn check_header(book: &[u8]) -> Verdict
-    requires { ⌜ 6 ≤ length (now book) ⌝ }
+    requires { ⌜ headerLength ≤ length (now book) ⌝ }
     ensures { λ r. ⌜ r ≡ badHeader (now (book .entry)) ⌝ }
 {
     check_header_bytes(
@@ -218,7 +220,7 @@ fn check_arguments(book: &[u8], p: usize, at: usize) -> Verdict
 
 // Whether an argument byte names a sort or a class.
 fn names_argument(book: &[u8], x: usize) -> bool
-    requires { ⌜ 6 ≤ length (now book) ⌝ }
+    requires { ⌜ headerLength ≤ length (now book) ⌝ }
     ensures { λ r. ⌜ r ≡ namesArgument (now (book .entry)) x ⌝ }
 {
     if x < sort_count(book) {
@@ -315,7 +317,7 @@ fn check_declaration_bytes(
     if kind < 1 {
         return Verdict::Refused(7, at);
     }
-    if 4 < kind {
+    if KIND_LIMIT < kind {
         return Verdict::Refused(7, at);
     }
     if productions <= first {
@@ -387,7 +389,7 @@ fn same_production(book: &[u8], p: usize, at: usize, q: usize, other: usize) -> 
 fn same_bytes(book: &[u8], at: usize, other: usize, count: usize) -> bool
     requires { ⌜ at + count ≤ length (now book) ⌝ }
     requires { ⌜ other + count ≤ length (now book) ⌝ }
-    ensures { λ r. ⌜ r ≡ allBelow count (λ i. sameArgument (now (book .entry)) (getD (now (book .entry)) (at + i) 0) (getD (now (book .entry)) (other + i) 0)) ⌝ }
+    ensures { λ r. ⌜ r ≡ allBelow count (λ i. sameArgument (getD (now (book .entry)) (at + i) 0) (getD (now (book .entry)) (other + i) 0)) ⌝ }
 {
     let mut i = 0;
     while i < count {

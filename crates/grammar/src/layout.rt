@@ -3,6 +3,7 @@ use crate::limits::HEADER_LENGTH;
 ghost use mathlib.Core.Path.{_≡_};
 ghost use Prim.Native.Nat.{_+_, _<_, _≤_};
 ghost use lib.ListN.{length, getD};
+ghost use Rattle.grammar.specs.Limits.{headerLength};
 ghost use Rattle.grammar.specs.Layout.{byteAt, sorts, productions, classes, declarations, startSort, argumentCount, rangeCount, bodiesAt, productionAt, result, argument, classAt, low, high, declarationAt, kind, first, second};
 ghost use Rattle.grammar.specs.Formed.{Framed};
 
@@ -22,35 +23,35 @@ pub fn wide(x: u8) -> usize
 }
 
 pub fn sort_count(book: &[u8]) -> usize
-    requires { ⌜ 6 ≤ length (now book) ⌝ }
+    requires { ⌜ headerLength ≤ length (now book) ⌝ }
     ensures { λ r. ⌜ r ≡ sorts (now (book .entry)) ⌝ }
 {
     byte_at(book, 0)
 }
 
 pub fn production_count(book: &[u8]) -> usize
-    requires { ⌜ 6 ≤ length (now book) ⌝ }
+    requires { ⌜ headerLength ≤ length (now book) ⌝ }
     ensures { λ r. ⌜ r ≡ productions (now (book .entry)) ⌝ }
 {
     byte_at(book, 1)
 }
 
 pub fn class_count(book: &[u8]) -> usize
-    requires { ⌜ 6 ≤ length (now book) ⌝ }
+    requires { ⌜ headerLength ≤ length (now book) ⌝ }
     ensures { λ r. ⌜ r ≡ classes (now (book .entry)) ⌝ }
 {
     byte_at(book, 2)
 }
 
 pub fn declaration_count(book: &[u8]) -> usize
-    requires { ⌜ 6 ≤ length (now book) ⌝ }
+    requires { ⌜ headerLength ≤ length (now book) ⌝ }
     ensures { λ r. ⌜ r ≡ declarations (now (book .entry)) ⌝ }
 {
     byte_at(book, 3)
 }
 
 pub fn start_sort(book: &[u8]) -> usize
-    requires { ⌜ 6 ≤ length (now book) ⌝ }
+    requires { ⌜ headerLength ≤ length (now book) ⌝ }
     ensures { λ r. ⌜ r ≡ startSort (now (book .entry)) ⌝ }
 {
     byte_at(book, 4)
@@ -58,7 +59,7 @@ pub fn start_sort(book: &[u8]) -> usize
 
 // Where the contents end and the bodies begin.
 pub fn bodies_at(book: &[u8]) -> usize
-    requires { ⌜ 6 ≤ length (now book) ⌝ }
+    requires { ⌜ headerLength ≤ length (now book) ⌝ }
     ensures { λ r. ⌜ r ≡ bodiesAt (now (book .entry)) ⌝ }
 {
     HEADER_LENGTH + production_count(book) + class_count(book)

@@ -10,6 +10,8 @@ pub const CLASS_LIMIT: usize = 64;
 pub const ARGUMENT_LIMIT: usize = 8;
 // Most ranges of a character class.
 pub const RANGE_LIMIT: usize = 16;
+// The kinds of declaration are 1, 2, … up to this.
+pub const KIND_LIMIT: usize = 4;
 // The argument byte of class 0.
 pub const CLASS_BASE: usize = 64;
 // The bytes before the contents.

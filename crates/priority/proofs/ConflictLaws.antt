@@ -48,7 +48,7 @@ module _ (n : ℕ) (b : List ℕ) (side d : ℕ) (t : List (List Bool)) (q : Squ
       → entry (set (set t (first b d) (set (getD t (first b d) []) (second b d) v)) (second b d)
       (set (getD (set t (first b d) (set (getD t (first b d) []) (second b d) v)) (second b d) []) (first b d) w)) x y
       ≡ associatedBelow b side (d + 1) x y
-  unfolding associatedBelow associates namesPair
+  unfolding associatedBelow associates namesPair kindNumber
   associated-more on v w o e₁ e₂ x y =
       let t₁ = set t (first b d) (set (getD t (first b d) []) (second b d) v) in
       let s₁ = square-put n t (first b d) (second b d) v q hf hs in

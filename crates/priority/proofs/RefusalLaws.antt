@@ -16,7 +16,7 @@ use Rattle.grammar.proofs.VerdictLaws.{refuse-accepted, first-all, refuse-case,
 use Rattle.grammar.specs.Check.{outside, shortHeader, headerLines, headerBytes, badHeader, shortContents, badArgumentCount, badRangeCount, badArgumentCounts, badRangeCounts, badLength, namesArgument, badArgument, badArguments, badProduction, badProductions, badRange, badClass, badClasses, declarationLines, declarationBytes, badDeclaration, badDeclarations, sameProduction, repeatedProduction, repeatedProductions, frameLines, frameCheck, bodiesLines, bodiesCheck}
 use Rattle.grammar.specs.Formed.{Framed, WellFormed}
 use Rattle.grammar.specs.Layout.{byteAt, sorts, productions, classes, declarations, startSort, argumentCountAt, rangeCountAt, argumentCount, rangeCount, bodiesAt, productionAt, argumentAt, result, argument, rangeAt, low, high, declarationAt, kind, first, second, neededLength}
-use Rattle.grammar.specs.Limits.{sortLimit, productionLimit, classLimit, argumentLimit, rangeLimit, headerLength}
+use Rattle.grammar.specs.Limits.{sortLimit, productionLimit, classLimit, argumentLimit, rangeLimit, kindLimit, headerLength}
 use Rattle.grammar.specs.Verdict.{refuseIf, andThen}
 use Rattle.grammar.specs.declared.Verdict.{Verdict}
 use Rattle.grammar.specs.declared.Verdict.the-variants.{Refused, Accepted}
@@ -139,7 +139,7 @@ module _ (b : List ℕ) where
 
   by-declaration : (d : ℕ) → d < declarations b → {k p : ℕ} → FirstIn (declarationLines (declarationAt b d) (productions b) (kind b d) (first b d) (second b d)) k p → Holds b k p
   by-declaration d l (here e) =
-      refuse-case (Holds b) (outside 1 4 (kind b d)) 7 (declarationAt b d) e (λ t. refusal7 (badKind d l t))
+      refuse-case (Holds b) (outside 1 kindLimit (kind b d)) 7 (declarationAt b d) e (λ t. refusal7 (badKind d l t))
   by-declaration d l (there a (here e)) =
       refuse-case (Holds b) (leb (productions b) (first b d)) 7 (declarationAt b d + 1) e (λ t. refusal7 (badFirst d l (leb-true (productions b) (first b d) t)))
   by-declaration d l (there a (there c (here e))) =
@@ -234,7 +234,7 @@ module _ (b : List ℕ) where
     ranges-right (falling k r l m t) = omega (arith, formed .rangesRise k r l m)
 
     declarations-right : {k : ℕ} → BadDeclarationByte b k → ⊥
-    declarations-right (badKind d l t) = not-both (outside 1 4 (kind b d)) t (inside 1 4 (kind b d) (formed .someKind d l) (formed .fewKinds d l))
+    declarations-right (badKind d l t) = not-both (outside 1 kindLimit (kind b d)) t (inside 1 kindLimit (kind b d) (formed .someKind d l) (formed .fewKinds d l))
     declarations-right (badFirst d l t) = omega (arith, formed .firstThere d l)
     declarations-right (badSecond d l t) = omega (arith, formed .secondThere d l)
 

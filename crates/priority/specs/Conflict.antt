@@ -6,12 +6,11 @@ use mathlib.Core.List.{List}
 use lib.Dec.{leb, ltb, eqb}
 use Rattle.common.specs.Below.{anyBelow}
 use Rattle.grammar.specs.Layout.{sorts, productions, declarations, argumentCount, result, argument, kind}
-use Rattle.grammar.specs.declared.Verdict.{Verdict}
-use Rattle.grammar.specs.declared.Verdict.the-variants.{Accepted}
+use Rattle.grammar.specs.Verdict.{unlessRefused}
 use Rattle.priority.specs.Check.{checked}
-use Rattle.priority.specs.Priorities.{left, right, nonassoc, namesPair, declared, Higher, isHigher}
+use Rattle.priority.specs.Priorities.{left, right, nonassoc, kindNumber, namesPair, declared, Higher, isHigher}
 use Rattle.priority.specs.declared.ConflictAnswer.{ConflictAnswer}
-use Rattle.priority.specs.declared.ConflictAnswer.the-variants.{Yes, No}
+use Rattle.priority.specs.declared.ConflictAnswer.the-variants.{Yes, No, Refused}
 
 -- An argument byte that is a sort.
 unfoldable pub isSort : List ℕ → ℕ → Bool
@@ -28,7 +27,7 @@ isFirst b p i = eqb i 0 && leb 2 (argumentCount b p)
 unfoldable pub isLast : List ℕ → ℕ → ℕ → Bool
 isLast b p i = eqb (i + 1) (argumentCount b p) && leb 2 (argumentCount b p)
 
--- The pair is right, or left, or in either case not together.
+-- The pair is declared right or not together; left or not together.
 unfoldable pub rightOrNonassoc : List ℕ → ℕ → ℕ → Bool
 rightOrNonassoc b x y = declared b right x y || declared b nonassoc x y
 
@@ -37,7 +36,7 @@ leftOrNonassoc b x y = declared b left x y || declared b nonassoc x y
 
 -- The same for the number of a side, read off the declarations in one pass.
 unfoldable pub associates : List ℕ → ℕ → ℕ → ℕ → ℕ → Bool
-associates b side d x y = (eqb (kind b d) side || eqb (kind b d) 4) && (namesPair b d x y || namesPair b d y x)
+associates b side d x y = (eqb (kind b d) side || eqb (kind b d) (kindNumber nonassoc)) && (namesPair b d x y || namesPair b d y x)
 
 unfoldable pub associated : List ℕ → ℕ → ℕ → ℕ → Bool
 associated b side x y = anyBelow (declarations b) (λ d. associates b side d x y)
@@ -63,9 +62,5 @@ abbrev pub yesOrNo : Bool → ConflictAnswer
 yesOrNo true = Yes
 yesOrNo false = No
 
-abbrev pub unlessRefused : Verdict → ConflictAnswer → ConflictAnswer
-unlessRefused Accepted answer = answer
-unlessRefused (Verdict.Refused number place) answer = ConflictAnswer.Refused number place
-
 unfoldable pub conflictAnswer : List ℕ → ℕ → ℕ → ℕ → ConflictAnswer
-conflictAnswer b p i q = unlessRefused (checked b) (cond (isThere b p i q) (yesOrNo (conflicts b p i q)) (ConflictAnswer.Refused 7 0))
+conflictAnswer b p i q = unlessRefused Refused (checked b) (cond (isThere b p i q) (yesOrNo (conflicts b p i q)) (Refused 7 0))

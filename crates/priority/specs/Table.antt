@@ -1,6 +1,5 @@
 -- The table of refusals 1 to 9 as conditions (01, "Refused because of the input"): when a number with a place may be given.
 -- Which of several comes is said by the order of `grammarLines` in `Check`.
--- k is the lowest number of which Q holds.
 use Prim.Native.Nat.{ℕ, _+_, min, _≤_, _<_}
 use mathlib.Core.Path.{_≡_}
 use mathlib.Core.Bool.{false, true}
@@ -8,9 +7,10 @@ use mathlib.Core.List.{List}
 use lib.ListN.{length}
 use Rattle.grammar.specs.Check.{outside, namesArgument, sameProduction}
 use Rattle.grammar.specs.Layout.{byteAt, sorts, productions, classes, declarations, startSort, argumentCountAt, rangeCountAt, argumentCount, rangeCount, bodiesAt, productionAt, argumentAt, result, argument, rangeAt, low, high, declarationAt, kind, first, second, neededLength}
-use Rattle.grammar.specs.Limits.{sortLimit, productionLimit, classLimit, argumentLimit, rangeLimit, headerLength}
+use Rattle.grammar.specs.Limits.{sortLimit, productionLimit, classLimit, argumentLimit, rangeLimit, kindLimit, headerLength}
 use Rattle.priority.specs.Priorities.{Higher}
 
+-- k is the lowest number of which Q holds.
 pub record Lowest (Q : ℕ → Type 0) (k : ℕ) : Type 0 where
   pub holds : Q k
   pub lowest : (j : ℕ) → j < k → Q j → ⊥
@@ -39,7 +39,7 @@ pub data FallingRange (b : List ℕ) : ℕ → Type 0 where
 
 -- Byte k is a kind that is not 1 to 4, or names a production that isn't there.
 pub data BadDeclarationByte (b : List ℕ) : ℕ → Type 0 where
-  badKind : (d : ℕ) → d < declarations b → outside 1 4 (kind b d) ≡ true → BadDeclarationByte b (declarationAt b d)
+  badKind : (d : ℕ) → d < declarations b → outside 1 kindLimit (kind b d) ≡ true → BadDeclarationByte b (declarationAt b d)
   badFirst : (d : ℕ) → d < declarations b → productions b ≤ first b d → BadDeclarationByte b (declarationAt b d + 1)
   badSecond : (d : ℕ) → d < declarations b → productions b ≤ second b d → BadDeclarationByte b (declarationAt b d + 2)
 

@@ -37,12 +37,12 @@ unfoldable mutual
   listings none = []
   listings (f ▷ t) = listings f ++ listing t
 
--- How many trees a list has, and the tree at place i, counted from 0.
+-- How many trees a list has.
 unfoldable pub size : Forest → ℕ
 size none = 0
 size (f ▷ t) = size f + 1
 
--- t stands at place i of the list.
+-- t stands at place i of the list, counted from 0.
 pub data At : ℕ → Forest → Tree → Type 0 where
   atEnd : {f : Forest} {t : Tree} → At (size f) (f ▷ t) t
   further : {i : ℕ} {f : Forest} {s t : Tree} → At i f t → At i (f ▷ s) t

@@ -13,7 +13,7 @@ use Rattle.grammar.proofs.check.same_bytes.Statement.{statement}
 use Rattle.grammar.proofs.check.same_bytes.Tie as tie
 
 same : List ℕ → ℕ → ℕ → ℕ → Bool
-same b at other i = sameArgument b (getD b (at + i) 0) (getD b (other + i) 0)
+same b at other i = sameArgument (getD b (at + i) 0) (getD b (other + i) 0)
 
 abbrev Inv-loop : tie.InvT-loop
 Inv-loop book at other count i₀ i = (i ≤ count) × (allBelow i (same book at other) ≡ true)
