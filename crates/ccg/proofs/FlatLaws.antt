@@ -13,7 +13,7 @@ use Rattle.ccg.proofs.ConflictFreeLaws.{conflict-free-argument, conflic
 use Rattle.ccg.specs.Ccg.{Class, Line, noLine, noClass, isTerminal, Generated, Each}
 use Rattle.ccg.specs.Flat.{isProduction, mayStand, flatClass, flatLine, flatGrammar, plainClass}
 use Rattle.ccg.specs.Trees.{isClass, classHas, Built, Arguments, RootConflict, conflictAt, ConflictFree}
-use Rattle.charset.specs.Set.{inRange}
+use Rattle.charset.specs.Set.{characters, inRange}
 use Rattle.common.proofs.BelowLaws.{any-found}
 use Rattle.common.proofs.BoolLaws.{and-both, and-first-true, and-second-true, true-or-false, not-both}
 use Rattle.common.proofs.ListLaws.{length-tabulate, getD-tabulate}
@@ -125,7 +125,7 @@ unfolding isClass
 sort-no-class b w x l = rw (lt-leb classBase x (omega (arith, w .framed .fewSorts))) refl
 
 -- the ends of a range are bytes, so the characters of a class are
-pub class-small : (b : List ℕ) → ((k : ℕ) → getD b k 0 < 256) → (k c : ℕ) → classHas b k c ≡ true → c < 256
+pub class-small : (b : List ℕ) → ((k : ℕ) → getD b k 0 < characters) → (k c : ℕ) → classHas b k c ≡ true → c < characters
 unfolding classHas inRange high
 class-small b bytes k c e =
     let (r, l, h) = any-found (λ r. inRange (low b k r) (high b k r) c) (rangeCount b k) e in
@@ -182,7 +182,7 @@ module _ (b : List ℕ) (w : WellFormed b) where
       ∙ and-both (isProduction b (productionNumber q)) (eqb (result b (productionNumber q - productionNumber 0)) x) (is-production b q l)
       (rw (production-of-number q) (eq-eqb (result b q) x e))
 
-  module _ (bytes : (k : ℕ) → getD b k 0 < 256) where
+  module _ (bytes : (k : ℕ) → getD b k 0 < characters) where
     -- a class has no number of a production
     number-no-class : (x q : ℕ) → (isClass b x ≡ true → classHas b (x - classBase) (productionNumber q) ≡ true) → isClass b x ≡ false
     number-no-class x q h =
@@ -252,7 +252,7 @@ unfolding Generated
 generated-root g cc (leaf c) h = h .0
 generated-root g cc (node p f) h = h .2
 
-module _ (b : List ℕ) (w : WellFormed b) (bytes : (k : ℕ) → getD b k 0 < 256) where
+module _ (b : List ℕ) (w : WellFormed b) (bytes : (k : ℕ) → getD b k 0 < characters) where
   -- a tree that is built at argument d of p and doesn't conflict there has its number in the argument's class
   stands : (p d : ℕ) (f : Forest) (t : Tree) → At d f t → Built b (argument b p d) t → ((i q : ℕ) (g : Forest) → At i f (node q g) → Conflict b p i q → ⊥)
       → flatClass b p d (rootNumber t) ≡ true
@@ -323,6 +323,6 @@ module _ (b : List ℕ) (w : WellFormed b) (bytes : (k : ℕ) → getD b k 0 < 2
         )
 
 -- What the character class grammar generates is what the grammar builds without a conflict, at every sort and every class.
-pub flat-trees : (b : List ℕ) → WellFormed b → ((k : ℕ) → getD b k 0 < 256) → (x : ℕ) (t : Tree)
+pub flat-trees : (b : List ℕ) → WellFormed b → ((k : ℕ) → getD b k 0 < characters) → (x : ℕ) (t : Tree)
     → (Built b x t × ConflictFree b t) ↔ Generated (flatGrammar b) (plainClass b x) t
 flat-trees b w bytes x t = ((λ h. built-generated b w bytes t x (h .0) (h .1)), (λ h. generated-built b w bytes t x h))

@@ -14,7 +14,7 @@ use Rattle.ccg.specs.Flat.{mayStand}
 use Rattle.ccg.specs.Tables.{slot, tableMay, tableHas, tableCount, subAt, wordAt, slotHas, charWords, subBytes, AllZero, ZeroTables, FlatTables, FewArguments, ArgumentsWritten, BarringRows, Results}
 use Rattle.ccg.specs.Trees.{isClass, classHas}
 use Rattle.charset.proofs.BitLaws.{bit-zero}
-use Rattle.charset.specs.Set.{bit, has}
+use Rattle.charset.specs.Set.{characters, bit, has}
 use Rattle.common.proofs.BoolLaws.{or-cases, and-second-true}
 use Rattle.common.specs.Below.{bitOf}
 use Rattle.common.specs.Region.{Region}
@@ -66,7 +66,7 @@ module _ (b : List ℕ) (w : WellFormed b) (p i : ℕ) (lp : p < productions b) 
       (λ m. rw (r .there q m, e, v, may-there q m) refl)
       (λ m. rw (r .missing q (omega arith) l, may-missing q (omega arith), ne-eqb 255 x (λ z. omega (arith, argument-below, w .framed .fewClasses))) refl)
 
-  has-entry : (words : List ℕ) (x c : ℕ) → x ≡ argument b p i → c < 256 → has words c ≡ (isClass b x && classHas b (x - 64) c) → has words c ≡ tableHas b p i c
+  has-entry : (words : List ℕ) (x c : ℕ) → x ≡ argument b p i → c < characters → has words c ≡ (isClass b x && classHas b (x - 64) c) → has words c ≡ tableHas b p i c
   unfolding tableHas
   has-entry words x c e l h =
       rw (lt-ltb p (productions b) lp, lt-ltb i (argumentCount b p) li) (h ∙ ap (λ (y : ℕ). isClass b y && classHas b (y - 64) c) e)
@@ -94,7 +94,7 @@ WordEntry words k v = v ≡ getD words k 0
 
 module _ (b : List ℕ) (w : WellFormed b) (p i x : ℕ) (lp : p < productions b) (li : i < argumentCount b p) (ex : x ≡ argument b p i)
     (results : List ℕ) (bars : List Bool) (words : List ℕ) (rs : Results b results) (bs : (q : ℕ) → getD bars q false ≡ barred b p i q)
-    (ws : (c : ℕ) → c < 256 → has words c ≡ (isClass b x && classHas b (x - 64) c))
+    (ws : (c : ℕ) → c < characters → has words c ≡ (isClass b x && classHas b (x - 64) c))
     (chars₀ subs₀ chars subs chars′ subs′ : List ℕ) (a : ArgumentsWritten b p i chars₀ subs₀ chars subs)
     (rc : Region (WordEntry words) 0 ((p * 8 + i) * 4) 4 chars chars′) (rb : Region (SubEntry results x bars) 0 ((p * 8 + i) * 64) 64 subs subs′) where
   subs-here : (j q : ℕ) → j < i + 1 → q < 64 → getD subs′ (subAt (slot p j) q) 0 ≡ bitOf (tableMay b p j q)
@@ -105,16 +105,16 @@ module _ (b : List ℕ) (w : WellFormed b) (p i x : ℕ) (lp : p < productions b
         | no e ↦ (rb .below ((p * 8 + j) * 64 + q) (omega arith) ∙ a .subsHere j q (omega arith) m)
       ]
 
-  word-here : (c : ℕ) → c < 256 → slotHas chars′ (slot p i) c ≡ tableHas b p i c
+  word-here : (c : ℕ) → c < characters → slotHas chars′ (slot p i) c ≡ tableHas b p i c
   unfolding slotHas wordAt slot has
   word-here c l =
       ap (λ (v : ℕ). bit v (c % 64)) (rc .inside (c / 64) (omega arith)) ∙ has-entry b w p i lp li words x c ex l (ws c l)
 
-  word-below : (j c : ℕ) → j < i → c < 256 → slotHas chars′ (slot p j) c ≡ slotHas chars (slot p j) c
+  word-below : (j c : ℕ) → j < i → c < characters → slotHas chars′ (slot p j) c ≡ slotHas chars (slot p j) c
   unfolding slotHas wordAt slot
   word-below j c h l = ap (λ (v : ℕ). bit v (c % 64)) (rc .below ((p * 8 + j) * 4 + c / 64) (omega arith))
 
-  chars-here : (j c : ℕ) → j < i + 1 → c < 256 → slotHas chars′ (slot p j) c ≡ tableHas b p j c
+  chars-here : (j c : ℕ) → j < i + 1 → c < characters → slotHas chars′ (slot p j) c ≡ tableHas b p j c
   chars-here j c h l =
       elim (ℕ-discrete j i) [
         | yes e ↦ subst⁻¹ (λ (k : ℕ). slotHas chars′ (slot p k) c ≡ tableHas b p k c) e (word-here c l)
@@ -178,7 +178,7 @@ pub record ProductionsWritten (b : List ℕ) (n : ℕ) (counts chars subs : List
   pub subsLong : length subs ≡ subBytes
   pub countsHere : (p : ℕ) → p < n → getD counts p 0 ≡ argumentCount b p
   pub countsRest : (k : ℕ) → n ≤ k → getD counts k 0 ≡ 0
-  pub charsHere : (p i c : ℕ) → p < n → i < 8 → c < 256 → slotHas chars (slot p i) c ≡ tableHas b p i c
+  pub charsHere : (p i c : ℕ) → p < n → i < 8 → c < characters → slotHas chars (slot p i) c ≡ tableHas b p i c
   pub charsRest : (k : ℕ) → wordAt (slot n 0) 0 ≤ k → getD chars k 0 ≡ 0
   pub subsHere : (p i q : ℕ) → p < n → i < 8 → q < 64 → getD subs (subAt (slot p i) q) 0 ≡ bitOf (tableMay b p i q)
   pub subsRest : (k : ℕ) → subAt (slot n 0) 0 ≤ k → getD subs k 0 ≡ 0
@@ -210,16 +210,16 @@ module _ (b : List ℕ) (n : ℕ) (small : n < 64) (counts chars subs chars′ s
             (λ j. a .subsAbove ((n * 8 + i) * 64 + q) (omega arith) ∙ w .subsRest ((n * 8 + i) * 64 + q) (omega arith) ∙ sym (ap bitOf (no-argument-may b n i q (omega arith)))))
       ]
 
-  rest-word : (i c : ℕ) → argumentCount b n ≤ i → i < 8 → c < 256 → slotHas chars′ (slot n i) c ≡ false
+  rest-word : (i c : ℕ) → argumentCount b n ≤ i → i < 8 → c < characters → slotHas chars′ (slot n i) c ≡ false
   unfolding slotHas wordAt slot
   rest-word i c j m h =
       rw (a .charsAbove ((n * 8 + i) * 4 + c / 64) (omega arith), w .charsRest ((n * 8 + i) * 4 + c / 64) (omega arith)) (bit-zero (c % 64))
 
-  old-word : (p i c : ℕ) → p < n → i < 8 → c < 256 → slotHas chars′ (slot p i) c ≡ slotHas chars (slot p i) c
+  old-word : (p i c : ℕ) → p < n → i < 8 → c < characters → slotHas chars′ (slot p i) c ≡ slotHas chars (slot p i) c
   unfolding slotHas wordAt slot
   old-word p i c l m h = ap (λ (v : ℕ). bit v (c % 64)) (a .charsBelow ((p * 8 + i) * 4 + c / 64) (omega arith))
 
-  char-here : (p i c : ℕ) → p < n + 1 → i < 8 → c < 256 → slotHas chars′ (slot p i) c ≡ tableHas b p i c
+  char-here : (p i c : ℕ) → p < n + 1 → i < 8 → c < characters → slotHas chars′ (slot p i) c ≡ tableHas b p i c
   char-here p i c l m h =
       elim (ℕ-discrete p n) [
         | no e ↦ (old-word p i c (omega arith) m h ∙ w .charsHere p i c (omega arith) m h)

@@ -15,6 +15,7 @@ use Rattle.ccg.specs.Flat.{isProduction, mayStand, flatClass, flatLine, 
 use Rattle.ccg.specs.Tables.{slot, tableMay, tableHas, tableCount, subAt, slotHas, FlatTables, tableClass, slotLine, tableLine, tableGrammar}
 use Rattle.ccg.specs.Text.{classText, argumentsText, lineText, grammarText}
 use Rattle.ccg.specs.Trees.{isClass, classHas}
+use Rattle.charset.specs.Set.{characters}
 use Rattle.common.proofs.BoolLaws.{and-first-true, true-or-false}
 use Rattle.common.proofs.ListLaws.{joined-append, joined-one}
 use Rattle.common.specs.Below.{bitOf}
@@ -27,21 +28,21 @@ use Rattle.priority.specs.Conflict.{isSort, fits, isThere}
 -- ---- what the class of a slot has
 
 module _ (chars subs : List ℕ) (s : ℕ) where
-  pub table-of-character : (n : ℕ) → n < 256 → tableClass chars subs s n ≡ slotHas chars s n
+  pub table-of-character : (n : ℕ) → n < characters → tableClass chars subs s n ≡ slotHas chars s n
   unfolding tableClass
-  table-of-character n l = rw (lt-ltb n 256 l) refl
+  table-of-character n l = rw (lt-ltb n characters l) refl
 
   -- no number between the characters and the productions
-  table-between : (n : ℕ) → 256 ≤ n → n < 258 → tableClass chars subs s n ≡ false
+  table-between : (n : ℕ) → characters ≤ n → n < 258 → tableClass chars subs s n ≡ false
   unfolding tableClass
-  table-between n l h = rw (le-ltb n 256 l, lt-leb 258 n h) refl
+  table-between n l h = rw (le-ltb n characters l, lt-leb 258 n h) refl
 
   pub table-of-production : (n : ℕ) → 258 ≤ n → n < 322 → tableClass chars subs s n ≡ eqb (getD subs (subAt s (n - 258)) 0) 1
   unfolding tableClass
-  table-of-production n l h = rw (le-ltb n 256 (omega arith), le-leb 258 n l, lt-ltb n 322 h) refl
+  table-of-production n l h = rw (le-ltb n characters (omega arith), le-leb 258 n l, lt-ltb n 322 h) refl
 
-  pub table-class-256 : tableClass chars subs s 256 ≡ false
-  table-class-256 = table-between 256 (omega arith) (omega arith)
+  pub table-class-characters : tableClass chars subs s characters ≡ false
+  table-class-characters = table-between characters (omega arith) (omega arith)
 
   pub table-class-257 : tableClass chars subs s 257 ≡ false
   table-class-257 = table-between 257 (omega arith) (omega arith)
@@ -52,12 +53,12 @@ bit-of : (v : Bool) → eqb (bitOf v) 1 ≡ v
 bit-of true = refl
 bit-of false = refl
 
-module _ (b : List ℕ) (w : WellFormed b) (bytes : (k : ℕ) → getD b k 0 < 256) (p i : ℕ) (lp : p < productions b) (li : i < argumentCount b p) where
+module _ (b : List ℕ) (w : WellFormed b) (bytes : (k : ℕ) → getD b k 0 < characters) (p i : ℕ) (lp : p < productions b) (li : i < argumentCount b p) where
   no-production : (n : ℕ) → n < 258 → isProduction b n ≡ false
   unfolding isProduction
   no-production n l = rw (lt-leb 258 n l) refl
 
-  class-no-production : (n : ℕ) → 256 ≤ n → classHas b (argument b p i - classBase) n ≡ false
+  class-no-production : (n : ℕ) → characters ≤ n → classHas b (argument b p i - classBase) n ≡ false
   class-no-production n l =
       ⊎-elim
       (λ e. absurd (omega (arith, class-small b bytes (argument b p i - classBase) n e)))
@@ -72,7 +73,7 @@ module _ (b : List ℕ) (w : WellFormed b) (bytes : (k : ℕ) → getD b k 0 < 2
       let above = leb-true classBase x (and-first-true (leb classBase x) (ltb x (classBase + classes b)) e) in
       rw (le-ltb x (sorts b) (omega (arith, w .framed .fewSorts))) refl
 
-  flat-of-character : (n : ℕ) → n < 256 → flatClass b p i n ≡ tableHas b p i n
+  flat-of-character : (n : ℕ) → n < characters → flatClass b p i n ≡ tableHas b p i n
   unfolding tableHas
   flat-of-character n l =
       rw (lt-ltb p (productions b) lp, lt-ltb i (argumentCount b p) li)
@@ -81,7 +82,7 @@ module _ (b : List ℕ) (w : WellFormed b) (bytes : (k : ℕ) → getD b k 0 < 2
       (λ e. flat-of-sort b p i n e ∙ rw (e, no-production n (omega arith)) refl)
       (true-or-false (isClass b (argument b p i))))
 
-  flat-between : (n : ℕ) → 256 ≤ n → n < 258 → flatClass b p i n ≡ false
+  flat-between : (n : ℕ) → characters ≤ n → n < 258 → flatClass b p i n ≡ false
   flat-between n l h =
       ⊎-elim
       (λ e. flat-of-class b p i n e ∙ class-no-production n l)
@@ -110,7 +111,7 @@ module _ (b : List ℕ) (w : WellFormed b) (bytes : (k : ℕ) → getD b k 0 < 2
     table-class n h =
         let p64 : p < 64 = omega (arith, w .framed .fewProductions) in
         let i8 : i < 8 = omega (arith, w .framed .fewArguments p lp) in
-        by-cases (decLt n 256)
+        by-cases (decLt n characters)
         (λ l. table-of-character chars subs (slot p i) n l ∙ t .charsAre p i n p64 i8 l ∙ sym (flat-of-character n l))
         (λ m. by-cases (decLt n 258)
         (λ l. table-between chars subs (slot p i) n (omega arith) l ∙ sym (flat-between n (omega arith) l))
@@ -129,7 +130,7 @@ tabulate-text text (suc n) f g h =
     rw (joined-append text (tabulate n f) (f n ∷ []), joined-append text (tabulate n g) (g n ∷ []), joined-one text (f n), joined-one text (g n))
     (rw (tabulate-text text n f g (λ k l. h k (omega arith)), h n (omega arith)) refl)
 
-module _ (b counts chars subs : List ℕ) (w : WellFormed b) (bytes : (k : ℕ) → getD b k 0 < 256) (t : FlatTables b counts chars subs) where
+module _ (b counts chars subs : List ℕ) (w : WellFormed b) (bytes : (k : ℕ) → getD b k 0 < characters) (t : FlatTables b counts chars subs) where
   count-is : (p : ℕ) → p < productions b → getD counts p 0 ≡ argumentCount b p
   unfolding tableCount
   count-is p l = t .countsAre p (omega (arith, w .framed .fewProductions)) ∙ rw (lt-ltb p (productions b) l) refl

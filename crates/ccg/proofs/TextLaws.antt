@@ -14,6 +14,7 @@ use Rattle.ccg.specs.Ccg.{Class, Line, noLine, noClass}
 use Rattle.ccg.specs.Text.{decimal, numeral, rangeText, classText, argumentsText, resultText, lineText, grammarText}
 use Rattle.charset.proofs.RunLaws.{runs-skip, runs-same, runs-split, runs-one, Bounded, runs-count, runs-bound}
 use Rattle.charset.specs.Runs.{Range, range, runs}
+use Rattle.charset.specs.Set.{characters}
 use Rattle.common.proofs.ListLaws.{length-tabulate, getD-tabulate, joined-append, joined-one}
 use Rattle.common.specs.Lists.{tabulate, joined}
 
@@ -113,18 +114,18 @@ numeral-leading n e = decimal-leading n n (le-refl n) e
 -- ---- classes
 
 -- the ranges of characters, then those of productions
-pub class-text-parts : (cc : Class) → cc 256 ≡ false → cc 257 ≡ false
-    → classText cc ≡ 91 ∷ (joined rangeText (runs cc 0 256) ++ (joined rangeText (runs cc 258 64) ++ (93 ∷ [])))
+pub class-text-parts : (cc : Class) → cc characters ≡ false → cc 257 ≡ false
+    → classText cc ≡ 91 ∷ (joined rangeText (runs cc 0 characters) ++ (joined rangeText (runs cc 258 64) ++ (93 ∷ [])))
 unfolding classText
 class-text-parts cc a b =
-    let parts : runs cc 0 322 ≡ runs cc 0 256 ++ runs cc 256 66 = runs-split cc 256 0 66 a in
-    let gap : runs cc 256 66 ≡ runs cc 258 64 = runs-skip cc 2 256 64 (λ k l h. gap-at k l h) in
-    rw (parts, gap, joined-append rangeText (runs cc 0 256) (runs cc 258 64), append-assoc (joined rangeText (runs cc 0 256)) (joined rangeText (runs cc 258 64)) (93 ∷ [])) refl
+    let parts : runs cc 0 322 ≡ runs cc 0 characters ++ runs cc characters 66 = runs-split cc characters 0 66 a in
+    let gap : runs cc characters 66 ≡ runs cc 258 64 = runs-skip cc 2 characters 64 (λ k l h. gap-at k l h) in
+    rw (parts, gap, joined-append rangeText (runs cc 0 characters) (runs cc 258 64), append-assoc (joined rangeText (runs cc 0 characters)) (joined rangeText (runs cc 258 64)) (93 ∷ [])) refl
   where
-    gap-at : (k : ℕ) → 256 ≤ k → k < 258 → cc k ≡ false
+    gap-at : (k : ℕ) → characters ≤ k → k < 258 → cc k ≡ false
     gap-at k l h =
         by-cases (decLt k 257)
-        (λ m. let e : k ≡ 256 = omega arith in rw e a)
+        (λ m. let e : k ≡ characters = omega arith in rw e a)
         (λ m. let e : k ≡ 257 = omega arith in rw e b)
 
 one-range-text : (n : ℕ) → rangeText (range n n) ≡ 92 ∷ numeral n

@@ -8,7 +8,7 @@ use lib.ListN.{length, getD}
 use Rattle.ccg.specs.Ccg.{Line}
 use Rattle.ccg.specs.Flat.{mayStand}
 use Rattle.ccg.specs.Trees.{isClass, classHas}
-use Rattle.charset.specs.Set.{bit}
+use Rattle.charset.specs.Set.{characters, bit}
 use Rattle.common.specs.Below.{bitOf}
 use Rattle.common.specs.Lists.{tabulate}
 use Rattle.grammar.specs.Layout.{productions, argumentCount, result, argument}
@@ -81,7 +81,7 @@ pub record FlatTables (b counts chars subs : List ℕ) : Type 0 where
   pub charsLong : length chars ≡ charWords
   pub subsLong : length subs ≡ subBytes
   pub countsAre : (p : ℕ) → p < productionLimit → getD counts p 0 ≡ tableCount b p
-  pub charsAre : (p i c : ℕ) → p < productionLimit → i < argumentLimit → c < 256 → slotHas chars (slot p i) c ≡ tableHas b p i c
+  pub charsAre : (p i c : ℕ) → p < productionLimit → i < argumentLimit → c < characters → slotHas chars (slot p i) c ≡ tableHas b p i c
   pub subsAre : (p i q : ℕ) → p < productionLimit → i < argumentLimit → q < productionLimit → getD subs (subAt (slot p i) q) 0 ≡ bitOf (tableMay b p i q)
 
 -- ---- the character class grammar that tables hold
@@ -89,7 +89,7 @@ pub record FlatTables (b counts chars subs : List ℕ) : Type 0 where
 -- the class of a slot: its characters, and the numbers of its productions
 unfoldable pub tableClass : List ℕ → List ℕ → ℕ → ℕ → Bool
 tableClass chars subs s n =
-    cond (ltb n 256) (slotHas chars s n) (leb (productionNumber 0) n && (ltb n (productionNumber productionLimit) && eqb (getD subs (subAt s (n - productionNumber 0)) 0) 1))
+    cond (ltb n characters) (slotHas chars s n) (leb (productionNumber 0) n && (ltb n (productionNumber productionLimit) && eqb (getD subs (subAt s (n - productionNumber 0)) 0) 1))
 
 -- the line of production p, with this many arguments
 unfoldable pub slotLine : List ℕ → List ℕ → ℕ → ℕ → Line
@@ -118,7 +118,7 @@ pub record FewArguments (counts chars subs : List ℕ) : Type 0 where
 pub record ArgumentsWritten (b : List ℕ) (p n : ℕ) (chars₀ subs₀ chars subs : List ℕ) : Type 0 where
   pub charsLong : length chars ≡ length chars₀
   pub subsLong : length subs ≡ length subs₀
-  pub charsHere : (i c : ℕ) → i < n → c < 256 → slotHas chars (slot p i) c ≡ tableHas b p i c
+  pub charsHere : (i c : ℕ) → i < n → c < characters → slotHas chars (slot p i) c ≡ tableHas b p i c
   pub subsHere : (i q : ℕ) → i < n → q < productionLimit → getD subs (subAt (slot p i) q) 0 ≡ bitOf (tableMay b p i q)
   pub charsBelow : (k : ℕ) → k < wordAt (slot p 0) 0 → getD chars k 0 ≡ getD chars₀ k 0
   pub charsAbove : (k : ℕ) → wordAt (slot p n) 0 ≤ k → getD chars k 0 ≡ getD chars₀ k 0

@@ -15,12 +15,39 @@ use Rattle.grammar.specs.Verdict.{unlessRefused}
 use Rattle.priority.specs.Check.{checked}
 use Rattle.theory.specs.Tree.{productionNumber}
 
+-- ---- the bytes between the numbers
+
+abbrev pub lineFeed : ℕ
+lineFeed = 10
+
+abbrev pub space : ℕ
+space = 32
+
+abbrev pub dash : ℕ
+dash = 45
+
+-- the digit 0; the others follow it
+abbrev pub digitZero : ℕ
+digitZero = 48
+
+abbrev pub greater : ℕ
+greater = 62
+
+abbrev pub bracketOpen : ℕ
+bracketOpen = 91
+
+abbrev pub backslash : ℕ
+backslash = 92
+
+abbrev pub bracketClose : ℕ
+bracketClose = 93
+
 -- ---- numerals
 
 -- The digits of n in base ten, at most fuel + 1 of them.
 unfoldable pub decimal : ℕ → ℕ → List ℕ
-decimal zero n = (48 + n) ∷ []
-decimal (suc fuel) n = cond (ltb n 10) ((48 + n) ∷ []) (decimal fuel (n / 10) ++ ((48 + n % 10) ∷ []))
+decimal zero n = (digitZero + n) ∷ []
+decimal (suc fuel) n = cond (ltb n 10) ((digitZero + n) ∷ []) (decimal fuel (n / 10) ++ ((digitZero + n % 10) ∷ []))
 
 -- n in base ten, no leading zeros.
 unfoldable pub numeral : ℕ → List ℕ
@@ -30,7 +57,7 @@ numeral n = decimal n n
 
 -- a range of one number is \n, of more \a-\b
 unfoldable pub rangeText : Range → List ℕ
-rangeText r = cond (eqb (r .low) (r .high)) (92 ∷ numeral (r .low)) (92 ∷ numeral (r .low) ++ 45 ∷ 92 ∷ numeral (r .high))
+rangeText r = cond (eqb (r .low) (r .high)) (backslash ∷ numeral (r .low)) (backslash ∷ numeral (r .low) ++ dash ∷ backslash ∷ numeral (r .high))
 
 -- no class names this number or one above it
 abbrev pub numberLimit : ℕ
@@ -38,17 +65,17 @@ numberLimit = productionNumber productionLimit
 
 -- [, the normal ranges with nothing between, ]
 unfoldable pub classText : Class → List ℕ
-classText cc = 91 ∷ joined rangeText (runs cc 0 numberLimit) ++ (93 ∷ [])
+classText cc = bracketOpen ∷ joined rangeText (runs cc 0 numberLimit) ++ (bracketClose ∷ [])
 
 -- ---- lines
 
 -- each argument, with a space behind it
 unfoldable pub argumentsText : List Class → List ℕ
-argumentsText ccs = joined (λ cc. classText cc ++ (32 ∷ [])) ccs
+argumentsText ccs = joined (λ cc. classText cc ++ (space ∷ [])) ccs
 
 -- ->, a space, the result, a line feed
 unfoldable pub resultText : ℕ → List ℕ
-resultText n = 45 ∷ 62 ∷ 32 ∷ classText (eqb n) ++ (10 ∷ [])
+resultText n = dash ∷ greater ∷ space ∷ classText (eqb n) ++ (lineFeed ∷ [])
 
 -- arguments parted by one space, a space, and so on; with no argument the line starts at ->
 unfoldable pub lineText : Line → List ℕ

@@ -22,7 +22,7 @@ ghost use mathlib.Core.List.{List};
 ghost use Prim.Native.Nat.{ℕ, _+_, _*_, _-_, _<_, _≤_};
 ghost use lib.Dec.{eqb, leb, ltb};
 ghost use lib.ListN.{length, getD};
-ghost use Rattle.charset.specs.Set.{has, inRange};
+ghost use Rattle.charset.specs.Set.{characters, has, inRange};
 ghost use Rattle.grammar.specs.Limits.{productionLimit, classBase};
 ghost use Rattle.grammar.specs.Layout.{productions, classes, argumentCount, productionAt};
 ghost use Rattle.grammar.specs.Formed.{WellFormed};
@@ -63,7 +63,7 @@ fn results(book: &[u8]) -> [u8; PRODUCTION_LIMIT]
 pub fn class_set(book: &[u8], k: usize) -> CharSet
     requires { ⌜ WellFormed (now book) ⌝ }
     requires { ⌜ k < classes (now book) ⌝ }
-    ensures { λ r. ⌜ ((c : ℕ) → c < 256 → has (r .words) c ≡ classHas (now (book .entry)) k c) ⌝ }
+    ensures { λ r. ⌜ ((c : ℕ) → c < characters → has (r .words) c ≡ classHas (now (book .entry)) k c) ⌝ }
 {
     let mut set = CharSet::empty();
     let count = range_count(book, k);
@@ -81,7 +81,7 @@ pub fn class_set(book: &[u8], k: usize) -> CharSet
 fn argument_set(book: &[u8], x: usize) -> CharSet
     requires { ⌜ WellFormed (now book) ⌝ }
     requires { ⌜ x < classBase + classes (now book) ⌝ }
-    ensures { λ r. ⌜ ((c : ℕ) → c < 256 → has (r .words) c ≡ (isClass (now (book .entry)) x && classHas (now (book .entry)) (x - classBase) c)) ⌝ }
+    ensures { λ r. ⌜ ((c : ℕ) → c < characters → has (r .words) c ≡ (isClass (now (book .entry)) x && classHas (now (book .entry)) (x - classBase) c)) ⌝ }
 {
     if x < CLASS_BASE {
         return CharSet::empty();

@@ -14,12 +14,12 @@ ghost use lib.Dec.{eqb};
 ghost use lib.ListN.{length, getD};
 ghost use Rattle.grammar.specs.Limits.{productionLimit, argumentLimit};
 ghost use Rattle.theory.specs.Tree.{productionNumber};
-ghost use Rattle.charset.specs.Set.{has};
+ghost use Rattle.charset.specs.Set.{characters, has};
 ghost use Rattle.charset.specs.Runs.{range, runs, firstRun};
 ghost use Rattle.charset.specs.Sought.{Sought};
 ghost use Rattle.common.specs.Lists.{joined};
 ghost use Rattle.ccg.specs.Put.{Put, farthest};
-ghost use Rattle.ccg.specs.Text.{numeral, numberLimit, rangeText, classText, resultText, lineText, grammarText};
+ghost use Rattle.ccg.specs.Text.{backslash, digitZero, numeral, numberLimit, rangeText, classText, resultText, lineText, grammarText};
 ghost use Rattle.ccg.specs.Tables.{slotHas, subNumber, tableClass, slotLine, tableGrammar, FewArguments, slots, slotWords, charWords, subBytes};
 
 // The number of production 0.
@@ -57,9 +57,9 @@ fn put_numeral(out: &mut [u8], at: usize, n: usize) -> usize
 
 fn digit(n: usize) -> u8
     requires { ⌜ n < 10 ⌝ }
-    ensures { λ r. ⌜ r ≡ 48 + n ⌝ }
+    ensures { λ r. ⌜ r ≡ digitZero + n ⌝ }
 {
-    (48 + n) as u8
+    b'0' + n as u8
 }
 
 // A range: \n for one number, \a-\b for more.
@@ -79,8 +79,8 @@ fn put_range(out: &mut [u8], at: usize, low: usize, high: usize) -> usize
 // A backslash and a numeral.
 fn put_number(out: &mut [u8], at: usize, n: usize) -> usize
     requires { ⌜ n < 1000 ⌝ }
-    requires { ⌜ at + length (92 ∷ numeral n) ≤ farthest ⌝ }
-    ensures { λ r. ⌜ Put (92 ∷ numeral n) (now (out .entry)) at (now (out .exit)) r ⌝ }
+    requires { ⌜ at + length (backslash ∷ numeral n) ≤ farthest ⌝ }
+    ensures { λ r. ⌜ Put (backslash ∷ numeral n) (now (out .entry)) at (now (out .exit)) r ⌝ }
 {
     let next = put(out, at, b'\\');
     put_numeral(out, next, n)
@@ -90,8 +90,8 @@ fn put_number(out: &mut [u8], at: usize, n: usize) -> usize
 
 // The normal ranges of a set of characters.
 fn put_char_runs(out: &mut [u8], at: usize, set: CharSet) -> usize
-    requires { ⌜ at + length (joined rangeText (runs (has (set .words)) 0 256)) ≤ farthest ⌝ }
-    ensures { λ r. ⌜ Put (joined rangeText (runs (has (set .words)) 0 256)) (now (out .entry)) at (now (out .exit)) r ⌝ }
+    requires { ⌜ at + length (joined rangeText (runs (has (set .words)) 0 characters)) ≤ farthest ⌝ }
+    ensures { λ r. ⌜ Put (joined rangeText (runs (has (set .words)) 0 characters)) (now (out .entry)) at (now (out .exit)) r ⌝ }
 {
     let mut place = at;
     let mut from = 0;
@@ -157,7 +157,7 @@ fn seek_number(subs: &[u8], base: usize, from: usize, wanted: bool) -> usize
 // The characters of slot s.
 fn slot_set(chars: &[u64], s: usize) -> CharSet
     requires { ⌜ s * slotWords + slotWords ≤ length (now chars) ⌝ }
-    ensures { λ r. ⌜ ((c : ℕ) → c < 256 → has (r .words) c ≡ slotHas (now (chars .entry)) s c) ⌝ }
+    ensures { λ r. ⌜ ((c : ℕ) → c < characters → has (r .words) c ≡ slotHas (now (chars .entry)) s c) ⌝ }
 {
     let base = s * WORDS;
     CharSet {

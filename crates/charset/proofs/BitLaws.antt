@@ -12,7 +12,7 @@ use lib.ListN.{getD}
 use lib.Pow.{pow-pos, pow-mono, pow-add, shl-exact, shl-shr, shr-shr, split, high, low, ones-lt, ones-split}
 use lib.Bits.{bitOr, or-step, or-shr}
 use borrow.Author.Tests.{lt-ltb, le-ltb, le-leb, lt-leb}
-use Rattle.charset.specs.Set.{bit, has, inRange}
+use Rattle.charset.specs.Set.{characters, bit, has, inRange}
 use lib.Pow.{pow-add, pow-pos, pow-mono, shl-shr, shr-shr, shl-exact, ones-split, high as high-part, ones-lt}
 
 max-bit : (u v : ℕ) → u < 2 → v < 2 → eqb (max u v) 1 ≡ (eqb u 1 || eqb v 1)
@@ -137,11 +137,11 @@ module _ (words : List ℕ) (low high m₀ m₁ m₂ m₃ : ℕ)
   by-word b (suc (suc (suc zero))) e h = one-word (getD words 3 0) m₃ 192 b at₃ (omega arith)
   by-word b (suc (suc (suc (suc q)))) e h = absurd (omega arith)
 
-  pub has-joined : (b : ℕ) → b < 256 → has (bitOr (getD words 0 0) m₀ ∷ bitOr (getD words 1 0) m₁ ∷ bitOr (getD words 2 0) m₂ ∷ bitOr (getD words 3 0) m₃ ∷ []) b ≡ (has words b || inRange low high b)
+  pub has-joined : (b : ℕ) → b < characters → has (bitOr (getD words 0 0) m₀ ∷ bitOr (getD words 1 0) m₁ ∷ bitOr (getD words 2 0) m₂ ∷ bitOr (getD words 3 0) m₃ ∷ []) b ≡ (has words b || inRange low high b)
   unfolding has joined
   has-joined b h = by-word b (b / 64) refl (omega arith)
 
-pub has-empty : (c : ℕ) → c < 256 → has (0 ∷ 0 ∷ 0 ∷ 0 ∷ []) c ≡ false
+pub has-empty : (c : ℕ) → c < characters → has (0 ∷ 0 ∷ 0 ∷ 0 ∷ []) c ≡ false
 unfolding has
 has-empty c h = word (c / 64) (omega arith) (c % 64)
   where

@@ -6,6 +6,10 @@ use lib.Dec.{leb, eqb}
 use lib.ListN.{getD}
 use lib.Pow.{high, low}
 
+-- How many characters there are: they are bytes.
+abbrev pub characters : ℕ
+characters = 256
+
 -- Bit b of a word, the lowest is bit 0.
 unfoldable pub bit : ℕ → ℕ → Bool
 bit word b = eqb (word / 2 ^ b % 2) 1

@@ -6,7 +6,7 @@ ghost use mathlib.Core.List.{List};
 ghost use Prim.Native.Nat.{ℕ, _+_, _-_, _<_, _≤_, min};
 ghost use lib.Dec.{eqb};
 ghost use lib.ListN.{getD};
-ghost use Rattle.charset.specs.Set.{bit, has, inRange};
+ghost use Rattle.charset.specs.Set.{characters, bit, has, inRange};
 ghost use Rattle.charset.specs.Runs.{runs, firstRun};
 ghost use Rattle.charset.specs.Sought.{Sought};
 
@@ -27,7 +27,7 @@ pub enum NextRun {
 impl CharSet {
     // The set with no byte in it.
     pub fn empty() -> Self
-        ensures { λ r. ⌜ ((c : ℕ) → c < 256 → has (r .words) c ≡ false) ⌝ }
+        ensures { λ r. ⌜ ((c : ℕ) → c < characters → has (r .words) c ≡ false) ⌝ }
     {
         CharSet { words: [0u64; 4] }
     }
@@ -42,14 +42,14 @@ impl CharSet {
 
     // The set with one byte more.
     pub fn insert(self, c: u8) -> Self
-        ensures { λ r. ⌜ ((b : ℕ) → b < 256 → has (r .words) b ≡ (has (self .words) b || inRange c c b)) ⌝ }
+        ensures { λ r. ⌜ ((b : ℕ) → b < characters → has (r .words) b ≡ (has (self .words) b || inRange c c b)) ⌝ }
     {
         self.insert_range(c, c)
     }
 
     // The set with the bytes from low to high more.
     pub fn insert_range(self, low: u8, high: u8) -> Self
-        ensures { λ r. ⌜ ((b : ℕ) → b < 256 → has (r .words) b ≡ (has (self .words) b || inRange low high b)) ⌝ }
+        ensures { λ r. ⌜ ((b : ℕ) → b < characters → has (r .words) b ≡ (has (self .words) b || inRange low high b)) ⌝ }
     {
         let w = self.words;
         CharSet {
@@ -64,7 +64,7 @@ impl CharSet {
 
     // The first of the normal ranges of the bytes from `from` on.
     pub fn next_run(self, from: usize) -> NextRun
-        ensures { λ r. ⌜ r ≡ firstRun (runs (has (self .words)) from (256 - from)) ⌝ }
+        ensures { λ r. ⌜ r ≡ firstRun (runs (has (self .words)) from (characters - from)) ⌝ }
     {
         let low = self.seek(from, true);
         if CHARACTERS <= low {
@@ -75,7 +75,7 @@ impl CharSet {
 
     // The first place from `from` on whose membership is as wanted, 256 if there is none.
     fn seek(self, from: usize, wanted: bool) -> usize
-        ensures { λ r. ⌜ Sought 256 (has (self .words)) wanted from r ⌝ }
+        ensures { λ r. ⌜ Sought characters (has (self .words)) wanted from r ⌝ }
     {
         let mut at = from;
         while at < CHARACTERS {

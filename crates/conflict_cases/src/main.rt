@@ -5,6 +5,7 @@ use libc::STDOUT_FILENO;
 use priority::ConflictAnswer;
 use priority::conflict::conflict;
 use records::field_at;
+use records::wide;
 use report::print_refusal;
 ghost use Prim.Native.Nat.{_≤_};
 ghost use lib.ListN.{length};
@@ -45,10 +46,6 @@ fn ask(input: &[u8], start: usize, end: usize) -> usize
         ));
     }
     to
-}
-
-fn wide(x: u8) -> usize {
-    x as usize
 }
 
 fn print(answer: ConflictAnswer) {

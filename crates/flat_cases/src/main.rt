@@ -4,6 +4,7 @@ use ccg::FlatAnswer;
 use ccg::write_flat;
 use libc::STDIN_FILENO;
 use records::field_at;
+use records::two_bytes;
 use report::print_refusal;
 use report::print_start;
 ghost use Prim.Native.Nat.{_≤_};
@@ -37,18 +38,9 @@ fn write_case(input: &[u8], start: usize, end: usize) -> usize
     let from = room.start;
     let to = room.end;
     if to - from == 2 {
-        print_flat(
-            &input[start..end],
-            wide(input[from]) + 256 * wide(input[from + 1]),
-        );
+        print_flat(&input[start..end], two_bytes(input, from));
     }
     to
-}
-
-fn wide(x: u8) -> usize
-    ensures { λ r. ⌜ r ≤ 255 ⌝ }
-{
-    x as usize
 }
 
 fn print_flat(book: &[u8], room: usize) {

@@ -1,8 +1,8 @@
 // The input of the programs that run stored cases: fields, each two bytes with its length, low byte first, and then its bytes.
 ghost use mathlib.Core.Path.{_≡_};
-ghost use Prim.Native.Nat.{_<_, _≤_};
+ghost use Prim.Native.Nat.{_+_, _<_, _≤_};
 ghost use lib.ListN.{length};
-ghost use Rattle.records.specs.Fields.{fieldStart, fieldEnd};
+ghost use Rattle.records.specs.Fields.{twoBytes, fieldStart, fieldEnd};
 
 // Where a field's bytes start and end.
 pub struct Field {
@@ -23,7 +23,7 @@ pub fn field_at(input: &[u8], at: usize) -> Field
             end: input.len(),
         };
     }
-    let size = wide(input[at]) + 256 * wide(input[at + 1]);
+    let size = two_bytes(input, at);
     if left - 2 < size {
         return Field {
             start: at + 2,
@@ -36,7 +36,16 @@ pub fn field_at(input: &[u8], at: usize) -> Field
     }
 }
 
-fn wide(x: u8) -> usize
+// A number of two bytes, low byte first.
+pub fn two_bytes(input: &[u8], at: usize) -> usize
+    requires { ⌜ at + 1 < length (now input) ⌝ }
+    ensures { λ r. ⌜ r ≡ twoBytes (now (input .entry)) at ⌝ }
+{
+    wide(input[at]) + 256 * wide(input[at + 1])
+}
+
+// A byte as a number.
+pub fn wide(x: u8) -> usize
     ensures { λ r. ⌜ r ≡ x ⌝ }
 {
     x as usize

@@ -15,6 +15,7 @@ use Rattle.ccg.specs.Put.{Put}
 use Rattle.ccg.specs.Tables.{FlatTables, tableGrammar}
 use Rattle.ccg.specs.Text.{grammarText, writeAnswer}
 use Rattle.ccg.specs.declared.FlatAnswer.the-variants.{Written, Refused}
+use Rattle.charset.specs.Set.{characters}
 use Rattle.grammar.specs.Formed.{WellFormed}
 use Rattle.grammar.specs.Layout.{productions}
 use Rattle.priority.specs.Conflict.{fits}
@@ -24,7 +25,7 @@ use Rattle.ccg.proofs.write_accepted.Tie as tie
 abbrev textOf : List ℕ → List ℕ
 textOf b = grammarText (flatGrammar b)
 
-module _ (b counts chars subs : List ℕ) (w : WellFormed b) (bytes : (k : ℕ) → getD b k 0 < 256) (t : FlatTables b counts chars subs) (n : ℕ) (e : n ≡ productions b) where
+module _ (b counts chars subs : List ℕ) (w : WellFormed b) (bytes : (k : ℕ) → getD b k 0 < characters) (t : FlatTables b counts chars subs) (n : ℕ) (e : n ≡ productions b) where
   text-is : grammarText (tableGrammar n counts chars subs) ≡ textOf b
   text-is = ap (λ (k : ℕ). grammarText (tableGrammar k counts chars subs)) e ∙ table-text b counts chars subs w bytes t
 
@@ -81,7 +82,7 @@ returns : tie.Need-returns
 unfolding writeAnswer
 returns c =
     let b = c .before .before .before .before .before .before .before .before .before .before .before .before .before .before .before .before .before .before .before .before .before .args .book .now in
-    let bytes : (k : ℕ) → getD b k 0 < 256 = λ k. omega (arith, c .before .before .before .before .before .before .before .before .before .before .before .before .before .before .before .before .before .before .before .before .shared-slice-known .given k) in
+    let bytes : (k : ℕ) → getD b k 0 < characters = λ k. omega (arith, c .before .before .before .before .before .before .before .before .before .before .before .before .before .before .before .before .before .before .before .before .shared-slice-known .given k) in
     let text = text-is b _ _ _ (c .before .before .before .before .before .before .before .before .before .before .before .before .before .before .before .before .before .before .before .before .before .pre) bytes (c .before .before .before .before .before .before .before .before .before .before .before .before .flatten .ensures) (c .before .before .before .before .before .before .before .before .production-count .result) (c .before .before .before .before .before .before .before .before .production-count .ensures) in
     let same = unchanged _ _ (c .before .before .before .before .before .before .before .before .before .before .before .before .before .before .before .before .before .before .before .before .before .args .out .now) _ (c .before .before .before .put-grammar .ensures) in
     let needed : c .before .before .before .put-grammar .result ≡ length (textOf b) = c .before .before .before .put-grammar .ensures .next ∙ zero-add _ ∙ ap length text in
@@ -109,7 +110,7 @@ returns-2 : tie.Need-returns-2
 unfolding writeAnswer
 returns-2 c =
     let b = c .before .before .before .before .before .before .before .before .before .before .before .before .before .before .before .before .before .before .before .before .before .before .before .before .before .before .before .before .args .book .now in
-    let bytes : (k : ℕ) → getD b k 0 < 256 = λ k. omega (arith, c .before .before .before .before .before .before .before .before .before .before .before .before .before .before .before .before .before .before .before .before .before .before .before .before .before .before .before .shared-slice-known .given k) in
+    let bytes : (k : ℕ) → getD b k 0 < characters = λ k. omega (arith, c .before .before .before .before .before .before .before .before .before .before .before .before .before .before .before .before .before .before .before .before .before .before .before .before .before .before .before .shared-slice-known .given k) in
     let text = text-is b _ _ _ (c .before .before .before .before .before .before .before .before .before .before .before .before .before .before .before .before .before .before .before .before .before .before .before .before .before .before .before .before .pre) bytes (c .before .before .before .before .before .before .before .before .before .before .before .before .before .before .before .before .before .before .before .flatten .ensures) (c .before .before .before .before .before .before .before .before .before .before .before .before .before .before .before .production-count .result) (c .before .before .before .before .before .before .before .before .before .before .before .before .before .before .before .production-count .ensures) in
     let same = unchanged _ _ (c .before .before .before .before .before .before .before .before .before .before .before .before .before .before .before .before .before .before .before .before .before .before .before .before .before .before .before .before .args .out .now) _ (c .before .before .before .before .before .before .before .before .before .before .put-grammar .ensures) in
     let needed : c .before .before .before .before .before .before .before .before .before .before .put-grammar .result ≡ length (textOf b) = c .before .before .before .before .before .before .before .before .before .before .put-grammar .ensures .next ∙ zero-add _ ∙ ap length text in

@@ -6,7 +6,7 @@ use mathlib.Core.List.{List}
 use native.Mathlib.Omega.{arith}
 use lib.ListN.{getD, set}
 use Rattle.ccg.specs.Trees.{classHas}
-use Rattle.charset.specs.Set.{has, inRange}
+use Rattle.charset.specs.Set.{characters, has, inRange}
 use Rattle.common.proofs.BelowLaws.{any-none, any-next}
 use Rattle.common.specs.Below.{anyBelow}
 use Rattle.grammar.proofs.FormedLaws.{class-in, bodies-in}
@@ -32,7 +32,7 @@ unfolding inRanges
 next-range b k r c = any-next (λ j. inRange (low b k j) (high b k j) c) r
 
 abbrev Inv-loop : tie.InvT-loop
-Inv-loop book k set₀ count at r₀ set r = (r ≤ count) × ((c : ℕ) → c < 256 → has (set .words) c ≡ inRanges book k r c)
+Inv-loop book k set₀ count at r₀ set r = (r ≤ count) × ((c : ℕ) → c < characters → has (set .words) c ≡ inRanges book k r c)
 
 abbrev μ-loop : tie.MeasureT-loop
 μ-loop book k set₀ count at r₀ set r = count - r

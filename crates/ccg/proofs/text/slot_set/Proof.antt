@@ -7,11 +7,11 @@ use native.Mathlib.Nat.{add-zero}
 use lib.ListN.{getD}
 use borrow.Author.Needs.{needs}
 use Rattle.ccg.specs.Tables.{wordAt, slotHas}
-use Rattle.charset.specs.Set.{bit, has}
+use Rattle.charset.specs.Set.{characters, bit, has}
 use Rattle.ccg.proofs.text.slot_set.Statement.{statement}
 use Rattle.ccg.proofs.text.slot_set.Tie as tie
 
-four-words : (chars : List ℕ) (s c : ℕ) → c < 256
+four-words : (chars : List ℕ) (s c : ℕ) → c < characters
     → has (getD chars (s * 4) 0 ∷ getD chars (s * 4 + 1) 0 ∷ getD chars (s * 4 + 2) 0 ∷ getD chars (s * 4 + 3) 0 ∷ []) c ≡ slotHas chars s c
 unfolding has slotHas wordAt
 four-words chars s c l = ap (λ (v : ℕ). bit v (c % 64)) (word (c / 64) (omega arith))
