@@ -1,0 +1,2 @@
+-- Laws of the chart.
+pub mod LayoutLaws

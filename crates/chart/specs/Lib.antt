@@ -1,0 +1,2 @@
+-- What the contracts of the chart cite.
+pub mod Layout

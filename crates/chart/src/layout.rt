@@ -1,0 +1,70 @@
+// Where a cell of the chart stands (01, "Readings, listings and the chart"). Nothing outside this module knows it.
+use grammar::limits::ARGUMENT_LIMIT;
+use grammar::limits::PRODUCTION_LIMIT;
+ghost use mathlib.Core.Path.{_≡_};
+ghost use Prim.Native.Nat.{ℕ, _+_, _*_, _<_, _≤_};
+ghost use lib.ListN.{length, getD, set};
+ghost use Rattle.chart.specs.Layout.{textLimit, rowLimit, spanCount, startAt, cellAt};
+
+// Most characters of a text.
+pub const TEXT_LIMIT: usize = 200;
+// The places between and around them.
+pub const PLACES: usize = TEXT_LIMIT + 1;
+// A row is a production with a count of arguments. Most rows.
+pub const ROW_LIMIT: usize = PRODUCTION_LIMIT * (ARGUMENT_LIMIT + 1);
+
+// How many spans a text of n characters has: a row has a cell for each.
+pub fn span_count(n: usize) -> usize
+    requires { ⌜ n ≤ textLimit ⌝ }
+    ensures { λ r. ⌜ r ≡ spanCount n ⌝ }
+{
+    (n + 1) * (n + 2) / 2
+}
+
+// How many spans start before i.
+fn start_at(n: usize, i: usize) -> usize
+    requires { ⌜ (n ≤ textLimit) × (i ≤ n) ⌝ }
+    ensures { λ r. ⌜ r ≡ startAt n i ⌝ }
+{
+    i * (2 * n + 3 - i) / 2
+}
+
+// The place of a cell.
+fn cell_at(n: usize, row: usize, i: usize, j: usize) -> usize
+    requires { ⌜ (n ≤ textLimit) × (row < rowLimit) × (i ≤ j) × (j ≤ n) ⌝ }
+    ensures { λ r. ⌜ r ≡ cellAt n row i j ⌝ }
+{
+    row * span_count(n) + start_at(n, i) + (j - i)
+}
+
+// The cell of a row for the span from i to j.
+pub fn get(chart: &[u8], n: usize, row: usize, i: usize, j: usize) -> u8
+    requires { ⌜ (n ≤ textLimit) × (row < rowLimit) × (i ≤ j) × (j ≤ n) ⌝ }
+    requires { ⌜ (row + 1) * spanCount n ≤ length (now chart) ⌝ }
+    ensures { λ r. ⌜ r ≡ getD (now (chart .entry)) (cellAt n row i j) 0 ⌝ }
+{
+    chart[cell_at(n, row, i, j)]
+}
+
+pub fn put(chart: &mut [u8], n: usize, row: usize, i: usize, j: usize, value: u8)
+    requires { ⌜ (n ≤ textLimit) × (row < rowLimit) × (i ≤ j) × (j ≤ n) ⌝ }
+    requires { ⌜ (row + 1) * spanCount n ≤ length (now chart) ⌝ }
+    ensures { λ _. ⌜ now (chart .exit) ≡ set (now (chart .entry)) (cellAt n row i j) value ⌝ }
+{
+    chart[cell_at(n, row, i, j)] = value;
+}
+
+// Copies the cells of a row that start at i and end at `from` and later, as many as `out` takes.
+pub fn copy_row(chart: &[u8], n: usize, row: usize, i: usize, from: usize, out: &mut [u8])
+    requires { ⌜ (n ≤ textLimit) × (row < rowLimit) × (i ≤ from) × (from + length (now out) ≤ n + 1) × (from ≤ n) ⌝ }
+    requires { ⌜ (row + 1) * spanCount n ≤ length (now chart) ⌝ }
+    ensures { λ _. ⌜ ((k : ℕ) → k < length (now (out .entry)) → getD (now (out .exit)) k 0 ≡ getD (now (chart .entry)) (cellAt n row i (from + k)) 0) ⌝ }
+{
+    let at = cell_at(n, row, i, from);
+    let count = out.len();
+    let mut k = 0;
+    while k < count {
+        out[k] = chart[at + k];
+        k += 1;
+    }
+}

@@ -1,0 +1,2 @@
+-- Laws of a span.
+pub mod SpanLaws

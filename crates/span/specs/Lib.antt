@@ -1,0 +1,3 @@
+-- What the contracts of a span cite.
+pub mod Span
+pub mod Tables

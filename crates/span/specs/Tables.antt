@@ -1,0 +1,108 @@
+-- A span as the tables that the code has, and what its functions promise of them.
+use Prim.Native.Nat.{ℕ, zero, suc, _+_, _*_, max, _≤_, _<_}
+use mathlib.Core.Path.{_≡_}
+use mathlib.Core.Bool.{Bool, false, true}
+use mathlib.Core.List.{List}
+use lib.ListN.{length, getD, set}
+use Rattle.chart.specs.Layout.{rowLimit, rowOf}
+use Rattle.grammar.specs.Limits.{productionLimit, argumentLimit}
+use Rattle.span.specs.Span.{Span, argumentOf, ClosedAt, Raised, spare}
+use Rattle.theory.specs.Steps.{cap}
+
+-- ---- the tables
+
+-- a row of users to a production, a row of uses to a production
+unfoldable pub userAt : ℕ → ℕ → ℕ
+userAt q r = q * rowLimit + r
+
+unfoldable pub useAt : ℕ → ℕ → ℕ
+useAt q p = q * productionLimit + p
+
+abbrev pub userBytes : ℕ
+userBytes = productionLimit * rowLimit
+
+abbrev pub useBytes : ℕ
+useBytes = productionLimit * productionLimit
+
+-- how many arguments production p has
+abbrev pub arityIn : List ℕ → ℕ → ℕ
+arityIn counts p = getD counts p 0
+
+unfoldable pub spanOf : (counts users inner front back : List ℕ) → (ℕ → ℕ) → Span
+spanOf counts users inner front back bare =
+    record {
+      count = length counts;
+      arity = arityIn counts;
+      users = λ q r. getD users (userAt q r) 0;
+      bare = bare;
+      inner = λ r. getD inner r 0;
+      front = λ r. getD front r 0;
+      back = λ r. getD back r 0;
+    }
+
+-- The tables of a grammar: which rows take a production, and which productions have such a row.
+pub record Links (counts users uses : List ℕ) : Type 0 where
+  pub fewProductions : length counts ≤ productionLimit
+  pub fewArguments : (p : ℕ) → arityIn counts p ≤ argumentLimit
+  pub usersLong : length users ≡ userBytes
+  pub usesLong : length uses ≡ useBytes
+  pub bits : (k : ℕ) → getD users k 0 ≤ 1
+  -- a production that is not said to use q has no row that takes it
+  pub unused : (q p d : ℕ) → q < length counts → p < length counts → d < arityIn counts p → getD uses (useAt q p) 0 ≡ 0 → getD users (userAt q (rowOf (arityIn counts) p d)) 0 ≡ 0
+
+-- Each has an entry for each row.
+pub record Loads (inner front back args cells : List ℕ) : Type 0 where
+  pub innerLong : length inner ≡ rowLimit
+  pub frontLong : length front ≡ rowLimit
+  pub backLong : length back ≡ rowLimit
+  pub argsLong : length args ≡ rowLimit
+  pub cellsLong : length cells ≡ rowLimit
+
+-- `args` has for each row what the cells x say.
+pub record Exact (s : Span) (x args : List ℕ) : Type 0 where
+  pub exact : (r : ℕ) → r < rowLimit → getD args r 0 ≡ argumentOf s x r
+
+-- Cells and arguments are small and agree: no sum can overflow.
+pub record Founded (counts users inner front back args cells : List ℕ) : Type 0 where
+  pub bare : ℕ → ℕ
+  pub little : (r : ℕ) → bare r ≤ 1
+  pub small : (r : ℕ) → getD cells r 0 ≤ 2
+  pub agree : Exact (spanOf counts users inner front back bare) cells args
+
+-- ---- what the functions promise
+
+-- the cell of the row after r is raised
+unfoldable pub raisedAt : (inner front back args : List ℕ) → List ℕ → ℕ → List ℕ
+raisedAt inner front back args x r =
+    set x (r + 1) (max (getD x (r + 1) 0) (cap (getD inner r 0 + getD front r 0 * getD args r 0 + getD x r 0 * getD back r 0)))
+
+-- the cells of one production are, from its first row on, for its first d arguments
+unfoldable pub advanced : (inner front back args : List ℕ) → ℕ → ℕ → List ℕ → List ℕ
+advanced inner front back args base zero x = x
+advanced inner front back args base (suc d) x = raisedAt inner front back args (advanced inner front back args base d x) (base + d)
+
+-- Between two visits: the cells x came about from x₀, and every wanted production that is not pending is closed.
+pub record Standing (s : Span) (wanted x₀ pending args x : List ℕ) : Type 0 where
+  pub agree : Exact s x args
+  pub came : Raised s x₀ x
+  pub rest : (p : ℕ) → p < s .count → 1 ≤ getD wanted p 0 → getD pending p 0 ≡ 0 → ClosedAt s x p
+
+-- A visit of production q keeps that. If its count rose there is less to spare; otherwise q alone is no longer pending.
+pub record Visited (s : Span) (wanted : List ℕ) (q : ℕ) (pending args x pending′ args′ x′ : List ℕ) (rose : Bool) : Type 0 where
+  pub stands : (x₀ : List ℕ) → Standing s wanted x₀ pending args x → Standing s wanted x₀ pending′ args′ x′
+  pub less : rose ≡ true → spare s x′ < spare s x
+  pub same : rose ≡ false → spare s x′ ≡ spare s x
+  pub calm : rose ≡ false → (p : ℕ) → getD pending′ p 0 ≤ getD pending p 0
+  pub done : rose ≡ false → getD pending′ q 0 ≡ 0
+
+-- A round over all productions: if no count rose, none is pending.
+pub record RoundDone (s : Span) (wanted pending args x pending′ args′ x′ : List ℕ) (rose : Bool) : Type 0 where
+  pub stands : (x₀ : List ℕ) → Standing s wanted x₀ pending args x → Standing s wanted x₀ pending′ args′ x′
+  pub less : rose ≡ true → spare s x′ < spare s x
+  pub calm : rose ≡ false → (p : ℕ) → p < s .count → getD pending′ p 0 ≡ 0
+
+-- The span is settled: every wanted production is closed.
+pub record Settled (s : Span) (wanted x args′ x′ : List ℕ) : Type 0 where
+  pub agree : Exact s x′ args′
+  pub came : Raised s x x′
+  pub closedAll : (p : ℕ) → p < s .count → 1 ≤ getD wanted p 0 → ClosedAt s x′ p
