@@ -3,6 +3,7 @@ pub mod Trees
 pub mod Ccg
 pub mod Flat
 pub mod Tables
+pub mod Theory
 pub mod Text
 pub mod Put
 pub mod Visser

@@ -29,7 +29,7 @@ ghost use Rattle.grammar.specs.Formed.{WellFormed};
 ghost use Rattle.common.specs.Below.{bitOf};
 ghost use Rattle.common.specs.Region.{Region};
 ghost use Rattle.ccg.specs.Trees.{isClass, classHas};
-ghost use Rattle.ccg.specs.Tables.{subAt, wordAt, slot, Results, BarringRows, ArgumentsWritten, ZeroTables, FlatTables, slotWords, charWords, subBytes};
+ghost use Rattle.ccg.specs.Tables.{subAt, wordAt, slot, slotHas, Results, BarringRows, ArgumentsWritten, ZeroTables, FlatTables, slotWords, charWords, subBytes};
 
 // How many words hold the characters of a slot.
 pub const WORDS: usize = 4;
@@ -211,4 +211,12 @@ pub fn flatten(book: &[u8], counts: &mut [u8], chars: &mut [u64], subs: &mut [u8
         at += 1 + argument_count(book, p);
         p += 1;
     }
+}
+
+// Whether character c may stand at slot s.
+pub fn slot_has(chars: &[u64], s: usize, c: u8) -> bool
+    requires { ⌜ (s + 1) * slotWords ≤ length (now chars) ⌝ }
+    ensures { λ r. ⌜ r ≡ slotHas (now (chars .entry)) s c ⌝ }
+{
+    (chars[s * WORDS + wide(c / 64)] >> (c % 64)) % 2 == 1
 }

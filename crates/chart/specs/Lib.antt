@@ -1,2 +1,3 @@
 -- What the contracts of the chart cite.
 pub mod Layout
+pub mod Counted

@@ -15,7 +15,7 @@ use Rattle.common.specs.Below.{bitOf}
 use Rattle.theory.proofs.ClosedLaws.{meets, true-bit, spells-counted, spells-same}
 use Rattle.theory.proofs.SoundLaws.{bit-one, bit-small, node-forest, node-number}
 use Rattle.theory.proofs.SpellsLaws.{spells-yield, spells-derived, derived-spells}
-use Rattle.theory.specs.Counts.{Counts}
+use Rattle.theory.specs.Counts.{Two, Counts}
 use Rattle.theory.specs.Grammar.{Grammar, Spells, Parse}
 use Rattle.theory.specs.Steps.{Chart, cap, Sound, Closed, rootSum}
 use Rattle.theory.specs.Tree.{Tree, leaf, node, Forest}
@@ -48,105 +48,103 @@ counts-same P Q v e a =
 -- ---- each entry
 
 module _ (g : Grammar) (w : List ℕ) (c : Chart) (sound : Sound g w c) (closed : Closed g w c) (small : (p d i j : ℕ) → c p d i j ≤ 2) where
-  pub entry-counts : (p d i j : ℕ) → p < g .count → d ≤ g .arity p → Counts (λ (f : Forest). Spells g w p f d i j) (c p d i j)
-  entry-counts p d i j lp ld =
+  pub entry-counts : (p d i j : ℕ) → p < g .count → d ≤ g .arity p → i ≤ j → j ≤ length w → Counts (λ (f : Forest). Spells g w p f d i j) (c p d i j)
+  entry-counts p d i j lp ld ij jw =
       record {
         atMostTwo = small p d i j;
-        one = sound .shown p d i j;
-        two = sound .shownTwo p d i j;
+        one = sound .shown p d i j lp ld ij jw .one;
+        two = sound .shown p d i j lp ld ij jw .two;
         some = λ f s. spells-counted g w c closed p f d i j lp ld s;
         same = λ h f k s r. spells-same g w c closed p f k d i j lp ld h s r;
       }
 
-  -- ---- the parses
+-- ---- the parses
 
-  module _ (roots : ℕ → Bool) where
-    root : ℕ → ℕ
-    root p = bitOf (roots p) * c p (g .arity p) 0 (length w)
+-- v p is the number of lists of trees of production p for the whole text
+module _ (g : Grammar) (w : List ℕ) (roots : ℕ → Bool) (v : ℕ → ℕ)
+    (counts : (p : ℕ) → p < g .count → Counts (λ (f : Forest). Spells g w p f (g .arity p) 0 (length w)) (v p)) where
+  root : ℕ → ℕ
+  root p = bitOf (roots p) * v p
 
-    parse-of : (p : ℕ) (f : Forest) → p < g .count → roots p ≡ true → Spells g w p f (g .arity p) 0 (length w) → Parse g roots w (node p f)
-    unfolding Parse
-    parse-of p f l e s = (l, e, spells-derived g w p f (g .arity p) 0 (length w) s, spells-yield g w p f (g .arity p) 0 (length w) s ∙ take-length w)
+  parse-of : (p : ℕ) (f : Forest) → p < g .count → roots p ≡ true → Spells g w p f (g .arity p) 0 (length w) → Parse g roots w (node p f)
+  unfolding Parse
+  parse-of p f l e s = (l, e, spells-derived g w p f (g .arity p) 0 (length w) s, spells-yield g w p f (g .arity p) 0 (length w) s ∙ take-length w)
 
-    spells-of : (p : ℕ) (f : Forest) → Parse g roots w (node p f) → Spells g w p f (g .arity p) 0 (length w)
-    unfolding Parse
-    spells-of p f s = derived-spells g w p f (g .arity p) 0 (length w) (s .2) (omega arith) (le-refl (length w)) (s .3 ∙ sym (take-length w))
+  spells-of : (p : ℕ) (f : Forest) → Parse g roots w (node p f) → Spells g w p f (g .arity p) 0 (length w)
+  unfolding Parse
+  spells-of p f s = derived-spells g w p f (g .arity p) 0 (length w) (s .2) (omega arith) (le-refl (length w)) (s .3 ∙ sym (take-length w))
 
-    root-one : (p : ℕ) → p < g .count → 1 ≤ root p → (t : Tree) × Parse g roots w t × ((f : Forest) × (t ≡ node p f))
-    unfolding root
-    root-one p l h =
-        let a = product-one (bitOf (roots p)) (c p (g .arity p) 0 (length w)) h in
-        let s = sound .shown p (g .arity p) 0 (length w) (a .1) in
-        (node p (s .0), parse-of p (s .0) l (bit-one (roots p) (a .0)) (s .1), (s .0, refl))
+  root-one : (p : ℕ) → p < g .count → 1 ≤ root p → (t : Tree) × Parse g roots w t × ((f : Forest) × (t ≡ node p f))
+  unfolding root
+  root-one p l h =
+      let a = product-one (bitOf (roots p)) (v p) h in
+      let s = counts p l .one (a .1) in
+      (node p (s .0), parse-of p (s .0) l (bit-one (roots p) (a .0)) (s .1), (s .0, refl))
 
-    root-two : (p : ℕ) → p < g .count → 2 ≤ root p → (t : Tree) × (u : Tree) × Parse g roots w t × Parse g roots w u × (t ≡ u → ⊥)
-    unfolding root
-    root-two p l h =
-        ⊎-elim
-        (λ a. absurd (omega (arith, a .0, bit-small (roots p))))
-        (λ a. let s = sound .shownTwo p (g .arity p) 0 (length w) (a .1) in
-        let e = bit-one (roots p) (a .0) in
-        (node p (s .0), node p (s .1), parse-of p (s .0) l e (s .2), parse-of p (s .1) l e (s .3), λ q. s .4 (node-forest p p (s .0) (s .1) q)))
-        (product-two (bitOf (roots p)) (c p (g .arity p) 0 (length w)) h)
+  root-two : (p : ℕ) → p < g .count → 2 ≤ root p → Two (Parse g roots w)
+  unfolding root
+  root-two p l h =
+      ⊎-elim
+      (λ a. absurd (omega (arith, a .0, bit-small (roots p))))
+      (λ a. let s = counts p l .two (a .1) in
+      let e = bit-one (roots p) (a .0) in
+      (node p (s .0), node p (s .1), parse-of p (s .0) l e (s .2), parse-of p (s .1) l e (s .3), λ q. s .4 (node-forest p p (s .0) (s .1) q)))
+      (product-two (bitOf (roots p)) (v p) h)
 
-    two-parses : 2 ≤ rootSum g roots w c → (t : Tree) × (u : Tree) × Parse g roots w t × Parse g roots w u × (t ≡ u → ⊥)
-    unfolding rootSum root
-    two-parses h =
-        ⊎-elim
-        (λ a. root-two (a .0) (a .1) (a .2))
-        (λ a. let s = root-one (a .0) (omega (arith, a .2, a .3)) (a .4) in
-        let r = root-one (a .1) (a .3) (a .5) in (
-          s .0,
-          r .0,
-          s .1,
-          r .1,
-          λ e. let n = node-number (a .0) (a .1) (s .2 .0) (r .2 .0) (sym (s .2 .1) ∙ e ∙ r .2 .1) in omega (arith, a .2),
-        ))
-        (sum-two root (g .count) h)
+  two-parses : 2 ≤ rootSum g roots v → Two (Parse g roots w)
+  unfolding rootSum root
+  two-parses h =
+      ⊎-elim
+      (λ a. root-two (a .0) (a .1) (a .2))
+      (λ a. let s = root-one (a .0) (omega (arith, a .2, a .3)) (a .4) in
+      let r = root-one (a .1) (a .3) (a .5) in (
+        s .0,
+        r .0,
+        s .1,
+        r .1,
+        λ e. let n = node-number (a .0) (a .1) (s .2 .0) (r .2 .0) (sym (s .2 .1) ∙ e ∙ r .2 .1) in omega (arith, a .2),
+      ))
+      (sum-two root (g .count) h)
 
-    first-root : 1 ≤ rootSum g roots w c → (p : ℕ) × (p < g .count) × (1 ≤ root p)
-    unfolding rootSum root
-    first-root h = sum-one root (g .count) h
+  first-root : 1 ≤ rootSum g roots v → (p : ℕ) × (p < g .count) × (1 ≤ root p)
+  unfolding rootSum root
+  first-root h = sum-one root (g .count) h
 
-    root-counted : (p : ℕ) (f : Forest) → Parse g roots w (node p f) → (p < g .count) × (1 ≤ root p)
-    unfolding Parse root
-    root-counted p f s = (
-      s .0,
-      one-product (bitOf (roots p)) (c p (g .arity p) 0 (length w)) (true-bit (roots p) (s .1))
-          (spells-counted g w c closed p f (g .arity p) 0 (length w) (s .0) (le-refl (g .arity p)) (spells-of p f s)),
-    )
+  root-counted : (p : ℕ) (f : Forest) → Parse g roots w (node p f) → (p < g .count) × (1 ≤ root p)
+  unfolding Parse root
+  root-counted p f s = (s .0, one-product (bitOf (roots p)) (v p) (true-bit (roots p) (s .1)) (counts p (s .0) .some f (spells-of p f s)))
 
-    some-parse : (t : Tree) → Parse g roots w t → 1 ≤ rootSum g roots w c
-    unfolding Parse rootSum root
-    some-parse (leaf x) s = absurd s
-    some-parse (node p f) s = let a = root-counted p f s in omega (arith, sum-at root (g .count) p (a .0))
+  some-parse : (t : Tree) → Parse g roots w t → 1 ≤ rootSum g roots v
+  unfolding Parse rootSum root
+  some-parse (leaf x) s = absurd s
+  some-parse (node p f) s = let a = root-counted p f s in omega (arith, sum-at root (g .count) p (a .0))
 
-    root-small : (p : ℕ) → p < g .count → roots p ≡ true → rootSum g roots w c ≤ 1 → c p (g .arity p) 0 (length w) ≤ 1
-    unfolding rootSum root
-    root-small p l e h = omega (arith, sum-at root (g .count) p l, right-below (bitOf (roots p)) (c p (g .arity p) 0 (length w)) (true-bit (roots p) e))
+  pub root-small : (p : ℕ) → p < g .count → roots p ≡ true → rootSum g roots v ≤ 1 → v p ≤ 1
+  unfolding rootSum root
+  root-small p l e h = omega (arith, sum-at root (g .count) p l, right-below (bitOf (roots p)) (v p) (true-bit (roots p) e))
 
-    one-root : rootSum g roots w c ≤ 1 → (p q : ℕ) → p < q → q < g .count → 1 ≤ root p → 1 ≤ root q → ⊥
-    unfolding rootSum root
-    one-root h p q l m a b = omega (arith, sum-pair root (g .count) p q l m)
+  one-root : rootSum g roots v ≤ 1 → (p q : ℕ) → p < q → q < g .count → 1 ≤ root p → 1 ≤ root q → ⊥
+  unfolding rootSum root
+  one-root h p q l m a b = omega (arith, sum-pair root (g .count) p q l m)
 
-    same-parse : rootSum g roots w c ≤ 1 → (t u : Tree) → Parse g roots w t → Parse g roots w u → t ≡ u
-    unfolding Parse
-    same-parse h (leaf x) u s r = absurd s
-    same-parse h (node p f) (leaf y) s r = absurd r
-    same-parse h (node p f) (node q k) s r =
-        let a = root-counted p f s in
-        let b = root-counted q k r in
-        let e : p ≡ q = meets (λ l. one-root h p q l (b .0) (a .1) (b .1)) (λ l. one-root h q p l (a .0) (b .1) (a .1)) in
-        let r′ = subst⁻¹ (λ (n : ℕ). Spells g w n k (g .arity n) 0 (length w)) e (spells-of q k r) in
-        ap₂ node e (spells-same g w c closed p f k (g .arity p) 0 (length w) (s .0) (le-refl (g .arity p)) (root-small p (s .0) (s .1) h) (spells-of p f s) r′)
+  same-parse : rootSum g roots v ≤ 1 → (t u : Tree) → Parse g roots w t → Parse g roots w u → t ≡ u
+  unfolding Parse
+  same-parse h (leaf x) u s r = absurd s
+  same-parse h (node p f) (leaf y) s r = absurd r
+  same-parse h (node p f) (node q k) s r =
+      let a = root-counted p f s in
+      let b = root-counted q k r in
+      let e : p ≡ q = meets (λ l. one-root h p q l (b .0) (a .1) (b .1)) (λ l. one-root h q p l (a .0) (b .1) (a .1)) in
+      let r′ = subst⁻¹ (λ (n : ℕ). Spells g w n k (g .arity n) 0 (length w)) e (spells-of q k r) in
+      ap₂ node e (counts p (s .0) .same (root-small p (s .0) (s .1) h) f k (spells-of p f s) r′)
 
-    -- Parses of every size are counted, and no other.
-    pub parse-counts : Counts (Parse g roots w) (cap (rootSum g roots w c))
-    parse-counts =
-        record {
-          atMostTwo = omega arith;
-          one = λ h. let (p, l, k) = first-root (omega arith) in let s = root-one p l k in (s .0, s .1);
-          two = λ h. two-parses (omega arith);
-          some = λ t s. omega (arith, some-parse t s);
-          same = λ h t u s r. same-parse (omega arith) t u s r;
-        }
+  -- Parses of every size are counted, and no other.
+  pub parse-counts : Counts (Parse g roots w) (cap (rootSum g roots v))
+  parse-counts =
+      record {
+        atMostTwo = omega arith;
+        one = λ h. let (p, l, k) = first-root (omega arith) in let s = root-one p l k in (s .0, s .1);
+        two = λ h. two-parses (omega arith);
+        some = λ t s. omega (arith, some-parse t s);
+        same = λ h t u s r. same-parse (omega arith) t u s r;
+      }

@@ -1,11 +1,11 @@
 -- The equations of a chart: what an entry should be if the entries it rests on are right. They say nothing of the order in which a chart is filled.
 use Prim.Native.Nat.{ℕ, _+_, _-_, _*_, min, _≤_, _<_}
-use mathlib.Core.Path.{_≡_}
 use mathlib.Core.Bool.{Bool, _&&_}
 use mathlib.Core.List.{List}
 use lib.Dec.{eqb}
 use lib.ListN.{length, getD}
 use Rattle.common.specs.Below.{sumBelow, bitOf}
+use Rattle.theory.specs.Counts.{Shown}
 use Rattle.theory.specs.Grammar.{Grammar, Spells}
 use Rattle.theory.specs.Tree.{Forest}
 
@@ -29,16 +29,15 @@ argumentSum g w c p d m j = charEntry g w p d m j + sumBelow (g .count) (λ q. b
 unfoldable pub splitSum : Grammar → List ℕ → Chart → ℕ → ℕ → ℕ → ℕ → ℕ
 splitSum g w c p d i j = sumBelow (j - i + 1) (λ k. c p d i (i + k) * argumentSum g w c p d (i + k) j)
 
--- Every entry is at most 2, and entries above 0 have their lists of trees.
+-- Entries in range have their lists of trees.
 pub record Sound (g : Grammar) (w : List ℕ) (c : Chart) : Type 0 where
-  pub shown : (p d i j : ℕ) → 1 ≤ c p d i j → (f : Forest) × Spells g w p f d i j
-  pub shownTwo : (p d i j : ℕ) → 2 ≤ c p d i j → (f : Forest) × (h : Forest) × Spells g w p f d i j × Spells g w p h d i j × (f ≡ h → ⊥)
+  pub shown : (p d i j : ℕ) → p < g .count → d ≤ g .arity p → i ≤ j → j ≤ length w → Shown (λ (f : Forest). Spells g w p f d i j) (c p d i j)
 
 -- No entry in range is below what the entries that it rests on say.
 pub record Closed (g : Grammar) (w : List ℕ) (c : Chart) : Type 0 where
   pub empty : (p i : ℕ) → p < g .count → i ≤ length w → 1 ≤ c p 0 i i
   pub step : (p d i j : ℕ) → p < g .count → d < g .arity p → i ≤ j → j ≤ length w → cap (splitSum g w c p d i j) ≤ c p (d + 1) i j
 
--- how many parses there are: over all productions allowed at the root
-unfoldable pub rootSum : Grammar → (ℕ → Bool) → List ℕ → Chart → ℕ
-rootSum g roots w c = sumBelow (g .count) (λ p. bitOf (roots p) * c p (g .arity p) 0 (length w))
+-- how many parses there are, if production p has v p trees for the whole text: over all productions allowed at the root
+unfoldable pub rootSum : Grammar → (ℕ → Bool) → (ℕ → ℕ) → ℕ
+rootSum g roots v = sumBelow (g .count) (λ p. bitOf (roots p) * v p)

@@ -1,0 +1,3 @@
+-- What the contracts of the extraction cite.
+pub mod Written
+pub mod Places

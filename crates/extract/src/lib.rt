@@ -1,0 +1,295 @@
+// Writes the listing of a tree that a filled chart counts. The chart says where each argument ends and which production stands there;
+// no walk is longer than the buffer.
+use ccg::tables::slot_has;
+use ccg::text::FIRST_PRODUCTION;
+use chart::layout::get;
+use grammar::layout::wide;
+use grammar::limits::ARGUMENT_LIMIT;
+use grammar::limits::PRODUCTION_LIMIT;
+ghost use mathlib.Core.Path.{_≡_};
+ghost use mathlib.Core.Bool.{Bool, true, false, _&&_, _||_};
+ghost use mathlib.Core.List.{List, [], _∷_};
+ghost use mathlib.Core.Logic.{_↔_};
+ghost use Prim.Native.Nat.{ℕ, _+_, _*_, _<_, _≤_};
+ghost use lib.Dec.{eqb, leb};
+ghost use lib.ListN.{length, getD};
+ghost use Rattle.theory.specs.Tree.{Tree, Forest, node, listing};
+ghost use Rattle.theory.specs.Grammar.{Spells, Stands};
+ghost use Rattle.grammar.specs.Limits.{productionLimit, argumentLimit};
+ghost use Rattle.ccg.specs.Tables.{slot, slots, subAt, slotHas, charWords};
+ghost use Rattle.chart.specs.Layout.{textLimit};
+ghost use Rattle.ccg.specs.Theory.{theoryOf, ParserTables};
+ghost use Rattle.extract.specs.Written.{room, Written};
+ghost use Rattle.extract.specs.Places.{Bases, Walkable, cellOf, FirstChild, Splits};
+
+// Places where the arguments of a production end.
+const ENDS: usize = ARGUMENT_LIMIT + 1;
+
+// The first row of each production.
+pub fn row_bases(counts: &[u8]) -> [usize; PRODUCTION_LIMIT]
+    requires { ⌜ (length (now counts) ≤ productionLimit) × ((p : ℕ) → getD (now counts) p 0 ≤ argumentLimit) ⌝ }
+    ensures { λ r. ⌜ Bases (now (counts .entry)) r ⌝ }
+{
+    let mut out = [0; PRODUCTION_LIMIT];
+    let mut at = 0;
+    let mut p = 0;
+    while p < counts.len() {
+        out[p] = at;
+        at += wide(counts[p]) + 1;
+        p += 1;
+    }
+    out
+}
+
+// Production q may stand as argument d of p, and has a tree from m to j.
+fn child_fits(
+    chart: &[u8],
+    text: &[u8],
+    counts: &[u8],
+    chars: &[u64],
+    subs: &[u8],
+    bases: &[usize],
+    p: usize,
+    d: usize,
+    q: usize,
+    m: usize,
+    j: usize,
+) -> bool
+    requires { ⌜ Walkable (now counts) (now chars) (now subs) (now bases) (now text) (now chart) ⌝ }
+    requires { ⌜ (p < length (now counts)) × (d < getD (now counts) p 0) × (q < length (now counts)) × (m ≤ j) × (j ≤ length (now text)) ⌝ }
+    ensures { λ r. ⌜ r ≡ (eqb (getD (now (subs .entry)) (subAt (slot p d) q) 0) 1 && leb 1 (cellOf (now (counts .entry)) (now (text .entry)) (now (chart .entry)) q (getD (now (counts .entry)) q 0) m j)) ⌝ }
+{
+    if subs[(p * ARGUMENT_LIMIT + d) * PRODUCTION_LIMIT + q] == 0 {
+        return false;
+    }
+    0 < get(chart, text.len(), bases[q] + wide(counts[q]), m, j)
+}
+
+// The first production that does, or how many productions there are.
+fn first_child(
+    chart: &[u8],
+    text: &[u8],
+    counts: &[u8],
+    chars: &[u64],
+    subs: &[u8],
+    bases: &[usize],
+    p: usize,
+    d: usize,
+    m: usize,
+    j: usize,
+) -> usize
+    requires { ⌜ Walkable (now counts) (now chars) (now subs) (now bases) (now text) (now chart) ⌝ }
+    requires { ⌜ (p < length (now counts)) × (d < getD (now counts) p 0) × (m ≤ j) × (j ≤ length (now text)) ⌝ }
+    ensures { λ r. ⌜ FirstChild (now (counts .entry)) (now (subs .entry)) (now (text .entry)) (now (chart .entry)) p d m j r ⌝ }
+{
+    let mut q = 0;
+    while q < counts.len() {
+        if child_fits(chart, text, counts, chars, subs, bases, p, d, q, m, j) {
+            return q;
+        }
+        q += 1;
+    }
+    q
+}
+
+// The text from m to j is one character that may stand as argument d of p.
+fn char_fits(text: &[u8], chars: &[u64], p: usize, d: usize, m: usize, j: usize) -> bool
+    requires { ⌜ (slot p d < slots) × (length (now chars) ≡ charWords) × (m ≤ j) × (j ≤ length (now text)) ⌝ }
+    ensures { λ r. ⌜ r ≡ (eqb (m + 1) j && slotHas (now (chars .entry)) (slot p d) (getD (now (text .entry)) m 0)) ⌝ }
+{
+    if m + 1 != j {
+        return false;
+    }
+    slot_has(chars, p * ARGUMENT_LIMIT + d, text[m])
+}
+
+// A tree may stand as argument d of p from m to j, with a list of trees for the arguments before it from i to m.
+fn split_fits(
+    chart: &[u8],
+    text: &[u8],
+    counts: &[u8],
+    chars: &[u64],
+    subs: &[u8],
+    bases: &[usize],
+    p: usize,
+    d: usize,
+    i: usize,
+    m: usize,
+    j: usize,
+) -> bool
+    requires { ⌜ Walkable (now counts) (now chars) (now subs) (now bases) (now text) (now chart) ⌝ }
+    requires { ⌜ (p < length (now counts)) × (d < getD (now counts) p 0) × (i ≤ m) × (m ≤ j) × (j ≤ length (now text)) ⌝ }
+    ensures { λ r. ⌜ (r ≡ true) ↔ ((1 ≤ cellOf (now (counts .entry)) (now (text .entry)) (now (chart .entry)) p d i m) × ((t : Tree) × Stands (theoryOf (now (counts .entry)) (now (chars .entry)) (now (subs .entry))) (now (text .entry)) p d t m j)) ⌝ }
+{
+    if get(chart, text.len(), bases[p] + d, i, m) == 0 {
+        return false;
+    }
+    if char_fits(text, chars, p, d, m, j) {
+        return true;
+    }
+    first_child(chart, text, counts, chars, subs, bases, p, d, m, j) < counts.len()
+}
+
+// Where argument d of p begins, if the list of its first d + 1 arguments goes from i to j.
+fn find_split(
+    chart: &[u8],
+    text: &[u8],
+    counts: &[u8],
+    chars: &[u64],
+    subs: &[u8],
+    bases: &[usize],
+    p: usize,
+    d: usize,
+    i: usize,
+    j: usize,
+) -> usize
+    requires { ⌜ Walkable (now counts) (now chars) (now subs) (now bases) (now text) (now chart) ⌝ }
+    requires { ⌜ (p < length (now counts)) × (d < getD (now counts) p 0) × (i ≤ j) × (j ≤ length (now text)) ⌝ }
+    requires { ⌜ 1 ≤ cellOf (now counts) (now text) (now chart) p (d + 1) i j ⌝ }
+    ensures { λ r. ⌜ (i ≤ r) × (r ≤ j) × (1 ≤ cellOf (now (counts .entry)) (now (text .entry)) (now (chart .entry)) p d i r) × ((t : Tree) × Stands (theoryOf (now (counts .entry)) (now (chars .entry)) (now (subs .entry))) (now (text .entry)) p d t r j) ⌝ }
+{
+    let mut m = j;
+    let mut found = split_fits(chart, text, counts, chars, subs, bases, p, d, i, m, j);
+    while !found {
+        m -= 1;
+        found = split_fits(chart, text, counts, chars, subs, bases, p, d, i, m, j);
+    }
+    m
+}
+
+// A place as a byte.
+fn narrow(m: usize) -> u8
+    requires { ⌜ m ≤ textLimit ⌝ }
+    ensures { λ r. ⌜ r ≡ m ⌝ }
+{
+    m as u8
+}
+
+// Where each argument of p begins, and where the last one ends.
+fn find_splits(
+    chart: &[u8],
+    text: &[u8],
+    counts: &[u8],
+    chars: &[u64],
+    subs: &[u8],
+    bases: &[usize],
+    p: usize,
+    i: usize,
+    j: usize,
+) -> [u8; ENDS]
+    requires { ⌜ Walkable (now counts) (now chars) (now subs) (now bases) (now text) (now chart) ⌝ }
+    requires { ⌜ (p < length (now counts)) × (i ≤ j) × (j ≤ length (now text)) ⌝ }
+    requires { ⌜ 1 ≤ cellOf (now counts) (now text) (now chart) p (getD (now counts) p 0) i j ⌝ }
+    ensures { λ r. ⌜ Splits (theoryOf (now (counts .entry)) (now (chars .entry)) (now (subs .entry))) (now (text .entry)) p i j r ⌝ }
+{
+    let mut ends = [0; ENDS];
+    let mut d = wide(counts[p]);
+    ends[d] = narrow(j);
+    while 0 < d {
+        d -= 1;
+        ends[d] = narrow(
+            find_split(
+                chart,
+                text,
+                counts,
+                chars,
+                subs,
+                bases,
+                p,
+                d,
+                i,
+                wide(ends[d + 1]),
+            ),
+        );
+    }
+    ends
+}
+
+// Writes a number at place `at`, if there is room: the next place, or one past the room.
+pub fn put_number(out: &mut [u8], at: usize, number: usize) -> usize
+    requires { ⌜ (number < 65536) × (at ≤ room (now out) + 1) ⌝ }
+    ensures { λ r. ⌜ Written (number ∷ []) (now (out .entry)) at (now (out .exit)) r ⌝ }
+{
+    if out.len() / 2 <= at {
+        return out.len() / 2 + 1;
+    }
+    out[2 * at] = (number % 256) as u8;
+    out[2 * at + 1] = (number / 256) as u8;
+    at + 1
+}
+
+// Writes what stands as argument d of p from m to j.
+fn write_argument(
+    chart: &[u8],
+    text: &[u8],
+    counts: &[u8],
+    chars: &[u64],
+    subs: &[u8],
+    bases: &[usize],
+    out: &mut [u8],
+    at: usize,
+    p: usize,
+    d: usize,
+    m: usize,
+    j: usize,
+) -> usize
+    requires { ⌜ Walkable (now counts) (now chars) (now subs) (now bases) (now text) (now chart) ⌝ }
+    requires { ⌜ (p < length (now counts)) × (d < getD (now counts) p 0) × (m ≤ j) × (j ≤ length (now text)) × (at ≤ room (now out) + 1) ⌝ }
+    requires { ⌜ ((t : Tree) × Stands (theoryOf (now counts) (now chars) (now subs)) (now text) p d t m j) ⌝ }
+    ensures { λ r. ⌜ ((t : Tree) × Stands (theoryOf (now (counts .entry)) (now (chars .entry)) (now (subs .entry))) (now (text .entry)) p d t m j × Written (listing t) (now (out .entry)) at (now (out .exit)) r) ⌝ }
+{
+    if out.len() / 2 < at {
+        return at;
+    }
+    if char_fits(text, chars, p, d, m, j) {
+        return put_number(out, at, wide(text[m]));
+    }
+    let q = first_child(chart, text, counts, chars, subs, bases, p, d, m, j);
+    write_tree(chart, text, counts, chars, subs, bases, out, at, q, m, j)
+}
+
+// Writes a tree of production q from i to j, from place `at` on: as many of its numbers as there is room for.
+pub fn write_tree(
+    chart: &[u8],
+    text: &[u8],
+    counts: &[u8],
+    chars: &[u64],
+    subs: &[u8],
+    bases: &[usize],
+    out: &mut [u8],
+    at: usize,
+    q: usize,
+    i: usize,
+    j: usize,
+) -> usize
+    requires { ⌜ Walkable (now counts) (now chars) (now subs) (now bases) (now text) (now chart) ⌝ }
+    requires { ⌜ (q < length (now counts)) × (i ≤ j) × (j ≤ length (now text)) × (at ≤ room (now out) + 1) ⌝ }
+    requires { ⌜ 1 ≤ cellOf (now counts) (now text) (now chart) q (getD (now counts) q 0) i j ⌝ }
+    ensures { λ r. ⌜ ((f : Forest) × Spells (theoryOf (now (counts .entry)) (now (chars .entry)) (now (subs .entry))) (now (text .entry)) q f (getD (now (counts .entry)) q 0) i j × Written (listing (node q f)) (now (out .entry)) at (now (out .exit)) r) ⌝ }
+{
+    let mut next = put_number(out, at, FIRST_PRODUCTION + q);
+    if out.len() / 2 < next {
+        return next;
+    }
+    let ends = find_splits(chart, text, counts, chars, subs, bases, q, i, j);
+    let arity = wide(counts[q]);
+    let mut d = 0;
+    while d < arity {
+        next = write_argument(
+            chart,
+            text,
+            counts,
+            chars,
+            subs,
+            bases,
+            out,
+            next,
+            q,
+            d,
+            wide(ends[d]),
+            wide(ends[d + 1]),
+        );
+        d += 1;
+    }
+    next
+}
