@@ -1,6 +1,6 @@
 -- Laws of sums and tests over the numbers below a bound.
 use Prim.Native.Nat.{ℕ, zero, suc, _+_, _*_, _≤_, _<_}
-use mathlib.Core.Path.{_≡_, refl, sym, _∙_, ap, subst}
+use mathlib.Core.Path.{_≡_, refl, sym, _∙_, ap, ap₂, subst}
 use mathlib.Core.Bool.{Bool, false, true, _||_, false≢true, and-false, or-true, or-false, or-assoc}
 use mathlib.Core.Logic.{_⊎_, inl, inr, ⊎-elim, by-cases}
 use native.Mathlib.Omega.{arith}
@@ -66,6 +66,24 @@ sum-at f n i l = omega (arith, sum-grows f i n l)
 
 pub sum-pair : (f : ℕ → ℕ) (n i j : ℕ) → i < j → j < n → f i + f j ≤ sumBelow n f
 sum-pair f n i j l m = omega (arith, sum-grows f i j l, sum-grows f j n m)
+
+pub sum-same : (f g : ℕ → ℕ) (n : ℕ) → ((k : ℕ) → k < n → f k ≡ g k) → sumBelow n f ≡ sumBelow n g
+unfolding sumBelow
+sum-same f g zero e = refl
+sum-same f g (suc n) e = ap₂ _+_ (sum-same f g n (λ k l. e k (omega arith))) (e n (omega arith))
+
+-- the first term by itself
+pub sum-first : (f : ℕ → ℕ) (n : ℕ) → sumBelow (suc n) f ≡ f 0 + sumBelow n (λ k. f (suc k))
+unfolding sumBelow
+sum-first f zero = omega arith
+sum-first f (suc n) = let e = sum-first f n in omega (arith, e)
+
+-- the first and the last term by themselves
+pub sum-ends : (f : ℕ → ℕ) (n : ℕ) → sumBelow (n + 2) f ≡ f 0 + sumBelow n (λ k. f (1 + k)) + f (n + 1)
+sum-ends f n =
+    let e : n + 2 ≡ suc n + 1 = omega arith in
+    let shift : sumBelow n (λ k. f (suc k)) ≡ sumBelow n (λ k. f (1 + k)) = sum-same (λ k. f (suc k)) (λ k. f (1 + k)) n (λ k l. ap f (omega arith)) in
+    ap (λ (m : ℕ). sumBelow m f) e ∙ sum-more (suc n) f ∙ ap₂ _+_ (sum-first f n ∙ ap (λ (m : ℕ). f 0 + m) shift) (ap f (sym (add-one n)))
 
 -- ---- one of them
 

@@ -47,11 +47,11 @@ counts-same P Q v e a =
 
 -- ---- each entry
 
-module _ (g : Grammar) (w : List ℕ) (c : Chart) (sound : Sound g w c) (closed : Closed g w c) (small : (p d i j : ℕ) → c p d i j ≤ 2) where
-  pub entry-counts : (p d i j : ℕ) → p < g .count → d ≤ g .arity p → i ≤ j → j ≤ length w → Counts (λ (f : Forest). Spells g w p f d i j) (c p d i j)
-  entry-counts p d i j lp ld ij jw =
+module _ (g : Grammar) (w : List ℕ) (c : Chart) (sound : Sound g w c) (closed : Closed g w c) where
+  pub entry-counts : (p d i j : ℕ) → p < g .count → d ≤ g .arity p → i ≤ j → j ≤ length w → c p d i j ≤ 2 → Counts (λ (f : Forest). Spells g w p f d i j) (c p d i j)
+  entry-counts p d i j lp ld ij jw small =
       record {
-        atMostTwo = small p d i j;
+        atMostTwo = small;
         one = sound .shown p d i j lp ld ij jw .one;
         two = sound .shown p d i j lp ld ij jw .two;
         some = λ f s. spells-counted g w c closed p f d i j lp ld s;

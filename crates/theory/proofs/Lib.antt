@@ -3,3 +3,4 @@ pub mod SpellsLaws
 pub mod SoundLaws
 pub mod ClosedLaws
 pub mod CountLaws
+pub mod SplitLaws
