@@ -1,6 +1,8 @@
 -- Where a cell of the chart stands (01, "Readings, listings and the chart"): a byte for each production in order, each count d of its arguments,
 -- each start i and each end j, the last changing fastest.
 use Prim.Native.Nat.{ℕ, _+_, _-_, _*_, _/_}
+use mathlib.Core.List.{List}
+use lib.ListN.{getD}
 use Rattle.common.specs.Below.{sumBelow}
 use Rattle.grammar.specs.Limits.{productionLimit, argumentLimit}
 
@@ -15,6 +17,10 @@ places = textLimit + 1
 -- A row is a production with a count of arguments. Most rows:
 abbrev pub rowLimit : ℕ
 rowLimit = productionLimit * (argumentLimit + 1)
+
+-- how many arguments production p has, if `counts` has a number for each production
+abbrev pub arityIn : List ℕ → ℕ → ℕ
+arityIn counts p = getD counts p 0
 
 -- the row of production p and its first d arguments, where production q has arity q of them
 unfoldable pub rowOf : (ℕ → ℕ) → ℕ → ℕ → ℕ

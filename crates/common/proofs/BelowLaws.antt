@@ -2,9 +2,9 @@
 use Prim.Native.Nat.{ℕ, zero, suc, _+_, _*_, _≤_, _<_}
 use mathlib.Core.Path.{_≡_, refl, sym, _∙_, ap, ap₂, subst}
 use mathlib.Core.Bool.{Bool, false, true, _||_, false≢true, and-false, or-true, or-false, or-assoc}
-use mathlib.Core.Logic.{_⊎_, inl, inr, ⊎-elim, by-cases}
+use mathlib.Core.Logic.{_≢_, _⊎_, inl, inr, ⊎-elim, by-cases}
 use native.Mathlib.Omega.{arith}
-use native.Mathlib.Decide.{decLt}
+use native.Mathlib.Decide.{ℕ-discrete, decLt}
 use native.Mathlib.Nat.{le-refl}
 use native.Mathlib.Numerals.{add-one}
 use Rattle.common.proofs.BoolLaws.{or-cases, or-first-false, or-second-false, and-both, and-first-true, and-second-true}
@@ -71,6 +71,16 @@ pub sum-same : (f g : ℕ → ℕ) (n : ℕ) → ((k : ℕ) → k < n → f k �
 unfolding sumBelow
 sum-same f g zero e = refl
 sum-same f g (suc n) e = ap₂ _+_ (sum-same f g n (λ k l. e k (omega arith))) (e n (omega arith))
+
+-- summands that agree but in one place
+pub sum-change : (f g : ℕ → ℕ) (n q m : ℕ) → q < n → ((k : ℕ) → k < n → k ≢ q → g k ≡ f k) → g q ≡ f q + m → sumBelow n g ≡ sumBelow n f + m
+unfolding sumBelow
+sum-change f g zero q m l h e = absurd (omega arith)
+sum-change f g (suc n) q m l h e =
+    elim (ℕ-discrete q n) [
+      | yes p ↦ omega (arith, sum-same g f n (λ k i. h k (omega arith) (λ o. omega arith)), subst (λ (k : ℕ). g k ≡ f k + m) p e)
+      | no p ↦ omega (arith, sum-change f g n q m (omega arith) (λ k i. h k (omega arith)) e, h n (omega arith) (λ o. p (sym o)))
+    ]
 
 -- the first term by itself
 pub sum-first : (f : ℕ → ℕ) (n : ℕ) → sumBelow (suc n) f ≡ f 0 + sumBelow n (λ k. f (suc k))

@@ -1,10 +1,11 @@
 -- A span as the tables that the code has, and what its functions promise of them.
 use Prim.Native.Nat.{ℕ, zero, suc, _+_, _*_, max, _≤_, _<_}
 use mathlib.Core.Path.{_≡_}
-use mathlib.Core.Bool.{Bool, false, true}
+use mathlib.Core.Bool.{Bool, false}
 use mathlib.Core.List.{List}
 use lib.ListN.{length, getD, set}
-use Rattle.chart.specs.Layout.{rowLimit, rowOf}
+use Rattle.chart.specs.Layout.{rowLimit, arityIn, rowOf}
+use Rattle.common.specs.Below.{bitOf}
 use Rattle.grammar.specs.Limits.{productionLimit, argumentLimit}
 use Rattle.span.specs.Span.{Span, argumentOf, ClosedAt, Raised, spare}
 use Rattle.theory.specs.Steps.{cap}
@@ -23,10 +24,6 @@ userBytes = productionLimit * rowLimit
 
 abbrev pub useBytes : ℕ
 useBytes = productionLimit * productionLimit
-
--- how many arguments production p has
-abbrev pub arityIn : List ℕ → ℕ → ℕ
-arityIn counts p = getD counts p 0
 
 unfoldable pub spanOf : (counts users inner front back : List ℕ) → (ℕ → ℕ) → Span
 spanOf counts users inner front back bare =
@@ -71,35 +68,33 @@ pub record Founded (counts users inner front back args cells : List ℕ) : Type 
 
 -- ---- what the functions promise
 
--- the cell of the row after r is raised
+-- what the equation gives for the cell of the row after r, with the arguments that the list has
+unfoldable pub stepIn : (inner front back args : List ℕ) → List ℕ → ℕ → ℕ
+stepIn inner front back args x r = cap (getD inner r 0 + getD front r 0 * getD args r 0 + getD x r 0 * getD back r 0)
+
+-- that cell is raised to it
 unfoldable pub raisedAt : (inner front back args : List ℕ) → List ℕ → ℕ → List ℕ
-raisedAt inner front back args x r =
-    set x (r + 1) (max (getD x (r + 1) 0) (cap (getD inner r 0 + getD front r 0 * getD args r 0 + getD x r 0 * getD back r 0)))
+raisedAt inner front back args x r = set x (r + 1) (max (getD x (r + 1) 0) (stepIn inner front back args x r))
 
 -- the cells of one production are, from its first row on, for its first d arguments
 unfoldable pub advanced : (inner front back args : List ℕ) → ℕ → ℕ → List ℕ → List ℕ
 advanced inner front back args base zero x = x
 advanced inner front back args base (suc d) x = raisedAt inner front back args (advanced inner front back args base d x) (base + d)
 
--- Between two visits: the cells x came about from x₀, and every wanted production that is not pending is closed.
-pub record Standing (s : Span) (wanted x₀ pending args x : List ℕ) : Type 0 where
-  pub agree : Exact s x args
-  pub came : Raised s x₀ x
+-- Every wanted production that is not pending is closed.
+pub record Resting (s : Span) (wanted pending x : List ℕ) : Type 0 where
   pub rest : (p : ℕ) → p < s .count → 1 ≤ getD wanted p 0 → getD pending p 0 ≡ 0 → ClosedAt s x p
 
--- A visit of production q keeps that. If its count rose there is less to spare; otherwise q alone is no longer pending.
-pub record Visited (s : Span) (wanted : List ℕ) (q : ℕ) (pending args x pending′ args′ x′ : List ℕ) (rose : Bool) : Type 0 where
-  pub stands : (x₀ : List ℕ) → Standing s wanted x₀ pending args x → Standing s wanted x₀ pending′ args′ x′
-  pub less : rose ≡ true → spare s x′ < spare s x
-  pub same : rose ≡ false → spare s x′ ≡ spare s x
+-- The productions from `from` on and before `to` were looked at: the cells came about by raising, and the arguments say what they say.
+-- If a count rose there is less to spare; otherwise those productions are no longer pending, and no other became so.
+pub record Visited (s : Span) (wanted : List ℕ) (from to : ℕ) (pending args x pending′ args′ x′ : List ℕ) (rose : Bool) : Type 0 where
+  pub small : (r : ℕ) → getD x′ r 0 ≤ 2
+  pub agree : Exact s x′ args′
+  pub came : Raised s x x′
+  pub rests : Resting s wanted pending x → Resting s wanted pending′ x′
+  pub less : bitOf rose + spare s x′ ≤ spare s x
   pub calm : rose ≡ false → (p : ℕ) → getD pending′ p 0 ≤ getD pending p 0
-  pub done : rose ≡ false → getD pending′ q 0 ≡ 0
-
--- A round over all productions: if no count rose, none is pending.
-pub record RoundDone (s : Span) (wanted pending args x pending′ args′ x′ : List ℕ) (rose : Bool) : Type 0 where
-  pub stands : (x₀ : List ℕ) → Standing s wanted x₀ pending args x → Standing s wanted x₀ pending′ args′ x′
-  pub less : rose ≡ true → spare s x′ < spare s x
-  pub calm : rose ≡ false → (p : ℕ) → p < s .count → getD pending′ p 0 ≡ 0
+  pub done : rose ≡ false → (p : ℕ) → from ≤ p → p < to → getD pending′ p 0 ≡ 0
 
 -- The span is settled: every wanted production is closed.
 pub record Settled (s : Span) (wanted x args′ x′ : List ℕ) : Type 0 where

@@ -4,6 +4,7 @@
 // `users` says which rows take production q as their next argument, `uses` which productions have such a row.
 // `inner` counts, for each row, the splits within the span; `front` the cells of the empty span at its start; `back` the arguments of the empty span at its end.
 use chart::layout::ROW_LIMIT;
+use chart::sums::capped;
 use grammar::layout::wide;
 use grammar::limits::PRODUCTION_LIMIT;
 ghost use mathlib.Core.Path.{_≡_};
@@ -13,26 +14,13 @@ ghost use Prim.Native.Nat.{ℕ, _+_, _*_, _<_, _≤_, min, max};
 ghost use lib.ListN.{length, getD};
 ghost use Rattle.theory.specs.Steps.{cap};
 ghost use Rattle.grammar.specs.Limits.{productionLimit};
-ghost use Rattle.chart.specs.Layout.{rowLimit, rowOf};
-ghost use Rattle.span.specs.Tables.{arityIn, spanOf, advanced, Exact, Founded, Links, Loads, Visited, RoundDone, Settled};
+ghost use Rattle.chart.specs.Layout.{arityIn, rowLimit, rowOf};
+ghost use Rattle.span.specs.Tables.{spanOf, advanced, Exact, Founded, Links, Loads, Visited, Settled};
 
 // The length of the table of users.
 pub const USERS: usize = PRODUCTION_LIMIT * ROW_LIMIT;
 // The length of the table of uses.
 pub const USES: usize = PRODUCTION_LIMIT * PRODUCTION_LIMIT;
-
-// 0, 1, or 2 for more.
-pub fn capped(n: usize) -> u8
-    ensures { λ r. ⌜ r ≡ cap n ⌝ }
-{
-    if n == 0 {
-        return 0;
-    }
-    if n == 1 {
-        return 1;
-    }
-    2
-}
 
 pub fn larger(a: u8, b: u8) -> u8
     ensures { λ r. ⌜ r ≡ max a b ⌝ }
@@ -140,7 +128,7 @@ fn visit(
     requires { ⌜ Founded (now counts) (now users) (now inner) (now front) (now back) (now args) (now cells) ⌝ }
     requires { ⌜ (length (now pending) ≡ productionLimit) × (length (now wanted) ≡ productionLimit) ⌝ }
     requires { ⌜ (q < length (now counts)) × (base ≡ rowOf (arityIn (now counts)) q 0) ⌝ }
-    ensures { λ r. ⌜ ((bare : ℕ → ℕ) → Exact (spanOf (now (counts .entry)) (now (users .entry)) (now (inner .entry)) (now (front .entry)) (now (back .entry)) bare) (now (cells .entry)) (now (args .entry)) → Visited (spanOf (now (counts .entry)) (now (users .entry)) (now (inner .entry)) (now (front .entry)) (now (back .entry)) bare) (now (wanted .entry)) q (now (pending .entry)) (now (args .entry)) (now (cells .entry)) (now (pending .exit)) (now (args .exit)) (now (cells .exit)) r) ⌝ }
+    ensures { λ r. ⌜ ((bare : ℕ → ℕ) → Exact (spanOf (now (counts .entry)) (now (users .entry)) (now (inner .entry)) (now (front .entry)) (now (back .entry)) bare) (now (cells .entry)) (now (args .entry)) → Visited (spanOf (now (counts .entry)) (now (users .entry)) (now (inner .entry)) (now (front .entry)) (now (back .entry)) bare) (now (wanted .entry)) q (q + 1) (now (pending .entry)) (now (args .entry)) (now (cells .entry)) (now (pending .exit)) (now (args .exit)) (now (cells .exit)) r) ⌝ }
 {
     if pending[q] == 0 {
         return false;
@@ -182,7 +170,7 @@ fn round(
     requires { ⌜ Loads (now inner) (now front) (now back) (now args) (now cells) ⌝ }
     requires { ⌜ Founded (now counts) (now users) (now inner) (now front) (now back) (now args) (now cells) ⌝ }
     requires { ⌜ (length (now pending) ≡ productionLimit) × (length (now wanted) ≡ productionLimit) ⌝ }
-    ensures { λ r. ⌜ ((bare : ℕ → ℕ) → Exact (spanOf (now (counts .entry)) (now (users .entry)) (now (inner .entry)) (now (front .entry)) (now (back .entry)) bare) (now (cells .entry)) (now (args .entry)) → RoundDone (spanOf (now (counts .entry)) (now (users .entry)) (now (inner .entry)) (now (front .entry)) (now (back .entry)) bare) (now (wanted .entry)) (now (pending .entry)) (now (args .entry)) (now (cells .entry)) (now (pending .exit)) (now (args .exit)) (now (cells .exit)) r) ⌝ }
+    ensures { λ r. ⌜ ((bare : ℕ → ℕ) → Exact (spanOf (now (counts .entry)) (now (users .entry)) (now (inner .entry)) (now (front .entry)) (now (back .entry)) bare) (now (cells .entry)) (now (args .entry)) → Visited (spanOf (now (counts .entry)) (now (users .entry)) (now (inner .entry)) (now (front .entry)) (now (back .entry)) bare) (now (wanted .entry)) 0 (length (now (counts .entry))) (now (pending .entry)) (now (args .entry)) (now (cells .entry)) (now (pending .exit)) (now (args .exit)) (now (cells .exit)) r) ⌝ }
 {
     let mut rose = false;
     let mut base = 0;

@@ -1,63 +1,62 @@
+-- `mark` meets its contract: the productions below p are marked, the rest is as it was.
+use Prim.Native.Nat.{ℕ, _-_, min, max, _≤_}
+use mathlib.Core.Path.{_≡_, _∙_, ap₂}
+use mathlib.Core.List.{List}
+use native.Mathlib.Omega.{arith}
+use native.Mathlib.Nat.{le-refl}
+use lib.ListN.{getD}
+use Rattle.common.proofs.FillLaws.{Filled, filled-none, filled-more}
+use Rattle.grammar.specs.Limits.{productionLimit}
 use Rattle.span.proofs.mark.Statement.{statement}
 use Rattle.span.proofs.mark.Tie as tie
-use Rattle.span.proofs.mark.Reads as reads
-use Rattle.span.proofs.mark.Lts as lts
-use Rattle.span.proofs.larger.Reads as larger-reads
-use Rattle.span.proofs.smaller.Reads as smaller-reads
+
+-- the mark of production k
+Marked : (pending uses wanted : List ℕ) → ℕ → ℕ → Type 0
+Marked pending uses wanted k v = v ≡ max (getD pending k 0) (min (getD uses k 0) (getD wanted k 0))
 
 abbrev Inv-loop : tie.InvT-loop
-Inv-loop pending₀ uses wanted p₀ pending p = ?
+Inv-loop pending₀ uses wanted p₀ pending p = Filled (Marked pending₀ uses wanted) 0 pending₀ p pending × (p ≤ productionLimit)
 
 abbrev μ-loop : tie.MeasureT-loop
-μ-loop pending₀ uses wanted p₀ pending p = ?
+μ-loop pending₀ uses wanted p₀ pending p = productionLimit - p
 
--- src/lib.rt:117:5
 loop-holds : tie.Need-loop-holds Inv-loop μ-loop
-loop-holds c = ?
+loop-holds c = (filled-none (Marked (c .before .before .before .args .pending .now) (c .before .before .before .args .uses .now) (c .before .before .before .args .wanted .now)) 0 (c .before .before .before .args .pending .now), omega arith)
 
--- src/lib.rt:118:29
 slice-read-larger : tie.Need-slice-read-larger Inv-loop μ-loop
-slice-read-larger c = ?
+slice-read-larger c = omega (arith, c .before .before .loop .inv .0 .long)
 
--- src/lib.rt:118:49
 shared-slice-read-smaller : tie.Need-shared-slice-read-smaller Inv-loop μ-loop
-shared-slice-read-smaller c = ?
+shared-slice-read-smaller c = omega arith
 
--- src/lib.rt:118:58
 shared-slice-read-smaller-2 : tie.Need-shared-slice-read-smaller-2 Inv-loop μ-loop
-shared-slice-read-smaller-2 c = ?
+shared-slice-read-smaller-2 c = omega arith
 
--- src/lib.rt:118:41
 smaller-requires : tie.Need-smaller-requires Inv-loop μ-loop
-smaller-requires c κs = ?
+smaller-requires c κs = tt
 
--- src/lib.rt:118:22
 larger-requires : tie.Need-larger-requires Inv-loop μ-loop
-larger-requires c κs = ?
+larger-requires c κs = tt
 
--- src/lib.rt:118:9
 slice-write-pending : tie.Need-slice-write-pending Inv-loop μ-loop
-slice-write-pending c = ?
+slice-write-pending c = omega (arith, c .before .before .before .before .before .before .loop .inv .0 .long)
 
--- src/lib.rt:119:9
 add-p : tie.Need-add-p Inv-loop μ-loop
-add-p c = ?
+add-p c = omega arith
 
--- src/lib.rt:117:5
 loop-less : tie.Need-loop-less Inv-loop μ-loop
-loop-less c = ?
+loop-less c = omega arith
 
--- src/lib.rt:117:5
 loop-again : tie.Need-loop-again Inv-loop μ-loop
-loop-again c = ?
+unfolding Marked
+loop-again c = (filled-more (Marked (c .before .before .before .before .before .before .before .before .before .before .args .pending .now) (c .before .before .before .before .before .before .before .before .before .before .args .uses .now) (c .before .before .before .before .before .before .before .before .before .before .args .wanted .now)) 0 (c .before .before .before .before .before .before .before .before .before .before .args .pending .now) (c .before .before .before .before .before .before .loop .p) (c .before .before .before .before .before .before .loop .pending) _ (omega arith) (c .before .before .before .before .before .before .loop .inv .0) (c .larger .ensures ∙ ap₂ max (c .before .before .before .before .before .before .loop .inv .0 .rest (c .before .before .before .before .before .before .loop .p) (le-refl _)) (c .before .smaller .ensures)), omega arith)
 
--- src/lib.rt:112:1
 same-length : tie.Need-same-length Inv-loop μ-loop
-same-length c = ?
+same-length c = c .before .loop .inv .0 .long
 
--- src/lib.rt:112:1
 returns : tie.Need-returns Inv-loop μ-loop
-returns c = ?
+unfolding Marked
+returns c p l = c .before .loop .inv .0 .done p (omega arith)
 
 pub mark-spec : {M : Type 1} → statement M
 mark-spec =

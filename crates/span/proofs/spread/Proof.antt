@@ -1,57 +1,59 @@
+-- `spread` meets its contract: the rows below r have risen, the rest is as it was.
+use Prim.Native.Nat.{ℕ, _+_, _-_, _*_, _≤_}
+use mathlib.Core.Path.{_≡_, ap}
+use mathlib.Core.List.{List}
+use native.Mathlib.Omega.{arith}
+use native.Mathlib.Nat.{le-refl}
+use lib.ListN.{getD}
+use Rattle.chart.specs.Layout.{rowLimit}
+use Rattle.common.proofs.FillLaws.{Filled, filled-none, filled-more}
 use Rattle.span.proofs.spread.Statement.{statement}
 use Rattle.span.proofs.spread.Tie as tie
-use Rattle.span.proofs.spread.Reads as reads
-use Rattle.span.proofs.spread.Lts as lts
+
+-- what row k rises to
+Risen : List ℕ → List ℕ → ℕ → ℕ → ℕ → Type 0
+Risen args users by k v = v ≡ getD args k 0 + by * getD users k 0
 
 abbrev Inv-loop : tie.InvT-loop
-Inv-loop args₀ users by r₀ args r = ?
+Inv-loop args₀ users by r₀ args r = Filled (Risen args₀ users by) 0 args₀ r args × (r ≤ rowLimit)
 
 abbrev μ-loop : tie.MeasureT-loop
-μ-loop args₀ users by r₀ args r = ?
+μ-loop args₀ users by r₀ args r = rowLimit - r
 
--- src/lib.rt:105:5
 loop-holds : tie.Need-loop-holds Inv-loop μ-loop
-loop-holds c = ?
+loop-holds c = (filled-none (Risen (c .args .args .now) (c .args .users .now) (c .args .by)) 0 (c .args .args .now), omega arith)
 
--- src/lib.rt:106:19
 slice-read-args : tie.Need-slice-read-args Inv-loop μ-loop
-slice-read-args c = ?
+slice-read-args c = omega (arith, c .before .before .loop .inv .0 .long)
 
--- src/lib.rt:106:34
 shared-slice-read-args : tie.Need-shared-slice-read-args Inv-loop μ-loop
-shared-slice-read-args c = ?
+shared-slice-read-args c = omega arith
 
--- src/lib.rt:106:29
 mul-args : tie.Need-mul-args Inv-loop μ-loop
-mul-args c = ?
+mul-args c = omega (arith, c .before .before .before .before .pre .1 (c .before .before .before .loop .r) (c .before .before .loop-test .taken))
 
--- src/lib.rt:106:19
 add-args : tie.Need-add-args Inv-loop μ-loop
-add-args c = ?
+add-args c = omega (arith, c .before .before .before .before .pre .1 (c .before .before .before .loop .r) (c .before .before .loop-test .taken), c .before .before .before .loop .inv .0 .rest (c .before .before .before .loop .r) (le-refl _))
 
--- src/lib.rt:106:9
 slice-write-args : tie.Need-slice-write-args Inv-loop μ-loop
-slice-write-args c = ?
+slice-write-args c = omega (arith, c .before .before .before .loop .inv .0 .long)
 
--- src/lib.rt:107:9
 add-r : tie.Need-add-r Inv-loop μ-loop
-add-r c = ?
+add-r c = omega arith
 
--- src/lib.rt:105:5
 loop-less : tie.Need-loop-less Inv-loop μ-loop
-loop-less c = ?
+loop-less c = omega arith
 
--- src/lib.rt:105:5
 loop-again : tie.Need-loop-again Inv-loop μ-loop
-loop-again c = ?
+unfolding Risen
+loop-again c = (filled-more (Risen (c .before .before .before .before .args .args .now) (c .before .before .before .before .args .users .now) (c .before .before .before .before .args .by)) 0 (c .before .before .before .before .args .args .now) (c .before .before .before .loop .r) (c .before .before .before .loop .args) _ (omega arith) (c .before .before .before .loop .inv .0) (ap (λ (v : ℕ). v + c .before .before .before .before .args .by * getD (c .before .before .before .before .args .users .now) (c .before .before .before .loop .r) 0) (c .before .before .before .loop .inv .0 .rest (c .before .before .before .loop .r) (le-refl _))), omega arith)
 
--- src/lib.rt:99:1
 same-length : tie.Need-same-length Inv-loop μ-loop
-same-length c = ?
+same-length c = c .before .loop .inv .0 .long
 
--- src/lib.rt:99:1
 returns : tie.Need-returns Inv-loop μ-loop
-returns c = ?
+unfolding Risen
+returns c r l = c .before .loop .inv .0 .done r (omega arith)
 
 pub spread-spec : {M : Type 1} → statement M
 spread-spec =

@@ -1,54 +1,52 @@
+-- `step` meets its contract: products of bytes are far below the bound of the sum.
+use Prim.Native.Nat.{ℕ, _+_, _*_, _≤_, _<_}
+use mathlib.Core.Path.{_≡_, _∙_, ap, ap₂}
+use native.Mathlib.Omega.{arith}
+use native.Mathlib.Nat.{mul-le-mul}
 use borrow.Author.Needs.{needs}
+use Rattle.theory.specs.Steps.{cap}
 use Rattle.span.proofs.step.Statement.{statement}
 use Rattle.span.proofs.step.Tie as tie
-use Rattle.span.proofs.step.Reads as reads
-use Rattle.span.proofs.step.Lts as lts
-use Rattle.grammar.proofs.layout.wide.Reads as wide-reads
-use Rattle.span.proofs.capped.Reads as capped-reads
 
--- src/lib.rt:65:12
+-- a product of bytes
+product-few : {a b x y : ℕ} → a ≡ x → b ≡ y → x < 256 → y < 256 → a * b ≤ 255 * 255
+product-few {a} {b} e f h l =
+    let m : a ≤ 255 = omega arith in
+    let n : b ≤ 255 = omega arith in
+    mul-le-mul m n
+
 wide-requires : tie.Need-wide-requires
 wide-requires c κs = search needs
 
--- src/lib.rt:65:26
 wide-requires-2 : tie.Need-wide-requires-2
 wide-requires-2 c κs = search needs
 
--- src/lib.rt:65:40
 wide-requires-3 : tie.Need-wide-requires-3
 wide-requires-3 c κs = search needs
 
--- src/lib.rt:65:26
 mul-capped : tie.Need-mul-capped
-mul-capped c = ?
+mul-capped c = omega (arith, product-few (c .before .wide2 .ensures) (c .wide3 .ensures) (omega arith) (omega arith))
 
--- src/lib.rt:65:12
 add-capped : tie.Need-add-capped
-add-capped c = ?
+add-capped c = omega (arith, product-few (c .before .wide2 .ensures) (c .wide3 .ensures) (omega arith) (omega arith))
 
--- src/lib.rt:65:57
 wide-requires-4 : tie.Need-wide-requires-4
 wide-requires-4 c κs = search needs
 
--- src/lib.rt:65:72
 wide-requires-5 : tie.Need-wide-requires-5
 wide-requires-5 c κs = search needs
 
--- src/lib.rt:65:57
 mul-capped-2 : tie.Need-mul-capped-2
-mul-capped-2 c = ?
+mul-capped-2 c = omega (arith, product-few (c .before .wide4 .ensures) (c .wide5 .ensures) (omega arith) (omega arith))
 
--- src/lib.rt:65:12
 add-capped-2 : tie.Need-add-capped-2
-add-capped-2 c = ?
+add-capped-2 c = omega (arith, product-few (c .before .before .before .wide2 .ensures) (c .before .before .wide3 .ensures) (omega arith) (omega arith), product-few (c .before .wide4 .ensures) (c .wide5 .ensures) (omega arith) (omega arith))
 
--- src/lib.rt:65:5
 capped-requires : tie.Need-capped-requires
 capped-requires c κs = search needs
 
--- src/lib.rt:62:1
 returns : tie.Need-returns
-returns c = ?
+returns c = c .capped .ensures ∙ ap cap (ap₂ _+_ (ap₂ _+_ (c .before .before .before .before .before .wide .ensures) (ap₂ _*_ (c .before .before .before .before .wide2 .ensures) (c .before .before .before .wide3 .ensures))) (ap₂ _*_ (c .before .before .wide4 .ensures) (c .before .wide5 .ensures)))
 
 pub step-spec : {M : Type 1} → statement M
 step-spec =

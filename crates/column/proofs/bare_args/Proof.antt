@@ -1,0 +1,53 @@
+-- `bare_args` meets its contract: a character stands between i and j only if they are neighbours.
+use Prim.Native.Nat.{ℕ, _+_}
+use mathlib.Core.Path.{refl, sym}
+use mathlib.Core.Bool.{_&&_}
+use lib.Dec.{eqb}
+use lib.ListN.{length, getD}
+use borrow.Author.Tests.{eq-eqb, ne-eqb}
+use borrow.Author.Needs.{needs}
+use Rattle.ccg.specs.Tables.{slot, slotHas}
+use Rattle.column.proofs.RowsLaws.{rows-zero, rows-same}
+use Rattle.common.specs.Below.{bitOf}
+use Rattle.column.proofs.bare_args.Statement.{statement}
+use Rattle.column.proofs.bare_args.Tie as tie
+use Rattle.column.proofs.bare_args.Reads as reads
+use Rattle.column.proofs.bare_args.Lts as lts
+use Rattle.column.proofs.char_row.Reads as char-row-reads
+use Rattle.column.proofs.zero_row.Reads as zero-row-reads
+
+add-if1 : tie.Need-add-if1
+add-if1 c = search needs
+
+zero-row-requires : tie.Need-zero-row-requires
+zero-row-requires c κs = search needs
+
+returns : tie.Need-returns
+returns c =
+    let a = (c .before .before .before .before .before .args) in
+    rows-zero (λ (p d : ℕ). bitOf (eqb (a .i + 1) (a .j) && slotHas (a .chars .now) (slot p d) (getD (a .text .now) (a .i) 0))) (a .counts .now) (length (a .counts .now)) (c .zero-row .result) (c .zero-row .ensures)
+    (λ p d. rw (ne-eqb (a .i + 1) (a .j) (c .before .if1 .taken)) refl)
+
+shared-slice-read-char-row : tie.Need-shared-slice-read-char-row
+shared-slice-read-char-row c = search needs
+
+char-row-requires : tie.Need-char-row-requires
+char-row-requires c κs = search needs
+
+returns-2 : tie.Need-returns-2
+returns-2 c =
+    let a = (c .before .before .before .before .before .before .args) in
+    rows-same (λ (p d : ℕ). bitOf (slotHas (a .chars .now) (slot p d) (getD (a .text .now) (a .i) 0)))
+    (λ (p d : ℕ). bitOf (eqb (a .i + 1) (a .j) && slotHas (a .chars .now) (slot p d) (getD (a .text .now) (a .i) 0))) (a .counts .now) (length (a .counts .now)) (c .char-row .result)
+    (λ p d. sym (rw (eq-eqb (a .i + 1) (a .j) (c .before .before .if1 .left)) refl)) (c .char-row .ensures)
+
+pub bare-args-spec : {M : Type 1} → statement M
+bare-args-spec =
+    tie.close
+    (tie.spec
+    add-if1
+    zero-row-requires
+    returns
+    shared-slice-read-char-row
+    char-row-requires
+    returns-2)

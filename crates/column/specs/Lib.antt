@@ -1,0 +1,3 @@
+-- What the contracts of a column cite.
+pub mod Scattered
+pub mod Rows

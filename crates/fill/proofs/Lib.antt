@@ -1,0 +1,2 @@
+-- Laws of filling a chart.
+pub mod SpanFillLaws
