@@ -7,11 +7,11 @@ use mathlib.Core.Logic.{_↔_, ⊎-elim, by-cases}
 use native.Mathlib.Omega.{arith}
 use native.Mathlib.Decide.{ℕ-discrete, decLt}
 use lib.Dec.{leb, ltb, eqb}
-use lib.ListN.{length, getD, set, length-set, replicate, length-replicate, getD-replicate, List·getD-eq-default}
+use lib.ListN.{length, getD, set, length-set, List·getD-eq-default}
 use lib.Seq.{getD-set-same, getD-set-other}
 use borrow.Author.Tests.{ltb-true, lt-ltb, le-ltb, eq-eqb, ne-eqb}
 use Rattle.ccg.specs.Flat.{mayStand}
-use Rattle.ccg.specs.Tables.{slot, tableMay, tableHas, tableCount, subAt, wordAt, slotHas, charWords, subBytes, AllZero, ZeroTables, FlatTables, FewArguments, ArgumentsWritten, BarringRows, Results}
+use Rattle.ccg.specs.Tables.{slot, tableMay, tableHas, tableCount, subAt, wordAt, slotHas, charWords, subBytes, ZeroTables, FlatTables, FewArguments, ArgumentsWritten, BarringRows, Results}
 use Rattle.ccg.specs.Trees.{isClass, classHas}
 use Rattle.charset.proofs.BitLaws.{bit-zero}
 use Rattle.charset.specs.Set.{characters, bit, has}
@@ -263,13 +263,6 @@ productions-all b n counts chars subs e w =
       subsAre = λ p i q l m h. by-cases (decLt p n)
           (λ j. w .subsHere p i q j m h)
           (λ j. w .subsRest ((p * 8 + i) * 64 + q) (omega arith) ∙ sym (ap bitOf (missing-may b p i q (omega arith))));
-    }
-
-pub all-zero : (n : ℕ) → AllZero n (replicate n 0)
-all-zero n =
-    record {
-      long = length-replicate n 0;
-      zeros = λ k. by-cases (decLt k n) (λ l. getD-replicate n k 0 0 l) (λ l. List·getD-eq-default (replicate n 0) 0 (omega (arith, length-replicate {A = ℕ} n 0)));
     }
 
 pub flat-few : (b counts chars subs : List ℕ) → WellFormed b → FlatTables b counts chars subs → FewArguments counts chars subs

@@ -61,11 +61,6 @@ charWords = slots * slotWords
 abbrev pub subBytes : ℕ
 subBytes = slots * productionLimit
 
--- n zeros
-pub record AllZero (n : ℕ) (l : List ℕ) : Type 0 where
-  pub long : length l ≡ n
-  pub zeros : (k : ℕ) → getD l k 0 ≡ 0
-
 -- Tables of the right lengths that hold zeros.
 pub record ZeroTables (counts chars subs : List ℕ) : Type 0 where
   pub countsLong : length counts ≡ productionLimit

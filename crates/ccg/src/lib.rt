@@ -17,7 +17,8 @@ ghost use lib.ListN.{length, getD};
 ghost use Rattle.grammar.specs.Limits.{productionLimit};
 ghost use Rattle.grammar.specs.Formed.{WellFormed};
 ghost use Rattle.ccg.specs.Flat.{flatGrammar};
-ghost use Rattle.ccg.specs.Tables.{AllZero, charWords, subBytes};
+ghost use Rattle.common.specs.Zeros.{AllZero};
+ghost use Rattle.ccg.specs.Tables.{charWords, subBytes};
 ghost use Rattle.ccg.specs.Text.{grammarText, writeAnswer, flatAnswer, bufferAfter};
 
 // What writing a character class grammar gives.

@@ -1,10 +1,12 @@
-// The one inner loop of filling a chart, and the cap.
+// The one inner loop of filling a chart, the cap, and an empty row table.
+use crate::layout::ROW_LIMIT;
 ghost use mathlib.Core.Path.{_≡_};
 ghost use Prim.Native.Nat.{ℕ, _+_, _*_, _≤_};
 ghost use lib.ListN.{length, getD};
 ghost use Rattle.common.specs.Below.{sumBelow};
 ghost use Rattle.theory.specs.Steps.{cap};
-ghost use Rattle.chart.specs.Layout.{textLimit};
+ghost use Rattle.common.specs.Zeros.{AllZero};
+ghost use Rattle.chart.specs.Layout.{textLimit, rowLimit};
 
 // The sum of the products of two rows, place by place: the first `count` of a with those of b from `at` on.
 pub fn row_sum(a: &[u8], b: &[u8], at: usize, count: usize) -> usize
@@ -31,4 +33,11 @@ pub fn capped(n: usize) -> u8
         return 1;
     }
     2
+}
+
+// A zero for each row.
+pub fn zero_row() -> [u8; ROW_LIMIT]
+    ensures { λ r. ⌜ AllZero rowLimit r ⌝ }
+{
+    [0; ROW_LIMIT]
 }

@@ -7,12 +7,12 @@ use mathlib.Core.Logic.{by-cases}
 use native.Mathlib.Omega.{arith}
 use native.Mathlib.Decide.{ℕ-discrete, decLt}
 use lib.ListN.{getD}
-use Rattle.ccg.specs.Tables.{AllZero}
 use Rattle.chart.proofs.LayoutLaws.{row-in}
 use Rattle.chart.specs.Layout.{rowLimit, arityIn, rowOf, rowCount}
 use Rattle.column.specs.Rows.{RowsFilled}
 use Rattle.common.proofs.BelowLaws.{sum-more}
 use Rattle.common.specs.Region.{Region}
+use Rattle.common.specs.Zeros.{AllZero}
 use Rattle.grammar.proofs.VerdictLaws.{here}
 
 -- the rows of a production stand one behind the other

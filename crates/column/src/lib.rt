@@ -7,6 +7,7 @@ use chart::layout::copy_row;
 use chart::layout::put;
 use chart::sums::capped;
 use chart::sums::row_sum;
+use chart::sums::zero_row;
 use grammar::layout::wide;
 use grammar::limits::ARGUMENT_LIMIT;
 ghost use mathlib.Core.Path.{_≡_};
@@ -19,19 +20,13 @@ ghost use Rattle.common.specs.Below.{sumBelow, bitOf};
 ghost use Rattle.common.specs.Region.{Region};
 ghost use Rattle.grammar.specs.Limits.{productionLimit, argumentLimit};
 ghost use Rattle.theory.specs.Steps.{cap};
-ghost use Rattle.ccg.specs.Tables.{slot, slotHas, charWords, AllZero};
+ghost use Rattle.ccg.specs.Tables.{slot, slotHas, charWords};
 ghost use Rattle.chart.specs.Layout.{textLimit, places, rowLimit, rowOf, rowCount, spanCount, cellAt};
 ghost use Rattle.column.specs.Scattered.{Scattered};
 ghost use Rattle.column.specs.Rows.{RowsFilled};
 
 // The length of the table of arguments of a column.
 pub const COLUMN: usize = ROW_LIMIT * PLACES;
-
-pub fn zero_row() -> [u8; ROW_LIMIT]
-    ensures { λ r. ⌜ AllZero rowLimit r ⌝ }
-{
-    [0; ROW_LIMIT]
-}
 
 // How many lists of trees of a row have their last split strictly between i and j: 0, 1, or 2 for more.
 fn inner_sum(

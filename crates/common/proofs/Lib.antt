@@ -6,3 +6,4 @@ pub mod ProductLaws
 pub mod FillLaws
 pub mod ListLaws
 pub mod RegionLaws
+pub mod ZeroLaws

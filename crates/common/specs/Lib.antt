@@ -2,3 +2,4 @@
 pub mod Below
 pub mod Lists
 pub mod Region
+pub mod Zeros

@@ -180,27 +180,25 @@ fn find_splits(
     requires { ⌜ Walkable (now counts) (now chars) (now subs) (now bases) (now text) (now chart) ⌝ }
     requires { ⌜ (p < length (now counts)) × (i ≤ j) × (j ≤ length (now text)) ⌝ }
     requires { ⌜ 1 ≤ cellOf (now counts) (now text) (now chart) p (getD (now counts) p 0) i j ⌝ }
-    ensures { λ r. ⌜ Splits (theoryOf (now (counts .entry)) (now (chars .entry)) (now (subs .entry))) (now (text .entry)) p i j r ⌝ }
+    ensures { λ r. ⌜ Splits (theoryOf (now (counts .entry)) (now (chars .entry)) (now (subs .entry))) (now (text .entry)) p 0 i j r ⌝ }
 {
     let mut ends = [0; ENDS];
     let mut d = wide(counts[p]);
     ends[d] = narrow(j);
     while 0 < d {
         d -= 1;
-        ends[d] = narrow(
-            find_split(
-                chart,
-                text,
-                counts,
-                chars,
-                subs,
-                bases,
-                p,
-                d,
-                i,
-                wide(ends[d + 1]),
-            ),
-        );
+        ends[d] = narrow(find_split(
+            chart,
+            text,
+            counts,
+            chars,
+            subs,
+            bases,
+            p,
+            d,
+            i,
+            wide(ends[d + 1]),
+        ));
     }
     ends
 }

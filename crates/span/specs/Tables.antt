@@ -47,6 +47,11 @@ pub record Links (counts users uses : List ℕ) : Type 0 where
   -- a production that is not said to use q has no row that takes it
   pub unused : (q p d : ℕ) → q < length counts → p < length counts → d < arityIn counts p → getD uses (useAt q p) 0 ≡ 0 → getD users (userAt q (rowOf (arityIn counts) p d)) 0 ≡ 0
 
+-- `users` has a 1 for each production that may stand as the next argument of a row, by the test `subs`.
+pub record UsersAre (counts users : List ℕ) (subs : ℕ → ℕ → ℕ → Bool) : Type 0 where
+  pub users : (p d q : ℕ) → p < length counts → d < arityIn counts p → q < length counts
+      → getD users (userAt q (rowOf (arityIn counts) p d)) 0 ≡ bitOf (subs p d q)
+
 -- Each has an entry for each row.
 pub record Loads (inner front back args cells : List ℕ) : Type 0 where
   pub innerLong : length inner ≡ rowLimit

@@ -40,7 +40,7 @@ fn smaller(a: u8, b: u8) -> u8
     b
 }
 
-fn either(a: bool, b: bool) -> bool
+pub fn either(a: bool, b: bool) -> bool
     ensures { λ r. ⌜ r ≡ (a || b) ⌝ }
 {
     a || b
@@ -84,7 +84,7 @@ fn advance(
 }
 
 // A production's count rose: so do the arguments of the rows that take it.
-fn spread(args: &mut [u8], users: &[u8], by: u8)
+pub fn spread(args: &mut [u8], users: &[u8], by: u8)
     requires { ⌜ (length (now args) ≡ rowLimit) × (length (now users) ≡ rowLimit) ⌝ }
     requires { ⌜ ((r : ℕ) → r < rowLimit → getD (now args) r 0 + by * getD (now users) r 0 < 256) ⌝ }
     ensures { λ _. ⌜ ((r : ℕ) → r < rowLimit → getD (now (args .exit)) r 0 ≡ getD (now (args .entry)) r 0 + by * getD (now (users .entry)) r 0) ⌝ }

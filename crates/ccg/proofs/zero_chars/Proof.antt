@@ -1,6 +1,6 @@
 -- `zero_chars` meets its contract.
-use Rattle.ccg.proofs.TableLaws.{all-zero}
 use Rattle.ccg.specs.Tables.{charWords}
+use Rattle.common.proofs.ZeroLaws.{all-zero}
 use Rattle.ccg.proofs.zero_chars.Statement.{statement}
 use Rattle.ccg.proofs.zero_chars.Tie as tie
 

@@ -1,5 +1,5 @@
 -- `zero_counts` meets its contract.
-use Rattle.ccg.proofs.TableLaws.{all-zero}
+use Rattle.common.proofs.ZeroLaws.{all-zero}
 use Rattle.ccg.proofs.zero_counts.Statement.{statement}
 use Rattle.ccg.proofs.zero_counts.Tie as tie
 

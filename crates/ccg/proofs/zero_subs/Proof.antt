@@ -1,6 +1,6 @@
 -- `zero_subs` meets its contract.
-use Rattle.ccg.proofs.TableLaws.{all-zero}
 use Rattle.ccg.specs.Tables.{subBytes}
+use Rattle.common.proofs.ZeroLaws.{all-zero}
 use Rattle.ccg.proofs.zero_subs.Statement.{statement}
 use Rattle.ccg.proofs.zero_subs.Tie as tie
 

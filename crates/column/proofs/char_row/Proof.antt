@@ -19,7 +19,7 @@ use Rattle.column.proofs.char_row.Tie as tie
 use Rattle.column.proofs.char_row.Reads as reads
 use Rattle.column.proofs.char_row.Lts as lts
 use Rattle.column.proofs.char_production.Reads as char-production-reads
-use Rattle.column.proofs.zero_row.Reads as zero-row-reads
+use Rattle.chart.proofs.sums.zero_row.Reads as zero-row-reads
 use Rattle.grammar.proofs.layout.wide.Reads as wide-reads
 
 bits : (chars : List ℕ) (character p d : ℕ) → bitOf (slotHas chars (slot p d) character) ≤ 1

@@ -1,56 +1,49 @@
+-- `put_number` meets its contract: a number that has room is written low byte first.
+use native.Mathlib.Omega.{arith}
+use lib.ListN.{length-set}
 use borrow.Author.Needs.{needs}
+use Rattle.extract.proofs.WrittenLaws.{written-one, written-none}
+use Rattle.extract.specs.Written.{room}
 use Rattle.extract.proofs.put_number.Statement.{statement}
 use Rattle.extract.proofs.put_number.Tie as tie
-use Rattle.extract.proofs.put_number.Reads as reads
-use Rattle.extract.proofs.put_number.Lts as lts
 
--- src/lib.rt:214:16
 add-result : tie.Need-add-result
 add-result c = search needs
 
--- src/lib.rt:214:9
 returns : tie.Need-returns
-returns c = ?
+unfolding room
+returns c = written-none (c .before .args .number) (c .before .args .out .now) (c .before .args .at) (c .if1 .taken)
 
--- src/lib.rt:216:19
 cast-out : tie.Need-cast-out
 cast-out c = search needs
 
--- src/lib.rt:216:9
 mul-out : tie.Need-mul-out
 mul-out c = search needs
 
--- src/lib.rt:216:5
 slice-write-out : tie.Need-slice-write-out
 slice-write-out c = search needs
 
--- src/lib.rt:217:23
 cast-out-2 : tie.Need-cast-out-2
 cast-out-2 c = search needs
 
--- src/lib.rt:217:9
 mul-out-2 : tie.Need-mul-out-2
 mul-out-2 c = search needs
 
--- src/lib.rt:217:9
 add-out : tie.Need-add-out
 add-out c = search needs
 
--- src/lib.rt:217:5
 slice-write-out-2 : tie.Need-slice-write-out-2
-slice-write-out-2 c = ?
+slice-write-out-2 c = rw length-set (omega arith)
 
--- src/lib.rt:218:5
 add-result-2 : tie.Need-add-result-2
 add-result-2 c = search needs
 
--- src/lib.rt:209:1
 same-length : tie.Need-same-length
 same-length c = search needs
 
--- src/lib.rt:209:1
 returns-2 : tie.Need-returns-2
-returns-2 c = ?
+unfolding room
+returns-2 c = written-one (c .before .args .number) (c .before .args .out .now) (c .before .args .at) (omega arith)
 
 pub put-number-spec : {M : Type 1} → statement M
 put-number-spec =

@@ -1,0 +1,2 @@
+-- What the contracts of the empty span cite.
+pub mod Empty

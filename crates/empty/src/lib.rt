@@ -1,0 +1,73 @@
+// The empty span, settled once for all places. At it the split at the start and the split at the end are one: a cell is the product of the cell before it and
+// the next argument. The arguments are held fixed while the cells are settled, and taken up again until they stay.
+use chart::layout::ROW_LIMIT;
+use chart::sums::zero_row;
+use grammar::layout::wide;
+use span::either;
+use span::settle;
+use span::spread;
+ghost use mathlib.Core.Path.{_≡_};
+ghost use mathlib.Core.Bool.{Bool, true, false};
+ghost use mathlib.Core.List.{List};
+ghost use Prim.Native.Nat.{ℕ, _+_, _<_, _≤_};
+ghost use lib.ListN.{length, getD};
+ghost use Rattle.common.specs.Zeros.{AllZero};
+ghost use Rattle.grammar.specs.Limits.{productionLimit};
+ghost use Rattle.chart.specs.Layout.{arityIn, rowLimit, rowOf};
+ghost use Rattle.chart.specs.Tests.{grammarOf};
+ghost use Rattle.span.specs.Tables.{Links, UsersAre};
+ghost use Rattle.empty.specs.Empty.{EmptyRight};
+
+// With no argument there is one list of trees, the empty one; a production without arguments has a tree by it.
+fn begin(counts: &[u8], users: &[u8], args: &mut [u8], cells: &mut [u8])
+{
+    let mut base = 0;
+    let mut p = 0;
+    while p < counts.len() {
+        cells[base] = 1;
+        spread(
+            args,
+            &users[p * ROW_LIMIT..(p + 1) * ROW_LIMIT],
+            (counts[p] == 0) as u8,
+        );
+        base += wide(counts[p]) + 1;
+        p += 1;
+    }
+}
+
+// Takes up the arguments: true if they had changed.
+fn follow(back: &mut [u8], args: &[u8]) -> bool
+{
+    let mut changed = false;
+    let mut r = 0;
+    while r < ROW_LIMIT {
+        changed = either(changed, back[r] != args[r]);
+        back[r] = args[r];
+        r += 1;
+    }
+    changed
+}
+
+// Settles the empty span. The tables hold zeros before.
+pub fn settle_empty(
+    counts: &[u8],
+    users: &[u8],
+    uses: &[u8],
+    wanted: &[u8],
+    args: &mut [u8],
+    cells: &mut [u8],
+)
+    requires { ⌜ Links (now counts) (now users) (now uses) ⌝ }
+    requires { ⌜ (length (now wanted) ≡ productionLimit) × ((p : ℕ) → p < length (now counts) → 1 ≤ getD (now wanted) p 0) ⌝ }
+    requires { ⌜ AllZero rowLimit (now args) × AllZero rowLimit (now cells) ⌝ }
+    ensures { λ _. ⌜ ((chars subs : ℕ → ℕ → ℕ → Bool) → UsersAre (now (counts .entry)) (now (users .entry)) subs → EmptyRight (grammarOf (now (counts .entry)) chars subs) (now (cells .exit)) (now (args .exit))) ⌝ }
+{
+    let zeros = zero_row();
+    let mut back = zero_row();
+    begin(counts, users, args, cells);
+    let mut changed = follow(&mut back, args);
+    while changed {
+        settle(counts, users, uses, wanted, &zeros, &zeros, &back, args, cells);
+        changed = follow(&mut back, args);
+    }
+}
