@@ -1,2 +1,3 @@
 -- Laws of filling a chart.
 pub mod SpanFillLaws
+pub mod FillingLaws

@@ -1,2 +1,3 @@
 -- What the contracts of filling cite.
 pub mod Filling
+pub mod Empty

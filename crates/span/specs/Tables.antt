@@ -49,7 +49,7 @@ pub record Links (counts users uses : List ℕ) : Type 0 where
 
 -- `users` has a 1 for each production that may stand as the next argument of a row, by the test `subs`.
 pub record UsersAre (counts users : List ℕ) (subs : ℕ → ℕ → ℕ → Bool) : Type 0 where
-  pub users : (p d q : ℕ) → p < length counts → d < arityIn counts p → q < length counts
+  pub takes : (p d q : ℕ) → p < length counts → d < arityIn counts p → q < length counts
       → getD users (userAt q (rowOf (arityIn counts) p d)) 0 ≡ bitOf (subs p d q)
 
 -- Each has an entry for each row.

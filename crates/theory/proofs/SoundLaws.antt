@@ -1,5 +1,5 @@
 -- What a sum shows: a sum of products of numbers that have their lists of trees has its own.
-use Prim.Native.Nat.{ℕ, suc, _+_, _-_, _*_, _≤_, _<_}
+use Prim.Native.Nat.{ℕ, suc, _+_, _-_, _*_, max, _≤_, _<_}
 use mathlib.Core.Path.{_≡_, refl, subst}
 use mathlib.Core.Bool.{Bool, false, true, _&&_}
 use mathlib.Core.List.{List}
@@ -47,6 +47,13 @@ the-last f h t u e = cc
 -- less is shown where more is
 pub shown-less : {A : Type 0} (P : A → Type 0) (u v : ℕ) → u ≤ v → Shown P v → Shown P u
 shown-less P u v l s = record { one = λ h. s .one (omega arith); two = λ h. s .two (omega arith) }
+
+-- the larger of two is shown where both are
+pub shown-max : {A : Type 0} (P : A → Type 0) (u v : ℕ) → Shown P u → Shown P v → Shown P (max u v)
+shown-max P u v s t =
+    by-cases (decLt u v)
+    (λ l. subst (λ (n : ℕ). Shown P n) (omega arith) t)
+    (λ l. subst (λ (n : ℕ). Shown P n) (omega arith) s)
 
 -- ---- one argument
 

@@ -10,7 +10,7 @@ use Rattle.theory.specs.Grammar.{Grammar}
 use Rattle.theory.specs.Steps.{Chart, charEntry, argumentSum, splitSum}
 
 module _ (g : Grammar) (w : List ℕ) (c c′ : Chart) where
-  argument-same : (p d m j : ℕ) → ((q : ℕ) → q < g .count → c q (g .arity q) m j ≡ c′ q (g .arity q) m j) → argumentSum g w c p d m j ≡ argumentSum g w c′ p d m j
+  pub argument-same : (p d m j : ℕ) → ((q : ℕ) → q < g .count → c q (g .arity q) m j ≡ c′ q (g .arity q) m j) → argumentSum g w c p d m j ≡ argumentSum g w c′ p d m j
   unfolding argumentSum
   argument-same p d m j e =
       ap (λ (n : ℕ). charEntry g w p d m j + n)
