@@ -19,10 +19,9 @@ use Rattle.fill.specs.Empty.{EmptyRight}
 use Rattle.fill.specs.Filling.{viewOf, over}
 use Rattle.grammar.proofs.FormedLaws.{inside}
 use Rattle.priority.specs.Conflict.{fits}
-use Rattle.priority.specs.Priorities.{right}
 use Rattle.span.specs.Span.{Span, whole, usedSum, argumentOf, stepOf, Raised, asBefore, raised}
 use Rattle.theory.proofs.SoundLaws.{shown-less, shown-max, argument-shown, splits-shown}
-use Rattle.theory.proofs.SplitLaws.{split-ends}
+use Rattle.theory.proofs.SplitLaws.{split-ends, split-empty}
 use Rattle.theory.specs.Counts.{Shown}
 use Rattle.theory.specs.Grammar.{Grammar, Spells}
 use Rattle.theory.specs.Steps.{Chart, cap, charEntry, argumentSum, splitSum}
@@ -75,9 +74,32 @@ raised-small s x z (raised {y} p d up lp ld) small r =
       | no e ↦ omega (arith, getD-set-other y k r v 0 e, yet r)
     ]
 
+-- ---- empty spans
+
+-- the argument over an empty span: no character stands there
+pub empty-argument : (g : Grammar) (w empty back : List ℕ) → EmptyRight g empty back → (c : Chart) → ((p d m : ℕ) → c p d m m ≡ getD empty (rowOf (g .arity) p d) 0)
+    → (p d j : ℕ) → p < g .count → d < g .arity p → argumentSum g w c p d j j ≡ getD back (rowOf (g .arity) p d) 0
+unfolding argumentSum charEntry
+empty-argument g w empty back bottom c diagonal p d j lp ld =
+    rw (ne-eqb (j + 1) j (λ e. omega arith))
+    (zero-add (sumBelow (g .count) (λ q. bitOf (g .subs p d q) * c q (g .arity q) j j))
+    ∙ sum-same (λ q. bitOf (g .subs p d q) * c q (g .arity q) j j) (λ q. bitOf (g .subs p d q) * getD empty (rowOf (g .arity) q (g .arity q)) 0) (g .count)
+    (λ q l. ap (λ (n : ℕ). bitOf (g .subs p d q) * n) (diagonal q (g .arity q) j))
+    ∙ sym (bottom .sums p d lp ld))
+
+-- the step over an empty span
+pub empty-step : (g : Grammar) (w empty back : List ℕ) → EmptyRight g empty back → (c : Chart) → ((p d m : ℕ) → c p d m m ≡ getD empty (rowOf (g .arity) p d) 0)
+    → (p d m : ℕ) → p < g .count → d < g .arity p → cap (splitSum g w c p d m m) ≤ c p (d + 1) m m
+unfolding splitSum
+empty-step g w empty back bottom c diagonal p d m lp ld =
+    let one = split-empty (λ k. c p d m k * argumentSum g w c p d k m) m in
+    let product : c p d m m * argumentSum g w c p d m m ≡ getD empty (rowOf (g .arity) p d) 0 * getD back (rowOf (g .arity) p d) 0
+        = ap₂ _*_ (diagonal p d m) (empty-argument g w empty back bottom c diagonal p d m lp ld) in
+    omega (arith, one, product, bottom .closed p d lp ld, diagonal p (d + 1) m)
+
 -- ---- the equation of a span
 
-module _ (g : Grammar) (w empty back : List ℕ) (right : EmptyRight g empty back) (c : Chart)
+module _ (g : Grammar) (w empty back : List ℕ) (bottom : EmptyRight g empty back) (c : Chart)
     (diagonal : (p d m : ℕ) → c p d m m ≡ getD empty (rowOf (g .arity) p d) 0)
     (i j : ℕ) (ij : i < j) (jw : j ≤ length w) (users : ℕ → ℕ → ℕ) (bare inner : ℕ → ℕ) where
   abbrev s : Span
@@ -113,16 +135,6 @@ module _ (g : Grammar) (w empty back : List ℕ) (right : EmptyRight g empty bac
         (sum-same (λ q. bitOf (g .subs p d q) * o q (g .arity q) m j) (λ q. bitOf (g .subs p d q) * c q (g .arity q) m j) (g .count)
         (λ q h. ap (λ (n : ℕ). bitOf (g .subs p d q) * n) (over-else (g .arity) c i j x q (g .arity q) m j (λ e f. omega arith))))
 
-    -- the argument over the empty span at the end: no character stands there
-    argument-end : (p d : ℕ) → p < g .count → d < g .arity p → argumentSum g w c p d j j ≡ getD back (row p d) 0
-    unfolding argumentSum charEntry
-    argument-end p d lp ld =
-        rw (ne-eqb (j + 1) j (λ e. omega arith))
-        (zero-add (sumBelow (g .count) (λ q. bitOf (g .subs p d q) * c q (g .arity q) j j))
-        ∙ sum-same (λ q. bitOf (g .subs p d q) * c q (g .arity q) j j) (λ q. bitOf (g .subs p d q) * getD empty (row q (g .arity q)) 0) (g .count)
-        (λ q l. ap (λ (n : ℕ). bitOf (g .subs p d q) * n) (diagonal q (g .arity q) j))
-        ∙ sym (right .sums p d lp ld))
-
     -- the step of the span is the step of the chart
     pub step-split : (p d : ℕ) → p < g .count → d < g .arity p → stepOf s x (row p d) ≡ cap (splitSum g w o p d i j)
     unfolding stepOf splitSum
@@ -131,7 +143,7 @@ module _ (g : Grammar) (w empty back : List ℕ) (right : EmptyRight g empty bac
         let start : f i ≡ getD empty (row p d) 0 * argumentOf s x (row p d) = ap₂ _*_
         (over-else (g .arity) c i j x p d i i (λ e h. omega arith) ∙ diagonal p d i) (argument-whole p d lp ld) in
         let final : f j ≡ getD x (row p d) 0 * getD back (row p d) 0 = ap₂ _*_
-        (over-here (g .arity) c i j x p d) (argument-part p d j ij ∙ argument-end p d lp ld) in
+        (over-here (g .arity) c i j x p d) (argument-part p d j ij ∙ empty-argument g w empty back bottom c diagonal p d j lp ld) in
         let inside : sumBelow (j - i - 1) (λ k. f (i + 1 + k)) ≡ sumBelow (j - i - 1) (λ k. c p d i (i + 1 + k) * argumentSum g w c p d (i + 1 + k) j)
             = sum-same (λ k. f (i + 1 + k)) (λ k. c p d i (i + 1 + k) * argumentSum g w c p d (i + 1 + k) j) (j - i - 1)
             (λ k l. ap₂ _*_ (over-else (g .arity) c i j x p d i (i + 1 + k) (λ e h. omega arith)) (argument-part p d (i + 1 + k) (omega arith))) in
