@@ -1,10 +1,12 @@
 // Where a cell of the chart stands (01, "Readings, listings and the chart"). Nothing outside this module knows it.
+use grammar::layout::wide;
 use grammar::limits::ARGUMENT_LIMIT;
 use grammar::limits::PRODUCTION_LIMIT;
 ghost use mathlib.Core.Path.{_≡_};
 ghost use Prim.Native.Nat.{ℕ, _+_, _*_, _<_, _≤_};
 ghost use lib.ListN.{length, getD, set};
-ghost use Rattle.chart.specs.Layout.{textLimit, rowLimit, spanCount, startAt, cellAt};
+ghost use Rattle.grammar.specs.Limits.{productionLimit};
+ghost use Rattle.chart.specs.Layout.{textLimit, arityIn, rowCount, rowLimit, spanCount, startAt, cellAt};
 
 // Most characters of a text.
 pub const TEXT_LIMIT: usize = 200;
@@ -12,6 +14,20 @@ pub const TEXT_LIMIT: usize = 200;
 pub const PLACES: usize = TEXT_LIMIT + 1;
 // A row is a production with a count of arguments. Most rows.
 pub const ROW_LIMIT: usize = PRODUCTION_LIMIT * (ARGUMENT_LIMIT + 1);
+
+// How many rows there are, if `counts` has the argument count of each production.
+pub fn row_count(counts: &[u8]) -> usize
+    requires { ⌜ length (now counts) ≤ productionLimit ⌝ }
+    ensures { λ r. ⌜ r ≡ rowCount (arityIn (now (counts .entry))) (length (now (counts .entry))) ⌝ }
+{
+    let mut rows = 0;
+    let mut p = 0;
+    while p < counts.len() {
+        rows += wide(counts[p]) + 1;
+        p += 1;
+    }
+    rows
+}
 
 // How many spans a text of n characters has: a row has a cell for each.
 pub fn span_count(n: usize) -> usize

@@ -1,3 +1,4 @@
 -- Laws of filling a chart.
 pub mod SpanFillLaws
 pub mod FillingLaws
+pub mod FillSpanLaws

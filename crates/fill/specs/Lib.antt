@@ -1,3 +1,4 @@
 -- What the contracts of filling cite.
 pub mod Filling
 pub mod Empty
+pub mod Tables

@@ -1,1 +1,3 @@
 -- Laws of the links.
+pub mod RowLaws
+pub mod LinkedLaws

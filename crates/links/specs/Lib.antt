@@ -1,1 +1,2 @@
 -- What the contracts of the links cite.
+pub mod Linked

@@ -12,9 +12,10 @@ ghost use lib.Dec.{eqb};
 ghost use lib.ListN.{length, getD};
 ghost use Rattle.common.specs.Zeros.{AllZero};
 ghost use Rattle.grammar.specs.Limits.{productionLimit, argumentLimit};
-ghost use Rattle.ccg.specs.Tables.{slot, subAt, subBytes};
+ghost use Rattle.ccg.specs.Tables.{slot, slots, subAt, subBytes};
 ghost use Rattle.chart.specs.Layout.{arityIn, rowLimit, rowOf};
 ghost use Rattle.span.specs.Tables.{userBytes, useBytes, Links, UsersAre};
+ghost use Rattle.links.specs.Linked.{RowLinked, LinkedTo};
 
 // A row of production p takes the productions that its slot has.
 fn link_row(
@@ -26,6 +27,10 @@ fn link_row(
     users: &mut [u8],
     uses: &mut [u8],
 )
+    requires { ⌜ (length (now subs) ≡ subBytes) × ((k : ℕ) → getD (now subs) k 0 ≤ 1) ⌝ }
+    requires { ⌜ (length (now users) ≡ userBytes) × (length (now uses) ≡ useBytes) ⌝ }
+    requires { ⌜ (count ≤ productionLimit) × (s < slots) × (row < rowLimit) × (p < productionLimit) ⌝ }
+    ensures { λ _. ⌜ RowLinked (now (subs .entry)) s row p count (now (users .entry)) (now (uses .entry)) (now (users .exit)) (now (uses .exit)) ⌝ }
 {
     let mut q = 0;
     while q < count {
@@ -47,6 +52,11 @@ fn link_production(
     users: &mut [u8],
     uses: &mut [u8],
 )
+    requires { ⌜ (length (now counts) ≤ productionLimit) × ((p : ℕ) → arityIn (now counts) p ≤ argumentLimit) ⌝ }
+    requires { ⌜ (length (now subs) ≡ subBytes) × ((k : ℕ) → getD (now subs) k 0 ≤ 1) ⌝ }
+    requires { ⌜ (p < length (now counts)) × (base ≡ rowOf (arityIn (now counts)) p 0) ⌝ }
+    requires { ⌜ LinkedTo (now counts) (now subs) (rowOf (arityIn (now counts)) p 0) (now users) (now uses) ⌝ }
+    ensures { λ _. ⌜ LinkedTo (now (counts .entry)) (now (subs .entry)) (rowOf (arityIn (now (counts .entry))) (p + 1) 0) (now (users .exit)) (now (uses .exit)) ⌝ }
 {
     let arity = wide(counts[p]);
     let mut d = 0;

@@ -1,0 +1,34 @@
+-- The tables by which a chart is filled, and what filling a part of it promises.
+use Prim.Native.Nat.{ℕ, _*_, _≤_, _<_}
+use mathlib.Core.Path.{_≡_}
+use mathlib.Core.Bool.{Bool}
+use mathlib.Core.List.{List}
+use lib.ListN.{length, getD}
+use Rattle.ccg.specs.Tables.{slot, slotHas, charWords}
+use Rattle.chart.specs.Layout.{textLimit, places, rowLimit, arityIn, rowCount, spanCount}
+use Rattle.fill.specs.Empty.{EmptyRight}
+use Rattle.fill.specs.Filling.{Filling}
+use Rattle.grammar.specs.Limits.{productionLimit}
+use Rattle.span.specs.Tables.{UsersAre}
+use Rattle.theory.specs.Grammar.{Grammar}
+
+-- The grammar of the tables, whichever way it is kept which productions may stand where.
+abbrev pub grammarBy : (counts chars : List ℕ) → (ℕ → ℕ → ℕ → Bool) → Grammar
+grammarBy counts chars subs = record { count = length counts; arity = arityIn counts; chars = λ p d c. slotHas chars (slot p d) c; subs = subs }
+
+-- The tables have the right lengths, the text is within its limit and the chart long enough, and every production is wanted.
+pub record Ready (counts chars wanted empty args column w chart : List ℕ) (rows : ℕ) : Type 0 where
+  pub short : length w ≤ textLimit
+  pub rowsAre : rows ≡ rowCount (arityIn counts) (length counts)
+  pub longEnough : rows * spanCount (length w) ≤ length chart
+  pub charsLong : length chars ≡ charWords
+  pub wantedLong : length wanted ≡ productionLimit
+  pub wantedAll : (p : ℕ) → p < length counts → 1 ≤ getD wanted p 0
+  pub emptyLong : length empty ≡ rowLimit
+  pub argsLong : length args ≡ rowLimit
+  pub columnLong : length column ≡ rowLimit * places
+
+-- From a chart filled up to start i of column j comes one filled up to start i′ of column j′.
+pub record Further (counts chars users empty args w chart column : List ℕ) (i j : ℕ) (chart′ column′ : List ℕ) (i′ j′ : ℕ) : Type 0 where
+  pub further : (subs : ℕ → ℕ → ℕ → Bool) → UsersAre counts users subs → EmptyRight (grammarBy counts chars subs) empty args
+      → (before : List ℕ) → Filling (grammarBy counts chars subs) w empty before chart column i j → Filling (grammarBy counts chars subs) w empty before chart′ column′ i′ j′

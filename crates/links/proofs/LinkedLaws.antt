@@ -1,0 +1,129 @@
+-- Laws of the tables of users and uses, written row by row.
+use Prim.Native.Nat.{ℕ, _+_, _≤_, _<_}
+use mathlib.Core.Path.{_≡_, refl, _∙_, ap, subst, subst⁻¹}
+use mathlib.Core.List.{List}
+use mathlib.Core.Logic.{by-cases}
+use native.Mathlib.Omega.{arith}
+use native.Mathlib.Decide.{ℕ-discrete, decLt}
+use lib.Dec.{eqb}
+use lib.ListN.{length, getD}
+use Rattle.ccg.specs.Tables.{slot, subAt}
+use Rattle.chart.proofs.LayoutLaws.{row-in, row-next, row-same, row-shift, rows-few}
+use Rattle.chart.specs.Layout.{rowLimit, arityIn, rowOf, rowCount}
+use Rattle.common.specs.Below.{sumBelow, bitOf}
+use Rattle.common.specs.Zeros.{AllZero}
+use Rattle.grammar.specs.Limits.{productionLimit, argumentLimit}
+use Rattle.links.specs.Linked.{RowLinked, LinkedTo}
+use Rattle.span.specs.Tables.{userAt, useAt, userBytes, useBytes, Links, UsersAre}
+
+-- the rows of a production stand one behind the other
+pub row-of-base : (arity : ℕ → ℕ) (p d : ℕ) → rowOf arity p 0 + d ≡ rowOf arity p d
+unfolding rowOf
+row-of-base arity p d = omega arith
+
+-- no row stands too far back
+pub row-below : (counts : List ℕ) (p d : ℕ) → length counts ≤ productionLimit → ((k : ℕ) → arityIn counts k ≤ argumentLimit) → p < length counts → d ≤ arityIn counts p → rowOf (arityIn counts) p d < rowLimit
+row-below counts p d few short l h = omega (arith, row-in (arityIn counts) p d (length counts) l h, rows-few (arityIn counts) (length counts) few short)
+
+-- a bit is 1 or not
+bit-is : (v : ℕ) → v ≤ 1 → v ≡ bitOf (eqb v 1)
+bit-is v l =
+    elim (ℕ-discrete v 1) [
+      | yes e ↦ subst⁻¹ (λ (x : ℕ). x ≡ bitOf (eqb x 1)) e refl
+      | no e ↦ let z : v ≡ 0 = omega arith in subst⁻¹ (λ (x : ℕ). x ≡ bitOf (eqb x 1)) z refl
+    ]
+
+module _ (counts subs : List ℕ) where
+  -- before the first row
+  pub linked-none : (users uses : List ℕ) → AllZero userBytes users → AllZero useBytes uses → LinkedTo counts subs (rowOf (arityIn counts) 0 0) users uses
+  unfolding rowOf sumBelow
+  linked-none users uses z y =
+      record {
+        usersLong = z .long;
+        usesLong = y .long;
+        bits = λ k. omega (arith, z .zeros k);
+        takes = λ p d q l h m b. absurd (omega arith);
+        used = λ p d q l h m b. absurd (omega arith);
+      }
+
+  -- the row after the last argument of a production takes nothing
+  pub linked-last : (p : ℕ) (users uses : List ℕ) → LinkedTo counts subs (rowOf (arityIn counts) p (arityIn counts p)) users uses → LinkedTo counts subs (rowOf (arityIn counts) (p + 1) 0) users uses
+  linked-last p users uses t =
+      record {
+        usersLong = t .usersLong;
+        usesLong = t .usesLong;
+        bits = t .bits;
+        takes = λ p′ d q l h m b. t .takes p′ d q l h m (sooner p′ d h b);
+        used = λ p′ d q l h m b. t .used p′ d q l h m (sooner p′ d h b);
+      }
+    where
+      sooner : (p′ d : ℕ) → d < arityIn counts p′ → rowOf (arityIn counts) p′ d < rowOf (arityIn counts) (p + 1) 0 → rowOf (arityIn counts) p′ d < rowOf (arityIn counts) p (arityIn counts p)
+      sooner p′ d h b =
+          by-cases (decLt (rowOf (arityIn counts) p′ d) (rowOf (arityIn counts) p (arityIn counts p)))
+          (λ k. k)
+          (λ k. let same = row-same (arityIn counts) p′ p d (arityIn counts p) (omega arith) (omega arith) (omega (arith, row-next (arityIn counts) p)) in
+          absurd (omega (arith, same .1, ap (arityIn counts) (same .0))))
+
+  module _ (few : length counts ≤ productionLimit) (short : (p : ℕ) → arityIn counts p ≤ argumentLimit) where
+    -- one row more
+    module _ (p d : ℕ) (users uses users′ uses′ : List ℕ) (l : p < length counts) (h : d < arityIn counts p)
+        (t : LinkedTo counts subs (rowOf (arityIn counts) p d) users uses)
+        (r : RowLinked subs (slot p d) (rowOf (arityIn counts) p d) p (length counts) users uses users′ uses′) where
+      -- an earlier row is as it was
+      sooner : (p′ d′ q : ℕ) → p′ < length counts → d′ < arityIn counts p′ → rowOf (arityIn counts) p′ d′ < rowOf (arityIn counts) p d
+          → getD users′ (userAt q (rowOf (arityIn counts) p′ d′)) 0 ≡ getD users (userAt q (rowOf (arityIn counts) p′ d′)) 0
+      sooner p′ d′ q l′ h′ b = r .others q (rowOf (arityIn counts) p′ d′) (row-below counts p′ d′ few short l′ (omega arith)) (λ e. omega arith)
+
+      -- a row that is not earlier is this one
+      this-row : (p′ d′ : ℕ) → d′ < arityIn counts p′ → rowOf (arityIn counts) p′ d′ < rowOf (arityIn counts) p (d + 1)
+          → (rowOf (arityIn counts) p′ d′ < rowOf (arityIn counts) p d → ⊥) → (p′ ≡ p) × (d′ ≡ d)
+      this-row p′ d′ h′ b k = row-same (arityIn counts) p′ p d′ d (omega arith) (omega arith) (omega (arith, row-shift (arityIn counts) p d))
+
+      takes-too : (p′ d′ q : ℕ) → p′ < length counts → d′ < arityIn counts p′ → q < length counts → rowOf (arityIn counts) p′ d′ < rowOf (arityIn counts) p (d + 1)
+          → getD users′ (userAt q (rowOf (arityIn counts) p′ d′)) 0 ≡ getD subs (subAt (slot p′ d′) q) 0
+      takes-too p′ d′ q l′ h′ m b =
+          by-cases (decLt (rowOf (arityIn counts) p′ d′) (rowOf (arityIn counts) p d))
+          (λ k. sooner p′ d′ q l′ h′ k ∙ t .takes p′ d′ q l′ h′ m k)
+          (λ k. let same = this-row p′ d′ h′ b k in
+          rw (same .0, same .1) (r .takes q m))
+
+      used-too : (p′ d′ q : ℕ) → p′ < length counts → d′ < arityIn counts p′ → q < length counts → rowOf (arityIn counts) p′ d′ < rowOf (arityIn counts) p (d + 1)
+          → getD users′ (userAt q (rowOf (arityIn counts) p′ d′)) 0 ≤ getD uses′ (useAt q p′) 0
+      used-too p′ d′ q l′ h′ m b =
+          by-cases (decLt (rowOf (arityIn counts) p′ d′) (rowOf (arityIn counts) p d))
+          (λ k. omega (arith, sooner p′ d′ q l′ h′ k, t .used p′ d′ q l′ h′ m k, r .grows (useAt q p′)))
+          (λ k. let same = this-row p′ d′ h′ b k in
+          rw (same .0, same .1) (omega (arith, r .takes q m, r .used q m)))
+
+      pub linked-row : LinkedTo counts subs (rowOf (arityIn counts) p (d + 1)) users′ uses′
+      linked-row =
+          record {
+            usersLong = r .usersLong ∙ t .usersLong;
+            usesLong = r .usesLong ∙ t .usesLong;
+            bits = λ k. omega (arith, r .bits k, t .bits k);
+            takes = takes-too;
+            used = used-too;
+          }
+
+    -- all rows
+    module _ (users uses : List ℕ) (t : LinkedTo counts subs (rowOf (arityIn counts) (length counts) 0) users uses) where
+      inside : (p d : ℕ) → p < length counts → d < arityIn counts p → rowOf (arityIn counts) p d < rowOf (arityIn counts) (length counts) 0
+      unfolding rowOf rowCount
+      inside p d l h = omega (arith, row-in (arityIn counts) p d (length counts) l (omega arith))
+
+      pub linked-links : Links counts users uses
+      linked-links =
+          record {
+            fewProductions = few;
+            fewArguments = short;
+            usersLong = t .usersLong;
+            usesLong = t .usesLong;
+            bits = t .bits;
+            unused = λ q p d m l h z. omega (arith, t .used p d q l h m (inside p d l h));
+          }
+
+      pub linked-users : UsersAre counts users (λ p d q. eqb (getD subs (subAt (slot p d) q) 0) 1)
+      linked-users =
+          record {
+            takes = λ p d q l h m. subst (λ (v : ℕ). getD users (userAt q (rowOf (arityIn counts) p d)) 0 ≡ bitOf (eqb v 1)) (t .takes p d q l h m (inside p d l h)) (bit-is (getD users (userAt q (rowOf (arityIn counts) p d)) 0) (t .bits (userAt q (rowOf (arityIn counts) p d))));
+          }
