@@ -1,0 +1,1 @@
+-- The trees that the flat tables of a grammar derive are those of the grammar without a conflict.

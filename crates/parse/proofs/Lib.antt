@@ -1,0 +1,2 @@
+-- Laws of parsing.
+pub mod BookLaws

@@ -1,0 +1,2 @@
+-- What the contracts of parsing cite.
+pub mod Reading
