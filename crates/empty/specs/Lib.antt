@@ -1,2 +1,3 @@
 -- What the contracts of the empty span cite.
 pub mod Empty
+pub mod Turns

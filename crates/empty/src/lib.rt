@@ -7,19 +7,23 @@ use span::either;
 use span::settle;
 use span::spread;
 ghost use mathlib.Core.Path.{_≡_};
-ghost use mathlib.Core.Bool.{Bool, true, false};
+ghost use mathlib.Core.Bool.{Bool};
 ghost use mathlib.Core.List.{List};
-ghost use Prim.Native.Nat.{ℕ, _+_, _<_, _≤_};
+ghost use Prim.Native.Nat.{ℕ, _<_, _≤_};
 ghost use lib.ListN.{length, getD};
 ghost use Rattle.common.specs.Zeros.{AllZero};
 ghost use Rattle.grammar.specs.Limits.{productionLimit};
-ghost use Rattle.chart.specs.Layout.{arityIn, rowLimit, rowOf};
+ghost use Rattle.chart.specs.Layout.{rowLimit};
 ghost use Rattle.chart.specs.Tests.{grammarOf};
 ghost use Rattle.span.specs.Tables.{Links, UsersAre};
 ghost use Rattle.empty.specs.Empty.{EmptyRight};
+ghost use Rattle.empty.specs.Turns.{Begun, Followed};
 
 // With no argument there is one list of trees, the empty one; a production without arguments has a tree by it.
 fn begin(counts: &[u8], users: &[u8], args: &mut [u8], cells: &mut [u8])
+    requires { ⌜ ((uses : List ℕ) × Links (now counts) (now users) uses) ⌝ }
+    requires { ⌜ AllZero rowLimit (now args) × AllZero rowLimit (now cells) ⌝ }
+    ensures { λ _. ⌜ Begun (now (counts .entry)) (now (users .entry)) (length (now (counts .entry))) (now (args .exit)) (now (cells .exit)) ⌝ }
 {
     let mut base = 0;
     let mut p = 0;
@@ -37,6 +41,8 @@ fn begin(counts: &[u8], users: &[u8], args: &mut [u8], cells: &mut [u8])
 
 // Takes up the arguments: true if they had changed.
 fn follow(back: &mut [u8], args: &[u8]) -> bool
+    requires { ⌜ (length (now back) ≡ rowLimit) × (length (now args) ≡ rowLimit) ⌝ }
+    ensures { λ r. ⌜ Followed (now (back .entry)) (now (args .entry)) (now (back .exit)) r ⌝ }
 {
     let mut changed = false;
     let mut r = 0;
@@ -67,7 +73,17 @@ pub fn settle_empty(
     begin(counts, users, args, cells);
     let mut changed = follow(&mut back, args);
     while changed {
-        settle(counts, users, uses, wanted, &zeros, &zeros, &back, args, cells);
+        settle(
+            counts,
+            users,
+            uses,
+            wanted,
+            &zeros,
+            &zeros,
+            &back,
+            args,
+            cells,
+        );
         changed = follow(&mut back, args);
     }
 }

@@ -15,9 +15,9 @@ use Rattle.column.specs.Scattered.{Scattered}
 use Rattle.common.proofs.BelowLaws.{sum-bound, sum-same}
 use Rattle.common.specs.Below.{sumBelow, bitOf}
 use Rattle.common.specs.Zeros.{AllZero}
+use Rattle.empty.specs.Empty.{EmptyRight}
 use Rattle.fill.proofs.FillingLaws.{Knows, filling-next}
 use Rattle.fill.proofs.SpanFillLaws.{view-cell}
-use Rattle.fill.specs.Empty.{EmptyRight}
 use Rattle.fill.specs.Filling.{viewOf, Filling}
 use Rattle.fill.specs.Tables.{grammarBy, Ready, Further}
 use Rattle.span.specs.Span.{whole, usedSum, argumentOf}

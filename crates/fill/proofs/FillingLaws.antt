@@ -13,8 +13,8 @@ use Rattle.chart.specs.Counted.{Counted}
 use Rattle.chart.specs.Layout.{textLimit, places, rowLimit, rowOf, rowCount, cellAt}
 use Rattle.column.specs.Scattered.{Scattered}
 use Rattle.common.specs.Zeros.{AllZero}
+use Rattle.empty.specs.Empty.{EmptyRight}
 use Rattle.fill.proofs.SpanFillLaws.{over-here, over-else, view-empty, view-cell, raised-small, empty-step, Known, argument-whole, step-split, Fine, Inside, settled-fine}
-use Rattle.fill.specs.Empty.{EmptyRight}
 use Rattle.fill.specs.Filling.{viewOf, over, Done, Filling}
 use Rattle.grammar.proofs.FormedLaws.{inside}
 use Rattle.span.specs.Span.{Span, ClosedAt, Raised}

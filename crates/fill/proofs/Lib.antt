@@ -2,3 +2,4 @@
 pub mod SpanFillLaws
 pub mod FillingLaws
 pub mod FillSpanLaws
+pub mod FurtherLaws

@@ -15,7 +15,7 @@ use Rattle.chart.specs.Layout.{rowLimit, rowOf, rowCount, cellAt}
 use Rattle.common.proofs.BelowLaws.{sum-same}
 use Rattle.common.specs.Below.{sumBelow, bitOf}
 use Rattle.common.specs.Zeros.{AllZero}
-use Rattle.fill.specs.Empty.{EmptyRight}
+use Rattle.empty.specs.Empty.{EmptyRight}
 use Rattle.fill.specs.Filling.{viewOf, over}
 use Rattle.grammar.proofs.FormedLaws.{inside}
 use Rattle.priority.specs.Conflict.{fits}

@@ -1,4 +1,3 @@
 -- What the contracts of filling cite.
 pub mod Filling
-pub mod Empty
 pub mod Tables

@@ -6,7 +6,7 @@ use mathlib.Core.List.{List}
 use lib.ListN.{length, getD}
 use Rattle.ccg.specs.Tables.{slot, slotHas, charWords}
 use Rattle.chart.specs.Layout.{textLimit, places, rowLimit, arityIn, rowCount, spanCount}
-use Rattle.fill.specs.Empty.{EmptyRight}
+use Rattle.empty.specs.Empty.{EmptyRight}
 use Rattle.fill.specs.Filling.{Filling}
 use Rattle.grammar.specs.Limits.{productionLimit}
 use Rattle.span.specs.Tables.{UsersAre}

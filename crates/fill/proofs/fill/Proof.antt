@@ -1,0 +1,154 @@
+-- `fill` meets its contract: linked, with its empty span settled and all columns filled, the chart counts.
+use Prim.Native.Nat.{ℕ, _≤_, _<_}
+use mathlib.Core.Path.{refl, _∙_}
+use mathlib.Core.Bool.{Bool}
+use native.Mathlib.Omega.{arith}
+use lib.Dec.{eqb}
+use lib.ListN.{getD, replicate, getD-replicate}
+use borrow.Author.Needs.{needs}
+use Rattle.ccg.specs.Tables.{slot, subAt, slotHas}
+use Rattle.chart.specs.Tests.{grammarOf}
+use Rattle.fill.proofs.FurtherLaws.{filled-counts, filled-beyond}
+use Rattle.fill.proofs.fill.Statement.{statement}
+use Rattle.fill.proofs.fill.Tie as tie
+use Rattle.fill.proofs.fill.Reads as reads
+use Rattle.fill.proofs.fill.Lts as lts
+use Rattle.chart.proofs.layout.row_count.Reads as row-count-reads
+use Rattle.chart.proofs.sums.zero_row.Reads as zero-row-reads
+use Rattle.empty.proofs.settle_empty.Reads as settle-empty-reads
+use Rattle.fill.proofs.fill_columns.Reads as fill-columns-reads
+use Rattle.fill.proofs.zero_column.Reads as zero-column-reads
+use Rattle.fill.proofs.zero_users.Reads as zero-users-reads
+use Rattle.fill.proofs.zero_uses.Reads as zero-uses-reads
+use Rattle.links.proofs.link.Reads as link-reads
+
+-- each of n ones is at least 1
+one-each : (n p : ℕ) → p < n → 1 ≤ getD (replicate n 1) p 0
+one-each n p l = omega (arith, getD-replicate {A = ℕ} n p 1 0 l)
+
+zero-users-requires : tie.Need-zero-users-requires
+zero-users-requires c κs = search needs
+
+zero-uses-requires : tie.Need-zero-uses-requires
+zero-uses-requires c κs = search needs
+
+slice-aggregate-link : tie.Need-slice-aggregate-link
+slice-aggregate-link c = search needs
+
+slice-aggregate-link-2 : tie.Need-slice-aggregate-link-2
+slice-aggregate-link-2 c = search needs
+
+link-requires : tie.Need-link-requires
+link-requires c κs = search needs
+
+zero-row-requires : tie.Need-zero-row-requires
+zero-row-requires c κs = search needs
+
+zero-row-requires-2 : tie.Need-zero-row-requires-2
+zero-row-requires-2 c κs = search needs
+
+slice-aggregate-settle-empty : tie.Need-slice-aggregate-settle-empty
+slice-aggregate-settle-empty c = search needs
+
+slice-aggregate-settle-empty-2 : tie.Need-slice-aggregate-settle-empty-2
+slice-aggregate-settle-empty-2 c = search needs
+
+slice-aggregate-settle-empty-3 : tie.Need-slice-aggregate-settle-empty-3
+slice-aggregate-settle-empty-3 c = search needs
+
+slice-aggregate-settle-empty-4 : tie.Need-slice-aggregate-settle-empty-4
+slice-aggregate-settle-empty-4 c = search needs
+
+slice-aggregate-settle-empty-5 : tie.Need-slice-aggregate-settle-empty-5
+slice-aggregate-settle-empty-5 c = search needs
+
+settle-empty-requires : tie.Need-settle-empty-requires
+settle-empty-requires c κs =
+    let t = c .before .before .before .before .before .before .before .before .before .before .before .before .before .before .before .before .before .before .before .pre .0 in
+    (c .before .before .before .before .before .before .before .before .before .link .ensures .0, ((refl, λ p l. one-each 64 p (omega (arith, t .fewProductions))), (c .before .before .before .before .before .zero-row2 .ensures, c .before .before .before .before .before .before .zero-row .ensures)))
+
+row-count-requires : tie.Need-row-count-requires
+row-count-requires c κs = search needs
+
+zero-column-requires : tie.Need-zero-column-requires
+zero-column-requires c κs = search needs
+
+slice-aggregate-fill-columns : tie.Need-slice-aggregate-fill-columns
+slice-aggregate-fill-columns c = search needs
+
+slice-aggregate-fill-columns-2 : tie.Need-slice-aggregate-fill-columns-2
+slice-aggregate-fill-columns-2 c = search needs
+
+slice-aggregate-fill-columns-3 : tie.Need-slice-aggregate-fill-columns-3
+slice-aggregate-fill-columns-3 c = search needs
+
+slice-aggregate-fill-columns-4 : tie.Need-slice-aggregate-fill-columns-4
+slice-aggregate-fill-columns-4 c = search needs
+
+slice-aggregate-fill-columns-5 : tie.Need-slice-aggregate-fill-columns-5
+slice-aggregate-fill-columns-5 c = search needs
+
+slice-aggregate-fill-columns-6 : tie.Need-slice-aggregate-fill-columns-6
+slice-aggregate-fill-columns-6 c = search needs
+
+fill-columns-requires : tie.Need-fill-columns-requires
+fill-columns-requires c κs =
+    let t = c .before .before .before .before .before .before .before .before .before .before .before .before .before .before .before .before .before .before .before .before .before .before .before .before .before .before .before .before .before .before .before .pre .0 in
+    (
+      c .before .before .before .before .before .before .before .before .before .before .before .before .before .before .before .before .before .before .before .before .before .link .ensures .0,
+      record {
+        short = c .before .before .before .before .before .before .before .before .before .before .before .before .before .before .before .before .before .before .before .before .before .before .before .before .before .before .before .before .before .before .before .pre .1 .0;
+        rowsAre = c .before .before .before .before .before .before .before .before .row-count .ensures;
+        longEnough = rw (c .before .before .before .before .before .before .before .before .row-count .ensures) (c .before .before .before .before .before .before .before .before .before .before .before .before .before .before .before .before .before .before .before .before .before .before .before .before .before .before .before .before .before .before .before .pre .1 .1);
+        charsLong = t .charsLong;
+        wantedLong = refl;
+        wantedAll = λ p l. one-each 64 p (omega (arith, t .fewProductions));
+        emptyLong = c .before .before .before .before .before .before .before .before .before .before .before .settle-empty .kept .1 .1 .1 .1 .1 .0 ∙ c .before .before .before .before .before .before .before .before .before .before .before .before .before .before .before .before .before .before .zero-row .ensures .long;
+        argsLong = c .before .before .before .before .before .before .before .before .before .before .before .settle-empty .kept .1 .1 .1 .1 .0 ∙ c .before .before .before .before .before .before .before .before .before .before .before .before .before .before .before .before .before .zero-row2 .ensures .long;
+        columnLong = c .before .before .before .before .before .before .before .zero-column .ensures .long;
+      },
+    )
+
+same-length : tie.Need-same-length
+same-length c = search needs
+
+returns : tie.Need-returns
+unfolding grammarOf
+returns c =
+    let a = (c .before .before .before .before .before .before .before .before .before .before .before .before .before .before .before .before .before .before .before .before .before .before .before .before .before .before .before .before .before .before .before .before .before .before .before .args) in
+    let takes = c .before .before .before .before .before .before .before .before .before .before .before .before .before .before .before .before .before .before .before .before .before .before .before .before .before .link .ensures .1 in
+    let subs : ℕ → ℕ → ℕ → Bool = λ p d q. eqb (getD (a .subs .now) (subAt (slot p d) q) 0) 1 in
+    let bottom = c .before .before .before .before .before .before .before .before .before .before .before .before .before .before .before .settle-empty .ensures (λ p d x. slotHas (a .chars .now) (slot p d) x) subs takes in
+    (
+      filled-counts (a .counts .now) (a .chars .now) (c .before .before .before .before .before .before .before .before .before .before .before .before .before .before .before .before .before .before .before .before .before .before .before .before .before .link .last .1 .1 .0) (c .before .before .before .before .before .before .before .before .before .before .before .before .before .before .before .before .before .before .before .before .before .before .before .before .before .link .last .1 .1 .1 .0) (c .before .before .before .before .before .before .before .before .before .before .before .before .before .before .before .settle-empty .last .1 .1 .1 .1 .1 .0) (c .before .before .before .before .before .before .before .before .before .before .before .before .before .before .before .settle-empty .last .1 .1 .1 .1 .0) (a .text .now) (a .chart .now) (c .before .before .before .fill-columns .last .0) (c .before .before .before .before .before .before .before .before .before .before .before .zero-column .result) (c .before .before .before .fill-columns .last .1 .1 .1 .1 .1 .1 .1 .1 .1 .1 .0) (a .subs .now) takes bottom (c .before .before .before .before .before .before .before .before .before .before .before .zero-column .ensures .long) (c .before .before .before .fill-columns .ensures),
+      filled-beyond (a .counts .now) (a .chars .now) (c .before .before .before .before .before .before .before .before .before .before .before .before .before .before .before .before .before .before .before .before .before .before .before .before .before .link .last .1 .1 .0) (c .before .before .before .before .before .before .before .before .before .before .before .before .before .before .before .before .before .before .before .before .before .before .before .before .before .link .last .1 .1 .1 .0) (c .before .before .before .before .before .before .before .before .before .before .before .before .before .before .before .settle-empty .last .1 .1 .1 .1 .1 .0) (c .before .before .before .before .before .before .before .before .before .before .before .before .before .before .before .settle-empty .last .1 .1 .1 .1 .0) (a .text .now) (a .chart .now) (c .before .before .before .fill-columns .last .0) (c .before .before .before .before .before .before .before .before .before .before .before .zero-column .result) (c .before .before .before .fill-columns .last .1 .1 .1 .1 .1 .1 .1 .1 .1 .1 .0) (a .subs .now) takes bottom (c .before .before .before .before .before .before .before .before .before .before .before .zero-column .ensures .long) (c .before .before .before .fill-columns .ensures),
+    )
+
+pub fill-spec : {M : Type 1} → statement M
+fill-spec =
+    tie.close
+    (tie.spec
+    zero-users-requires
+    zero-uses-requires
+    slice-aggregate-link
+    slice-aggregate-link-2
+    link-requires
+    zero-row-requires
+    zero-row-requires-2
+    slice-aggregate-settle-empty
+    slice-aggregate-settle-empty-2
+    slice-aggregate-settle-empty-3
+    slice-aggregate-settle-empty-4
+    slice-aggregate-settle-empty-5
+    settle-empty-requires
+    row-count-requires
+    zero-column-requires
+    slice-aggregate-fill-columns
+    slice-aggregate-fill-columns-2
+    slice-aggregate-fill-columns-3
+    slice-aggregate-fill-columns-4
+    slice-aggregate-fill-columns-5
+    slice-aggregate-fill-columns-6
+    fill-columns-requires
+    same-length
+    returns)

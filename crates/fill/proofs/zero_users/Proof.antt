@@ -1,0 +1,13 @@
+-- `zero_users` meets its contract.
+use Rattle.common.proofs.ZeroLaws.{all-zero}
+use Rattle.span.specs.Tables.{userBytes}
+use Rattle.fill.proofs.zero_users.Statement.{statement}
+use Rattle.fill.proofs.zero_users.Tie as tie
+use Rattle.fill.proofs.zero_users.Reads as reads
+use Rattle.fill.proofs.zero_users.Lts as lts
+
+returns : tie.Need-returns
+returns c = all-zero userBytes
+
+pub zero-users-spec : {M : Type 1} → statement M
+zero-users-spec = tie.close (tie.spec returns)
