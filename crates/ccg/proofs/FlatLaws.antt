@@ -217,17 +217,17 @@ module _ (b : List ℕ) (w : WellFormed b) where
 
 -- ---- places of a list of trees
 
-at-last : {f : Forest} {t : Tree} {d : ℕ} → size f ≡ d → At d (f ▷ t) t
+pub at-last : {f : Forest} {t : Tree} {d : ℕ} → size f ≡ d → At d (f ▷ t) t
 at-last {f} {t} e = subst (λ (k : ℕ). At k (f ▷ t) t) e atEnd
 
-at-none : {i : ℕ} {t : Tree} → At i none t → ⊥
+pub at-none : {i : ℕ} {t : Tree} → At i none t → ⊥
 at-none = elim [ ]
 
-at-more : (P : ℕ → Tree → Type 0) {f : Forest} {t : Tree} → ((i : ℕ) (s : Tree) → At i f s → P i s) → P (size f) t → (i : ℕ) (s : Tree) → At i (f ▷ t) s → P i s
+pub at-more : (P : ℕ → Tree → Type 0) {f : Forest} {t : Tree} → ((i : ℕ) (s : Tree) → At i f s → P i s) → P (size f) t → (i : ℕ) (s : Tree) → At i (f ▷ t) s → P i s
 at-more P {f} {t} h z i s atEnd = z
 at-more P {f} {t} h z i s (further a) = h i s a
 
-arguments-size : (b : List ℕ) (p : ℕ) (f : Forest) (d : ℕ) → Arguments b p f d → size f ≡ d
+pub arguments-size : (b : List ℕ) (p : ℕ) (f : Forest) (d : ℕ) → Arguments b p f d → size f ≡ d
 unfolding Arguments size
 arguments-size b p none zero h = refl
 arguments-size b p none (suc d) h = absurd h
@@ -237,7 +237,7 @@ arguments-size b p (f ▷ t) (suc d) h = omega (arith, arguments-size b p f d (h
 -- ---- trees
 
 -- the number at the root: a character, or that of a production
-abbrev pub rootNumber : Tree → ℕ
+abbrev rootNumber : Tree → ℕ
 rootNumber (leaf c) = c
 rootNumber (node p f) = productionNumber p
 
@@ -265,7 +265,7 @@ module _ (b : List ℕ) (w : WellFormed b) (bytes : (k : ℕ) → getD b k 0 < c
   mutual
     unfolding Built Generated
 
-    pub built-generated : (t : Tree) (x : ℕ) → Built b x t → ConflictFree b t → Generated (flatGrammar b) (plainClass b x) t
+    built-generated : (t : Tree) (x : ℕ) → Built b x t → ConflictFree b t → Generated (flatGrammar b) (plainClass b x) t
     built-generated (leaf c) x h free =
         (plain-of-class b x c (h .0) ∙ h .1, character-terminal b c (omega (arith, class-small b bytes (x - classBase) c (h .1))))
     built-generated (node p f) x h free = (
@@ -276,7 +276,7 @@ module _ (b : List ℕ) (w : WellFormed b) (bytes : (k : ℕ) → getD b k 0 < c
           (arguments-each f p (argumentCount b p) (h .0) (omega arith) (h .2) (λ i t at. conflict-free-argument free at) (λ i q g at c. conflict-free-root free (conflictAt at c))),
     )
 
-    pub arguments-each : (f : Forest) (p d : ℕ) → p < productions b → d ≤ argumentCount b p → Arguments b p f d
+    arguments-each : (f : Forest) (p d : ℕ) → p < productions b → d ≤ argumentCount b p → Arguments b p f d
         → ((i : ℕ) (t : Tree) → At i f t → ConflictFree b t) → ((i q : ℕ) (g : Forest) → At i f (node q g) → Conflict b p i q → ⊥)
         → Each (flatGrammar b) (tabulate (argumentCount b p) (flatClass b p)) f d
     arguments-each none p zero l m h free apart = tt
@@ -291,7 +291,7 @@ module _ (b : List ℕ) (w : WellFormed b) (bytes : (k : ℕ) → getD b k 0 < c
     )
 
   -- t has no conflict, and it may stand as argument i of p
-  abbrev pub Standing : ℕ → ℕ → Tree → Type 0
+  abbrev Standing : ℕ → ℕ → Tree → Type 0
   Standing p i t = ConflictFree b t × (flatClass b p i (rootNumber t) ≡ true)
 
   root-free : (p : ℕ) (f : Forest) → ((i : ℕ) (t : Tree) → At i f t → Standing p i t) → RootConflict b (node p f) → ⊥
@@ -300,14 +300,14 @@ module _ (b : List ℕ) (w : WellFormed b) (bytes : (k : ℕ) → getD b k 0 < c
   mutual
     unfolding Built Generated
 
-    pub generated-built : (t : Tree) (x : ℕ) → Generated (flatGrammar b) (plainClass b x) t → Built b x t × ConflictFree b t
+    generated-built : (t : Tree) (x : ℕ) → Generated (flatGrammar b) (plainClass b x) t → Built b x t × ConflictFree b t
     generated-built (leaf c) x h = (plain-character b w bytes x c (h .0) (h .1), conflict-free-leaf)
     generated-built (node p f) x h =
         let l : p < productions b = omega (arith, flat-length b, h .0) in
         let (arguments, all) = each-arguments f p (argumentCount b p) l (omega arith) (transport (each-flat b p l f) (h .3)) in
         ((l, plain-result b w bytes x p (h .2), arguments), conflict-free-node (root-free p f all) (λ i t at. all i t at .0))
 
-    pub each-arguments : (f : Forest) (p d : ℕ) → p < productions b → d ≤ argumentCount b p
+    each-arguments : (f : Forest) (p d : ℕ) → p < productions b → d ≤ argumentCount b p
         → Each (flatGrammar b) (tabulate (argumentCount b p) (flatClass b p)) f d
         → Arguments b p f d × ((i : ℕ) (t : Tree) → At i f t → Standing p i t)
     each-arguments none p zero l m h = (tt, λ i t at. absurd (at-none at))

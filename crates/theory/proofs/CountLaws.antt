@@ -66,7 +66,7 @@ module _ (g : Grammar) (w : List ℕ) (roots : ℕ → Bool) (v : ℕ → ℕ)
   root : ℕ → ℕ
   root p = bitOf (roots p) * v p
 
-  parse-of : (p : ℕ) (f : Forest) → p < g .count → roots p ≡ true → Spells g w p f (g .arity p) 0 (length w) → Parse g roots w (node p f)
+  pub parse-of : (p : ℕ) (f : Forest) → p < g .count → roots p ≡ true → Spells g w p f (g .arity p) 0 (length w) → Parse g roots w (node p f)
   unfolding Parse
   parse-of p f l e s = (l, e, spells-derived g w p f (g .arity p) 0 (length w) s, spells-yield g w p f (g .arity p) 0 (length w) s ∙ take-length w)
 
