@@ -1,2 +1,3 @@
 -- Laws of the engine.
 pub mod RootLaws
+pub mod EngineLaws

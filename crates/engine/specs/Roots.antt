@@ -8,6 +8,10 @@ use Rattle.chart.specs.Layout.{textLimit, arityIn, rowCount, spanCount}
 use Rattle.extract.specs.Places.{Bases, cellOf}
 use Rattle.grammar.specs.Limits.{productionLimit, argumentLimit}
 
+-- how many values a byte has
+abbrev pub byteValues : ℕ
+byteValues = 256
+
 -- production p is allowed at the root
 unfoldable pub rootTest : List ℕ → ℕ → Bool
 rootTest roots p = eqb (getD roots p 0) 1

@@ -15,7 +15,7 @@ ghost use Rattle.ccg.specs.Theory.{theoryOf, ParserTables};
 ghost use Rattle.chart.specs.Layout.{arityIn, rowCount, spanCount, textLimit};
 ghost use Rattle.extract.specs.Places.{Bases, cellOf};
 ghost use Rattle.engine.specs.Outcome.{Parsed};
-ghost use Rattle.engine.specs.Roots.{RootsReady, rootTerm, rootTest};
+ghost use Rattle.engine.specs.Roots.{byteValues, RootsReady, rootTerm, rootTest};
 
 // What parsing a text gives.
 pub enum Answer {
@@ -41,6 +41,7 @@ fn root_at(
     requires { ⌜ RootsReady (now counts) (now bases) (now roots) (now text) (now chart) ⌝ }
     requires { ⌜ p < length (now counts) ⌝ }
     ensures { λ r. ⌜ r ≡ rootTerm (now (counts .entry)) (now (roots .entry)) (now (text .entry)) (now (chart .entry)) p ⌝ }
+    ensures { λ r. ⌜ r < byteValues * byteValues ⌝ }
 {
     wide(roots[p])
         * wide(get(chart, text.len(), bases[p] + wide(counts[p]), 0, text.len()))
@@ -73,10 +74,10 @@ fn first_root(
     ensures { λ r. ⌜ (r < length (now (counts .entry))) × (1 ≤ rootTerm (now (counts .entry)) (now (roots .entry)) (now (text .entry)) (now (chart .entry)) r) ⌝ }
 {
     let mut p = 0;
-    let mut here = root_at(chart, text, counts, bases, roots, p);
-    while here == 0 {
+    let mut trees = root_at(chart, text, counts, bases, roots, p);
+    while trees == 0 {
         p += 1;
-        here = root_at(chart, text, counts, bases, roots, p);
+        trees = root_at(chart, text, counts, bases, roots, p);
     }
     p
 }

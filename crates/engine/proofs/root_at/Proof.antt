@@ -1,4 +1,14 @@
+-- `root_at` meets its contract: the cell is that of the production with all its arguments, for the whole text.
+use Prim.Native.Nat.{ℕ, _+_, _*_, _≤_, _<_}
+use mathlib.Core.Path.{_≡_, _∙_, ap, ap₂, subst⁻¹}
+use native.Mathlib.Omega.{arith}
+use native.Mathlib.Nat.{le-refl, mul-le-mul}
+use lib.ListN.{length, getD}
 use borrow.Author.Needs.{needs}
+use Rattle.chart.specs.Layout.{arityIn, rowOf, spanCount, cellAt}
+use Rattle.engine.proofs.RootLaws.{whole-row, whole-few, whole-room}
+use Rattle.engine.specs.Roots.{rootTerm}
+use Rattle.extract.specs.Places.{cellOf}
 use Rattle.engine.proofs.root_at.Statement.{statement}
 use Rattle.engine.proofs.root_at.Tie as tie
 use Rattle.engine.proofs.root_at.Reads as reads
@@ -6,49 +16,58 @@ use Rattle.engine.proofs.root_at.Lts as lts
 use Rattle.chart.proofs.layout.get.Reads as get-reads
 use Rattle.grammar.proofs.layout.wide.Reads as wide-reads
 
--- src/lib.rt:45:10
+-- a product of bytes
+product-few : {a b x y : ℕ} → a ≡ x → b ≡ y → x < 256 → y < 256 → a * b < 256 * 256
+product-few {a} {b} e f h l =
+    let m : a ≤ 255 = omega arith in
+    let n : b ≤ 255 = omega arith in
+    omega (arith, mul-le-mul m n)
+
 shared-slice-read-wide : tie.Need-shared-slice-read-wide
 shared-slice-read-wide c = search needs
 
--- src/lib.rt:45:5
 wide-requires : tie.Need-wide-requires
 wide-requires c κs = search needs
 
--- src/lib.rt:46:39
 mul-get : tie.Need-mul-get
 mul-get c = search needs
 
--- src/lib.rt:46:39
 shared-slice-read-get : tie.Need-shared-slice-read-get
 shared-slice-read-get c = search needs
 
--- src/lib.rt:46:55
 shared-slice-read-wide-2 : tie.Need-shared-slice-read-wide-2
 shared-slice-read-wide-2 c = search needs
 
--- src/lib.rt:46:50
 wide-requires-2 : tie.Need-wide-requires-2
 wide-requires-2 c κs = search needs
 
--- src/lib.rt:46:39
 add-get : tie.Need-add-get
-add-get c = ?
+add-get c = omega (arith, c .wide2 .ensures, whole-row (c .before .before .before .before .before .before .before .before .before .before .args .counts .now) (c .before .before .before .before .before .before .before .before .before .before .args .bases .now) (c .before .before .before .before .before .before .before .before .before .before .args .roots .now) (c .before .before .before .before .before .before .before .before .before .before .args .text .now) (c .before .before .before .before .before .before .before .before .before .before .args .chart .now) (c .before .before .before .before .before .before .before .before .before .before .pre .0) (c .before .before .before .before .before .before .before .before .before .before .args .p) (c .before .before .before .before .before .before .before .before .before .before .pre .1), whole-few (c .before .before .before .before .before .before .before .before .before .before .args .counts .now) (c .before .before .before .before .before .before .before .before .before .before .args .bases .now) (c .before .before .before .before .before .before .before .before .before .before .args .roots .now) (c .before .before .before .before .before .before .before .before .before .before .args .text .now) (c .before .before .before .before .before .before .before .before .before .before .args .chart .now) (c .before .before .before .before .before .before .before .before .before .before .pre .0) (c .before .before .before .before .before .before .before .before .before .before .args .p) (c .before .before .before .before .before .before .before .before .before .before .pre .1))
 
--- src/lib.rt:46:16
 get-requires : tie.Need-get-requires
-get-requires c κs = ?
+get-requires c κs =
+    let ready = c .before .before .before .before .before .before .before .before .before .before .pre .0 in
+    let row : getD (c .before .before .before .before .before .before .before .before .before .before .args .bases .now) (c .before .before .before .before .before .before .before .before .before .before .args .p) 0 + c .wide2 .result ≡ rowOf (arityIn (c .before .before .before .before .before .before .before .before .before .before .args .counts .now)) (c .before .before .before .before .before .before .before .before .before .before .args .p) (arityIn (c .before .before .before .before .before .before .before .before .before .before .args .counts .now) (c .before .before .before .before .before .before .before .before .before .before .args .p)) = omega (arith, c .wide2 .ensures, whole-row (c .before .before .before .before .before .before .before .before .before .before .args .counts .now) (c .before .before .before .before .before .before .before .before .before .before .args .bases .now) (c .before .before .before .before .before .before .before .before .before .before .args .roots .now) (c .before .before .before .before .before .before .before .before .before .before .args .text .now) (c .before .before .before .before .before .before .before .before .before .before .args .chart .now) ready (c .before .before .before .before .before .before .before .before .before .before .args .p) (c .before .before .before .before .before .before .before .before .before .before .pre .1)) in
+    (
+      (ready .short, omega (arith, row, whole-few (c .before .before .before .before .before .before .before .before .before .before .args .counts .now) (c .before .before .before .before .before .before .before .before .before .before .args .bases .now) (c .before .before .before .before .before .before .before .before .before .before .args .roots .now) (c .before .before .before .before .before .before .before .before .before .before .args .text .now) (c .before .before .before .before .before .before .before .before .before .before .args .chart .now) ready (c .before .before .before .before .before .before .before .before .before .before .args .p) (c .before .before .before .before .before .before .before .before .before .before .pre .1)), omega arith, le-refl (length (c .before .before .before .before .before .before .before .before .before .before .args .text .now))),
+      subst⁻¹ (λ (n : ℕ). (n + 1) * spanCount (length (c .before .before .before .before .before .before .before .before .before .before .args .text .now)) ≤ length (c .before .before .before .before .before .before .before .before .before .before .args .chart .now)) row (whole-room (c .before .before .before .before .before .before .before .before .before .before .args .counts .now) (c .before .before .before .before .before .before .before .before .before .before .args .bases .now) (c .before .before .before .before .before .before .before .before .before .before .args .roots .now) (c .before .before .before .before .before .before .before .before .before .before .args .text .now) (c .before .before .before .before .before .before .before .before .before .before .args .chart .now) ready (c .before .before .before .before .before .before .before .before .before .before .args .p) (c .before .before .before .before .before .before .before .before .before .before .pre .1)),
+    )
 
--- src/lib.rt:46:11
 wide-requires-3 : tie.Need-wide-requires-3
 wide-requires-3 c κs = search needs
 
--- src/lib.rt:45:5
 mul-result : tie.Need-mul-result
-mul-result c = ?
+mul-result c = omega (arith, product-few (c .before .before .before .before .before .wide .ensures) (c .wide3 .ensures) (omega (arith, c .before .before .before .before .before .before .shared-slice-known6 .given (c .before .before .before .before .before .before .before .before .before .before .before .before .args .p))) (omega arith))
 
--- src/lib.rt:33:1
 returns : tie.Need-returns
-returns c = ?
+unfolding rootTerm cellOf
+returns c =
+    let row = whole-row (c .before .before .before .before .before .before .before .before .before .before .before .before .args .counts .now) (c .before .before .before .before .before .before .before .before .before .before .before .before .args .bases .now) (c .before .before .before .before .before .before .before .before .before .before .before .before .args .roots .now) (c .before .before .before .before .before .before .before .before .before .before .before .before .args .text .now) (c .before .before .before .before .before .before .before .before .before .before .before .before .args .chart .now) (c .before .before .before .before .before .before .before .before .before .before .before .before .pre .0) (c .before .before .before .before .before .before .before .before .before .before .before .before .args .p) (c .before .before .before .before .before .before .before .before .before .before .before .before .pre .1) in
+    let e : getD (c .before .before .before .before .before .before .before .before .before .before .before .before .args .bases .now) (c .before .before .before .before .before .before .before .before .before .before .before .before .args .p) 0 + c .before .before .wide2 .result ≡ rowOf (arityIn (c .before .before .before .before .before .before .before .before .before .before .before .before .args .counts .now)) (c .before .before .before .before .before .before .before .before .before .before .before .before .args .p) (arityIn (c .before .before .before .before .before .before .before .before .before .before .before .before .args .counts .now) (c .before .before .before .before .before .before .before .before .before .before .before .before .args .p)) = omega (arith, c .before .before .wide2 .ensures, row) in
+    (
+      ap₂ _*_ (c .before .before .before .before .before .wide .ensures) (c .wide3 .ensures ∙ c .before .get .ensures ∙ ap (λ (n : ℕ). getD (c .before .before .before .before .before .before .before .before .before .before .before .before .args .chart .now) (cellAt (length (c .before .before .before .before .before .before .before .before .before .before .before .before .args .text .now)) n 0 (length (c .before .before .before .before .before .before .before .before .before .before .before .before .args .text .now))) 0) e),
+      product-few (c .before .before .before .before .before .wide .ensures) (c .wide3 .ensures) (omega (arith, c .before .before .before .before .before .before .shared-slice-known6 .given (c .before .before .before .before .before .before .before .before .before .before .before .before .args .p))) (omega arith),
+    )
 
 pub root-at-spec : {M : Type 1} → statement M
 root-at-spec =

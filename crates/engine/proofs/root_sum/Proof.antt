@@ -1,3 +1,11 @@
+-- `root_sum` meets its contract: the productions below p are summed up.
+use Prim.Native.Nat.{ℕ, _-_, _*_, _≤_}
+use mathlib.Core.Path.{_≡_, sym, _∙_, ap}
+use native.Mathlib.Omega.{arith}
+use lib.ListN.{length}
+use Rattle.common.proofs.BelowLaws.{sum-none, sum-more}
+use Rattle.common.specs.Below.{sumBelow}
+use Rattle.engine.specs.Roots.{rootTerm}
 use Rattle.engine.proofs.root_sum.Statement.{statement}
 use Rattle.engine.proofs.root_sum.Tie as tie
 use Rattle.engine.proofs.root_sum.Reads as reads
@@ -5,38 +13,31 @@ use Rattle.engine.proofs.root_sum.Lts as lts
 use Rattle.engine.proofs.root_at.Reads as root-at-reads
 
 abbrev Inv-loop : tie.InvT-loop
-Inv-loop chart text counts bases roots sum₀ p₀ sum p = ?
+Inv-loop chart text counts bases roots sum₀ p₀ sum p = (sum ≡ sumBelow p (rootTerm counts roots text chart)) × (sum ≤ p * (256 * 256)) × (p ≤ length counts)
 
 abbrev μ-loop : tie.MeasureT-loop
-μ-loop chart text counts bases roots sum₀ p₀ sum p = ?
+μ-loop chart text counts bases roots sum₀ p₀ sum p = length counts - p
 
--- src/lib.rt:56:5
 loop-holds : tie.Need-loop-holds Inv-loop μ-loop
-loop-holds c = ?
+loop-holds c = (sym (sum-none (rootTerm (c .before .before .before .before .before .args .counts .now) (c .before .before .before .before .before .args .roots .now) (c .before .before .before .before .before .args .text .now) (c .before .before .before .before .before .args .chart .now))), omega arith, omega arith)
 
--- src/lib.rt:57:16
 root-at-requires : tie.Need-root-at-requires Inv-loop μ-loop
-root-at-requires c κs = ?
+root-at-requires c κs = ((c .before .before .before .before .before .before .before .pre), omega arith)
 
--- src/lib.rt:57:9
 add-sum : tie.Need-add-sum Inv-loop μ-loop
-add-sum c = ?
+add-sum c = omega (arith, c .root-at .ensures .1, c .before .before .before .before .before .before .before .before .pre .fewProductions)
 
--- src/lib.rt:58:9
 add-p : tie.Need-add-p Inv-loop μ-loop
-add-p c = ?
+add-p c = omega (arith, c .before .before .before .before .before .before .before .before .pre .fewProductions)
 
--- src/lib.rt:56:5
 loop-less : tie.Need-loop-less Inv-loop μ-loop
-loop-less c = ?
+loop-less c = omega arith
 
--- src/lib.rt:56:5
 loop-again : tie.Need-loop-again Inv-loop μ-loop
-loop-again c = ?
+loop-again c = (omega (arith, c .root-at .ensures .0, sum-more (c .before .before .loop .p) (rootTerm (c .before .before .before .before .before .before .before .before .args .counts .now) (c .before .before .before .before .before .before .before .before .args .roots .now) (c .before .before .before .before .before .before .before .before .args .text .now) (c .before .before .before .before .before .before .before .before .args .chart .now))), omega (arith, c .root-at .ensures .1), omega arith)
 
--- src/lib.rt:50:1
 returns : tie.Need-returns Inv-loop μ-loop
-returns c = ?
+returns c = let e : c .before .loop .p ≡ length (c .before .before .before .before .before .before .before .args .counts .now) = omega arith in c .before .loop .inv .0 ∙ ap (λ (n : ℕ). sumBelow n (rootTerm (c .before .before .before .before .before .before .before .args .counts .now) (c .before .before .before .before .before .before .before .args .roots .now) (c .before .before .before .before .before .before .before .args .text .now) (c .before .before .before .before .before .before .before .args .chart .now))) e
 
 pub root-sum-spec : {M : Type 1} → statement M
 root-sum-spec =
