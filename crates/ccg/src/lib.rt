@@ -60,19 +60,19 @@ fn write_accepted(book: &[u8], out: &mut [u8]) -> FlatAnswer
     FlatAnswer::Written(needed)
 }
 
-fn zero_counts() -> [u8; PRODUCTION_LIMIT]
+pub fn zero_counts() -> [u8; PRODUCTION_LIMIT]
     ensures { λ r. ⌜ AllZero productionLimit r ⌝ }
 {
     [0; PRODUCTION_LIMIT]
 }
 
-fn zero_chars() -> [u64; CHAR_WORDS]
+pub fn zero_chars() -> [u64; CHAR_WORDS]
     ensures { λ r. ⌜ AllZero charWords r ⌝ }
 {
     [0; CHAR_WORDS]
 }
 
-fn zero_subs() -> [u8; SUB_BYTES]
+pub fn zero_subs() -> [u8; SUB_BYTES]
     ensures { λ r. ⌜ AllZero subBytes r ⌝ }
 {
     [0; SUB_BYTES]

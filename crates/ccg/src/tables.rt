@@ -43,7 +43,7 @@ pub const SUB_BYTES: usize = SLOTS * PRODUCTION_LIMIT;
 const NO_SORT: u8 = 255;
 
 // The result sorts of the productions.
-fn results(book: &[u8]) -> [u8; PRODUCTION_LIMIT]
+pub fn results(book: &[u8]) -> [u8; PRODUCTION_LIMIT]
     requires { ⌜ WellFormed (now book) ⌝ }
     ensures { λ r. ⌜ Results (now (book .entry)) r ⌝ }
 {

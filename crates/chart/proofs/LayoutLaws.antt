@@ -145,3 +145,13 @@ row-shift arity p d = omega arith
 pub rows-few : (arity : ℕ → ℕ) (n : ℕ) → n ≤ productionLimit → ((p : ℕ) → arity p ≤ argumentLimit) → rowCount arity n ≤ rowLimit
 unfolding rowCount
 rows-few arity n l h = omega (arith, sum-bound (argumentLimit + 1) (λ q. arity q + 1) (λ q. omega (arith, h q)) n)
+
+-- the rows of a production stand one behind the other
+pub row-of-base : (arity : ℕ → ℕ) (p d : ℕ) → rowOf arity p 0 + d ≡ rowOf arity p d
+unfolding rowOf
+row-of-base arity p d = omega arith
+
+-- the first row of the next production
+pub row-base : (arity : ℕ → ℕ) (p : ℕ) → rowOf arity (p + 1) 0 ≡ rowOf arity p 0 + (arity p + 1)
+unfolding rowOf
+row-base arity p = omega (arith, sum-more p (λ q. arity q + 1))

@@ -7,18 +7,12 @@ use mathlib.Core.Logic.{by-cases}
 use native.Mathlib.Omega.{arith}
 use native.Mathlib.Decide.{ℕ-discrete, decLt}
 use lib.ListN.{getD}
-use Rattle.chart.proofs.LayoutLaws.{row-in}
+use Rattle.chart.proofs.LayoutLaws.{row-in, row-of-base}
 use Rattle.chart.specs.Layout.{rowLimit, arityIn, rowOf, rowCount}
 use Rattle.column.specs.Rows.{RowsFilled}
-use Rattle.common.proofs.BelowLaws.{sum-more}
 use Rattle.common.specs.Region.{Region}
 use Rattle.common.specs.Zeros.{AllZero}
 use Rattle.grammar.proofs.VerdictLaws.{here}
-
--- the rows of a production stand one behind the other
-pub row-of-base : (arity : ℕ → ℕ) (p d : ℕ) → rowOf arity p 0 + d ≡ rowOf arity p d
-unfolding rowOf
-row-of-base arity p d = omega arith
 
 module _ (v : ℕ → ℕ → ℕ) (counts : List ℕ) where
   pub rows-none : (l : List ℕ) → AllZero rowLimit l → RowsFilled v counts 0 l
@@ -48,16 +42,11 @@ module _ (v : ℕ → ℕ → ℕ) (counts : List ℕ) where
           small = still-small;
           here = λ q d o h. elim (ℕ-discrete q p) [
             | yes e ↦ let h′ : d < arityIn counts p = subst (λ (x : ℕ). d < arityIn counts x) e h in
-            subst⁻¹ (λ (x : ℕ). getD l′ (rowOf (arityIn counts) x d) 0 ≡ v x d) e (subst (λ (x : ℕ). getD l′ x 0 ≡ v p d) (row-of-base (arityIn counts) p d) (r .inside d h′))
+                subst⁻¹ (λ (x : ℕ). getD l′ (rowOf (arityIn counts) x d) 0 ≡ v x d) e (subst (λ (x : ℕ). getD l′ x 0 ≡ v p d) (row-of-base (arityIn counts) p d) (r .inside d h′))
             | no e ↦ let lt : q < p = by-cases (decLt q p) (λ k. k) (λ k. absurd (e (omega arith))) in
-            r .below (rowOf (arityIn counts) q d) (omega (arith, row-in (arityIn counts) q d p lt (omega arith), rows-before p)) ∙ s .here q d lt h
+                r .below (rowOf (arityIn counts) q d) (omega (arith, row-in (arityIn counts) q d p lt (omega arith), rows-before p)) ∙ s .here q d lt h
           ];
         }
-
--- the first row of the next production
-pub row-base : (arity : ℕ → ℕ) (p : ℕ) → rowOf arity (p + 1) 0 ≡ rowOf arity p 0 + (arity p + 1)
-unfolding rowOf
-row-base arity p = omega (arith, sum-more p (λ q. arity q + 1))
 
 -- zeros, where nothing else is asked for
 pub rows-zero : (v : ℕ → ℕ → ℕ) (counts : List ℕ) (n : ℕ) (l : List ℕ) → AllZero rowLimit l → ((p d : ℕ) → v p d ≡ 0) → RowsFilled v counts n l

@@ -24,7 +24,7 @@ module _ (at v : ℕ → ℕ) (l₀ : List ℕ) where
         here = λ k o. elim (ℕ-discrete k n) [
           | yes e ↦ subst⁻¹ (λ (x : ℕ). getD (set l (at n) (v n)) (at x) 0 ≡ v x) e (getD-set-same l (at n) (v n) 0 (omega (arith, s .long)))
           | no e ↦ let lt : k < n = by-cases (decLt k n) (λ h. h) (λ h. absurd (e (omega arith))) in
-          getD-set-other l (at n) (at k) (v n) 0 (λ q. apart k lt q) ∙ s .here k lt
+              getD-set-other l (at n) (at k) (v n) 0 (λ q. apart k lt q) ∙ s .here k lt
         ];
         others = λ x h. getD-set-other l (at n) x (v n) 0 (λ q. h n (omega arith) q) ∙ s .others x (λ k o. h k (omega arith));
       }

@@ -15,9 +15,10 @@ use Rattle.chart.proofs.LayoutLaws.{row-same}
 use Rattle.chart.specs.Layout.{rowLimit, arityIn}
 use Rattle.common.proofs.BelowLaws.{sum-bound}
 use Rattle.common.specs.Zeros.{AllZero}
-use Rattle.empty.proofs.RowLaws.{part-at, row-room}
+use Rattle.empty.proofs.RowLaws.{row-room}
 use Rattle.empty.specs.Turns.{emptySpan, firstRow, Begun}
 use Rattle.span.proofs.SpanLaws.{argument-same, argument-rise}
+use Rattle.span.proofs.TableLaws.{part-at}
 use Rattle.span.specs.Span.{whole, usedSum, argumentOf}
 use Rattle.span.specs.Tables.{userAt, spanOf, Links}
 use mir.Val.{boolByte}

@@ -43,8 +43,7 @@ fn root_at(
     ensures { λ r. ⌜ r ≡ rootTerm (now (counts .entry)) (now (roots .entry)) (now (text .entry)) (now (chart .entry)) p ⌝ }
     ensures { λ r. ⌜ r < byteValues * byteValues ⌝ }
 {
-    wide(roots[p])
-        * wide(get(chart, text.len(), bases[p] + wide(counts[p]), 0, text.len()))
+    wide(roots[p]) * wide(get(chart, text.len(), bases[p] + wide(counts[p]), 0, text.len()))
 }
 
 // How many trees all of them have together.
@@ -62,13 +61,7 @@ fn root_sum(chart: &[u8], text: &[u8], counts: &[u8], bases: &[usize], roots: &[
 }
 
 // The first production that has one.
-fn first_root(
-    chart: &[u8],
-    text: &[u8],
-    counts: &[u8],
-    bases: &[usize],
-    roots: &[u8],
-) -> usize
+fn first_root(chart: &[u8], text: &[u8], counts: &[u8], bases: &[usize], roots: &[u8]) -> usize
     requires { ⌜ RootsReady (now counts) (now bases) (now roots) (now text) (now chart) ⌝ }
     requires { ⌜ 1 ≤ sumBelow (length (now counts)) (rootTerm (now counts) (now roots) (now text) (now chart)) ⌝ }
     ensures { λ r. ⌜ (r < length (now (counts .entry))) × (1 ≤ rootTerm (now (counts .entry)) (now (roots .entry)) (now (text .entry)) (now (chart .entry)) r) ⌝ }

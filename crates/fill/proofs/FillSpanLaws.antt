@@ -36,8 +36,11 @@ pub zero-exact : (counts users inner front back args cells : List ℕ) → AllZe
 unfolding spanOf argumentOf usedSum
 zero-exact counts users inner front back args cells z =
     record {
-      exact = λ k l. omega (arith, zero-sum (λ q. getD users (userAt q k) 0 * getD cells (whole (arityIn counts) q) 0) (length counts)
-          (λ q. ap (λ (n : ℕ). getD users (userAt q k) 0 * n) (z .zeros (whole (arityIn counts) q)) ∙ mul-zero (getD users (userAt q k) 0)));
+      exact = λ k l. omega (
+        arith,
+        zero-sum (λ q. getD users (userAt q k) 0 * getD cells (whole (arityIn counts) q) 0) (length counts)
+            (λ q. ap (λ (n : ℕ). getD users (userAt q k) 0 * n) (z .zeros (whole (arityIn counts) q)) ∙ mul-zero (getD users (userAt q k) 0)),
+      );
     }
 
 pub zero-founded : (v : ℕ → ℕ → ℕ) (counts users inner front back args cells : List ℕ) → RowsFilled v counts (length counts) args → AllZero rowLimit cells

@@ -65,18 +65,18 @@ module _ (g : Grammar) (w empty bytes bytes′ x : List ℕ) (i j : ℕ) (ij : i
   stored-view p d i′ j′ lp ld rises within =
       elim (ℕ-discrete i′ j′) [
         | yes e ↦ subst (λ (m : ℕ). view′ p d i′ m ≡ o p d i′ m) e
-        (view-empty (g .arity) (length w) empty bytes′ p d i′ ∙ sym (view-empty (g .arity) (length w) empty bytes p d i′) ∙ sym (over-else (g .arity) view i j x p d i′ i′ (λ a b. omega arith)))
+            (view-empty (g .arity) (length w) empty bytes′ p d i′ ∙ sym (view-empty (g .arity) (length w) empty bytes p d i′) ∙ sym (over-else (g .arity) view i j x p d i′ i′ (λ a b. omega arith)))
         | no e ↦ let lt : i′ < j′ = by-cases (decLt i′ j′) (λ l. l) (λ l. absurd (e (omega arith))) in
-        elim (ℕ-discrete i′ i) [
-          | yes a ↦ elim (ℕ-discrete j′ j) [
-            | yes b ↦ subst₂ (λ (u v : ℕ). view′ p d u v ≡ o p d u v) (sym a) (sym b)
-            (view-cell (g .arity) (length w) empty bytes′ p d i j ij ∙ stored .here (rowOf (g .arity) p d) (row-in (g .arity) p d (g .count) lp ld) ∙ sym (over-here (g .arity) view i j x p d))
-            | no b ↦ view-cell (g .arity) (length w) empty bytes′ p d i′ j′ lt ∙ other-cell (rowOf (g .arity) p d) i′ j′ rises within (λ u v. b v)
-            ∙ sym (view-cell (g .arity) (length w) empty bytes p d i′ j′ lt) ∙ sym (over-else (g .arity) view i j x p d i′ j′ (λ u v. b v))
-          ]
-          | no a ↦ view-cell (g .arity) (length w) empty bytes′ p d i′ j′ lt ∙ other-cell (rowOf (g .arity) p d) i′ j′ rises within (λ u v. a u)
-          ∙ sym (view-cell (g .arity) (length w) empty bytes p d i′ j′ lt) ∙ sym (over-else (g .arity) view i j x p d i′ j′ (λ u v. a u))
-        ]
+            elim (ℕ-discrete i′ i) [
+              | yes a ↦ elim (ℕ-discrete j′ j) [
+                | yes b ↦ subst₂ (λ (u v : ℕ). view′ p d u v ≡ o p d u v) (sym a) (sym b)
+                    (view-cell (g .arity) (length w) empty bytes′ p d i j ij ∙ stored .here (rowOf (g .arity) p d) (row-in (g .arity) p d (g .count) lp ld) ∙ sym (over-here (g .arity) view i j x p d))
+                | no b ↦ view-cell (g .arity) (length w) empty bytes′ p d i′ j′ lt ∙ other-cell (rowOf (g .arity) p d) i′ j′ rises within (λ u v. b v)
+                    ∙ sym (view-cell (g .arity) (length w) empty bytes p d i′ j′ lt) ∙ sym (over-else (g .arity) view i j x p d i′ j′ (λ u v. b v))
+              ]
+              | no a ↦ view-cell (g .arity) (length w) empty bytes′ p d i′ j′ lt ∙ other-cell (rowOf (g .arity) p d) i′ j′ rises within (λ u v. a u)
+                  ∙ sym (view-cell (g .arity) (length w) empty bytes p d i′ j′ lt) ∙ sym (over-else (g .arity) view i j x p d i′ j′ (λ u v. a u))
+            ]
       ]
 
   -- so is what rests on it
@@ -178,13 +178,13 @@ module _ (g : Grammar) (w empty back : List ℕ) (bottom : EmptyRight g empty ba
         let new = stored-argument g w empty bytes bytes′ x i j ij jw stored p d m (omega arith) in
         elim (ℕ-discrete m i) [
           | yes e ↦ subst⁻¹ (λ (n : ℕ). getD column′ (row * places + n) 0 ≡ argumentSum g w c′ p d n j) e
-          (kept .here row inside ∙ exact .exact row (omega arith) ∙ sym (argument-whole g w empty back bottom c diag i j ij jw users bare inner known x p d lp ld)
-          ∙ sym (stored-argument g w empty bytes bytes′ x i j ij jw stored p d i (omega arith)))
+              (kept .here row inside ∙ exact .exact row (omega arith) ∙ sym (argument-whole g w empty back bottom c diag i j ij jw users bare inner known x p d lp ld)
+              ∙ sym (stored-argument g w empty bytes bytes′ x i j ij jw stored p d i (omega arith)))
           | no e ↦ let lt : i < m = by-cases (decLt i m) (λ l. l) (λ l. absurd (e (omega arith))) in
-          kept .others (row * places + m) (λ k l h. omega arith)
-          ∙ fill .sums p d m lp ld (omega arith) mj
-          ∙ sym (argument-same g w put c p d m j (λ q l. over-else (g .arity) c i j x q (g .arity q) m j (λ u v. e u)))
-          ∙ sym new
+              kept .others (row * places + m) (λ k l h. omega arith)
+              ∙ fill .sums p d m lp ld (omega arith) mj
+              ∙ sym (argument-same g w put c p d m j (λ q l. over-else (g .arity) c i j x q (g .arity q) m j (λ u v. e u)))
+              ∙ sym new
         ]
 
     pub filling-next : Filling g w empty before bytes′ column′ i j

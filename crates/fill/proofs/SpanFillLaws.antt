@@ -69,8 +69,8 @@ raised-small s x z (raised {y} p d up lp ld) small r =
     let fits : v ≤ 2 = omega (arith, yet k) in
     elim (ℕ-discrete r k) [
       | yes e ↦ by-cases (decLt k (length y))
-      (λ l. subst⁻¹ (λ (u : ℕ). getD (set y k v) u 0 ≤ 2) e (omega (arith, getD-set-same y k v 0 l)))
-      (λ l. subst⁻¹ (λ (u : List ℕ). getD u r 0 ≤ 2) (set-out y k v (omega arith)) (yet r))
+          (λ l. subst⁻¹ (λ (u : ℕ). getD (set y k v) u 0 ≤ 2) e (omega (arith, getD-set-same y k v 0 l)))
+          (λ l. subst⁻¹ (λ (u : List ℕ). getD u r 0 ≤ 2) (set-out y k v (omega arith)) (yet r))
       | no e ↦ omega (arith, getD-set-other y k r v 0 e, yet r)
     ]
 
@@ -94,7 +94,7 @@ unfolding splitSum
 empty-step g w empty back bottom c diagonal p d m lp ld =
     let one = split-empty (λ k. c p d m k * argumentSum g w c p d k m) m in
     let product : c p d m m * argumentSum g w c p d m m ≡ getD empty (rowOf (g .arity) p d) 0 * getD back (rowOf (g .arity) p d) 0
-        = ap₂ _*_ (diagonal p d m) (empty-argument g w empty back bottom c diagonal p d m lp ld) in
+    = ap₂ _*_ (diagonal p d m) (empty-argument g w empty back bottom c diagonal p d m lp ld) in
     omega (arith, one, product, bottom .closed p d lp ld, diagonal p (d + 1) m)
 
 -- ---- the equation of a span
@@ -145,8 +145,8 @@ module _ (g : Grammar) (w empty back : List ℕ) (bottom : EmptyRight g empty ba
         let final : f j ≡ getD x (row p d) 0 * getD back (row p d) 0 = ap₂ _*_
         (over-here (g .arity) c i j x p d) (argument-part p d j ij ∙ empty-argument g w empty back bottom c diagonal p d j lp ld) in
         let inside : sumBelow (j - i - 1) (λ k. f (i + 1 + k)) ≡ sumBelow (j - i - 1) (λ k. c p d i (i + 1 + k) * argumentSum g w c p d (i + 1 + k) j)
-            = sum-same (λ k. f (i + 1 + k)) (λ k. c p d i (i + 1 + k) * argumentSum g w c p d (i + 1 + k) j) (j - i - 1)
-            (λ k l. ap₂ _*_ (over-else (g .arity) c i j x p d i (i + 1 + k) (λ e h. omega arith)) (argument-part p d (i + 1 + k) (omega arith))) in
+        = sum-same (λ k. f (i + 1 + k)) (λ k. c p d i (i + 1 + k) * argumentSum g w c p d (i + 1 + k) j) (j - i - 1)
+        (λ k l. ap₂ _*_ (over-else (g .arity) c i j x p d i (i + 1 + k) (λ e h. omega arith)) (argument-part p d (i + 1 + k) (omega arith))) in
         let parts = split-ends f i j ij in
         let inn = known .innerAre p d lp ld in
         omega (arith, start, final, inside, parts, inn)
@@ -168,9 +168,9 @@ module _ (g : Grammar) (w empty back : List ℕ) (bottom : EmptyRight g empty ba
     front-shown x fine p d m lp ld im mj =
         elim (ℕ-discrete m j) [
           | yes e ↦ subst⁻¹ (λ (n : ℕ). Shown (λ (f : Forest). Spells g w p f d i n) (over (g .arity) c i j x p d i n)) e
-          (subst⁻¹ (λ (v : ℕ). Shown (λ (f : Forest). Spells g w p f d i j) v) (over-here (g .arity) c i j x p d) (fine .fine p d lp (omega arith)))
+              (subst⁻¹ (λ (v : ℕ). Shown (λ (f : Forest). Spells g w p f d i j) v) (over-here (g .arity) c i j x p d) (fine .fine p d lp (omega arith)))
           | no e ↦ subst⁻¹ (λ (v : ℕ). Shown (λ (f : Forest). Spells g w p f d i m) v) (over-else (g .arity) c i j x p d i m (λ a b. e b))
-          (within .fronts p d m lp (omega arith) im (by-cases (decLt m j) (λ l. l) (λ l. absurd (e (omega arith)))))
+              (within .fronts p d m lp (omega arith) im (by-cases (decLt m j) (λ l. l) (λ l. absurd (e (omega arith)))))
         ]
 
     back-shown : (x : List ℕ) → Fine x → (q m : ℕ) → q < g .count → i ≤ m → m ≤ j
@@ -178,9 +178,9 @@ module _ (g : Grammar) (w empty back : List ℕ) (bottom : EmptyRight g empty ba
     back-shown x fine q m lq im mj =
         elim (ℕ-discrete m i) [
           | yes e ↦ subst⁻¹ (λ (n : ℕ). Shown (λ (f : Forest). Spells g w q f (g .arity q) n j) (over (g .arity) c i j x q (g .arity q) n j)) e
-          (subst⁻¹ (λ (v : ℕ). Shown (λ (f : Forest). Spells g w q f (g .arity q) i j) v) (over-here (g .arity) c i j x q (g .arity q)) (fine .fine q (g .arity q) lq (le-refl (g .arity q))))
+              (subst⁻¹ (λ (v : ℕ). Shown (λ (f : Forest). Spells g w q f (g .arity q) i j) v) (over-here (g .arity) c i j x q (g .arity q)) (fine .fine q (g .arity q) lq (le-refl (g .arity q))))
           | no e ↦ subst⁻¹ (λ (v : ℕ). Shown (λ (f : Forest). Spells g w q f (g .arity q) m j) v) (over-else (g .arity) c i j x q (g .arity q) m j (λ a b. e a))
-          (within .backs q m lq (by-cases (decLt i m) (λ l. l) (λ l. absurd (e (omega arith)))) mj)
+              (within .backs q m lq (by-cases (decLt i m) (λ l. l) (λ l. absurd (e (omega arith)))) mj)
         ]
 
     step-shown : (x : List ℕ) → Fine x → (p d : ℕ) → p < g .count → d < g .arity p → Shown (λ (f : Forest). Spells g w p f (suc d) i j) (stepOf s x (row p d))
@@ -201,15 +201,15 @@ module _ (g : Grammar) (w empty back : List ℕ) (bottom : EmptyRight g empty ba
         let at : k ≡ row p (d + 1) = row-shift (g .arity) p d in
         let room : k < length y = omega (arith, row-in (g .arity) p (d + 1) (g .count) lp (omega arith)) in
         let new : Shown (λ (f : Forest). Spells g w p f (d + 1) i j) (getD (set y k v) k 0) =
-            subst⁻¹ (λ (u : ℕ). Shown (λ (f : Forest). Spells g w p f (d + 1) i j) u) (getD-set-same y k v 0 room)
-            (shown-max (λ (f : Forest). Spells g w p f (d + 1) i j) (getD y k 0) (stepOf s y (row p d))
-            (subst⁻¹ (λ (u : ℕ). Shown (λ (f : Forest). Spells g w p f (d + 1) i j) (getD y u 0)) at (yet .fine p (d + 1) lp (omega arith)))
-            (subst⁻¹ (λ (e : ℕ). Shown (λ (f : Forest). Spells g w p f e i j) (stepOf s y (row p d))) (add-one d) (step-shown y yet p d lp ld))) in (
+        subst⁻¹ (λ (u : ℕ). Shown (λ (f : Forest). Spells g w p f (d + 1) i j) u) (getD-set-same y k v 0 room)
+        (shown-max (λ (f : Forest). Spells g w p f (d + 1) i j) (getD y k 0) (stepOf s y (row p d))
+        (subst⁻¹ (λ (u : ℕ). Shown (λ (f : Forest). Spells g w p f (d + 1) i j) (getD y u 0)) at (yet .fine p (d + 1) lp (omega arith)))
+        (subst⁻¹ (λ (e : ℕ). Shown (λ (f : Forest). Spells g w p f e i j) (stepOf s y (row p d))) (add-one d) (step-shown y yet p d lp ld))) in (
           record {
             fine = λ p′ d′ lp′ ld′. elim (ℕ-discrete (row p′ d′) k) [
               | yes e ↦ let (a, b) = row-same (g .arity) p′ p d′ (d + 1) ld′ (omega arith) (e ∙ at) in
-              subst₂ (λ (a′ b′ : ℕ). Shown (λ (f : Forest). Spells g w a′ f b′ i j) (getD (set y k v) (row a′ b′) 0)) (sym a) (sym b)
-              (subst (λ (u : ℕ). Shown (λ (f : Forest). Spells g w p f (d + 1) i j) (getD (set y k v) u 0)) at new)
+                  subst₂ (λ (a′ b′ : ℕ). Shown (λ (f : Forest). Spells g w a′ f b′ i j) (getD (set y k v) (row a′ b′) 0)) (sym a) (sym b)
+                  (subst (λ (u : ℕ). Shown (λ (f : Forest). Spells g w p f (d + 1) i j) (getD (set y k v) u 0)) at new)
               | no e ↦ subst⁻¹ (λ (u : ℕ). Shown (λ (f : Forest). Spells g w p′ f d′ i j) u) (getD-set-other y k (row p′ d′) v 0 e) (yet .fine p′ d′ lp′ ld′)
             ];
           },

@@ -16,11 +16,6 @@ use Rattle.grammar.specs.Limits.{productionLimit, argumentLimit}
 use Rattle.links.specs.Linked.{RowLinked, LinkedTo}
 use Rattle.span.specs.Tables.{userAt, useAt, userBytes, useBytes, Links, UsersAre}
 
--- the rows of a production stand one behind the other
-pub row-of-base : (arity : ℕ → ℕ) (p d : ℕ) → rowOf arity p 0 + d ≡ rowOf arity p d
-unfolding rowOf
-row-of-base arity p d = omega arith
-
 -- no row stands too far back
 pub row-below : (counts : List ℕ) (p d : ℕ) → length counts ≤ productionLimit → ((k : ℕ) → arityIn counts k ≤ argumentLimit) → p < length counts → d ≤ arityIn counts p → rowOf (arityIn counts) p d < rowLimit
 row-below counts p d few short l h = omega (arith, row-in (arityIn counts) p d (length counts) l h, rows-few (arityIn counts) (length counts) few short)

@@ -1,2 +1,3 @@
 -- Laws of parsing.
 pub mod BookLaws
+pub mod CarryLaws

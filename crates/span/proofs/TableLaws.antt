@@ -18,7 +18,7 @@ use Rattle.span.specs.Span.{whole, usedSum, argumentOf, stepOf}
 use Rattle.span.specs.Tables.{userAt, useAt, spanOf, Links, Loads, Exact, Founded, stepIn, advanced, Visited}
 
 -- an entry of a table's row
-part-at : (l : List ℕ) (a n k : ℕ) → k < n → getD (take ((a + 1) * n - a * n) (drop (a * n) l)) k 0 ≡ getD l (a * n + k) 0
+pub part-at : (l : List ℕ) (a n k : ℕ) → k < n → getD (take ((a + 1) * n - a * n) (drop (a * n) l)) k 0 ≡ getD l (a * n + k) 0
 part-at l a n k h = getD-take ((a + 1) * n - a * n) (drop (a * n) l) k 0 (omega arith) ∙ getD-drop (a * n) l k 0
 
 -- production q is to be visited, whose rows begin at `base`

@@ -34,7 +34,7 @@ split-ends f i j l =
     let zeroth : i + 0 ≡ i = omega arith in
     let final : i + (j - i - 1 + 1) ≡ j = omega arith in
     let inside : sumBelow (j - i - 1) (λ k. f (i + (1 + k))) ≡ sumBelow (j - i - 1) (λ k. f (i + 1 + k))
-        = sum-same (λ k. f (i + (1 + k))) (λ k. f (i + 1 + k)) (j - i - 1) (λ k o. ap f (omega arith)) in
+    = sum-same (λ k. f (i + (1 + k))) (λ k. f (i + 1 + k)) (j - i - 1) (λ k o. ap f (omega arith)) in
     ap (λ (n : ℕ). sumBelow n (λ k. f (i + k))) e ∙ sum-ends (λ k. f (i + k)) (j - i - 1)
     ∙ ap₂ _+_ (ap₂ _+_ (ap f zeroth) inside) (ap f final)
 

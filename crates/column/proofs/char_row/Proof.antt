@@ -6,9 +6,9 @@ use native.Mathlib.Omega.{arith}
 use lib.ListN.{length}
 use borrow.Author.Needs.{needs}
 use Rattle.ccg.specs.Tables.{slot, slotHas}
-use Rattle.chart.proofs.LayoutLaws.{row-in, rows-few}
+use Rattle.chart.proofs.LayoutLaws.{row-in, rows-few, row-of-base, row-base}
 use Rattle.chart.specs.Layout.{arityIn, rowOf}
-use Rattle.column.proofs.RowsLaws.{row-of-base, rows-none, rows-more, row-base}
+use Rattle.column.proofs.RowsLaws.{rows-none, rows-more}
 use Rattle.column.specs.Rows.{RowsFilled}
 use Rattle.common.specs.Below.{sumBelow, bitOf}
 use Rattle.common.specs.Region.{Region}

@@ -75,11 +75,12 @@ slice-aggregate-write-tree c = search needs
 
 write-tree-requires : tie.Need-write-tree-requires
 write-tree-requires c κs =
-    let a = (c .before .before .before .before .before .before .before .before .before .before .before .before .before .before .before .before .before .before .before .before .before .before .before .args) in
-    (
+    let a = (c .before .before .before .before .before .before .before .before .before .before .before .before .before .before .before .before .before .before .before .before .before .before .before .args) in (
       record { tables = c .before .before .before .before .before .before .before .before .before .before .before .before .before .before .before .before .before .before .before .before .before .before .before .pre .0; rows = c .before .before .before .before .before .before .before .before .before .before .before .row-bases .ensures; short = c .before .before .before .before .before .before .before .before .before .before .before .before .before .before .before .before .before .before .before .before .before .before .before .pre .1 .1 .1; longEnough = omega (arith, c .before .before .before .before .before .before .before .before .before .before .before .before .before .before .fill .kept .0, c .before .before .before .before .before .before .before .before .before .before .before .before .before .before .before .before .before .before .before .before .before .before .before .pre .1 .1 .2); counted = c .before .before .before .before .before .before .before .before .before .before .before .before .before .before .fill .ensures .0 },
-      ((c .before .before .before .first-root .ensures .0, omega arith, le-refl (length (a .text .now)), omega arith),
-      root-cell (a .counts .now) (a .chars .now) (a .subs .now) (a .roots .now) (a .text .now) (c .before .before .before .before .before .before .before .before .before .before .before .before .before .before .before .before .before .before .before .before .before .before .before .pre .1 .0 .1) (c .before .before .before .before .before .before .before .before .before .before .before .before .before .before .fill .last .0) (c .before .before .before .before .before .before .before .before .before .before .before .before .before .before .fill .ensures .0) (c .before .before .before .first-root .result) (c .before .before .before .first-root .ensures .1)),
+      (
+        (c .before .before .before .first-root .ensures .0, omega arith, le-refl (length (a .text .now)), omega arith),
+        root-cell (a .counts .now) (a .chars .now) (a .subs .now) (a .roots .now) (a .text .now) (c .before .before .before .before .before .before .before .before .before .before .before .before .before .before .before .before .before .before .before .before .before .before .before .pre .1 .0 .1) (c .before .before .before .before .before .before .before .before .before .before .before .before .before .before .fill .last .0) (c .before .before .before .before .before .before .before .before .before .before .before .before .before .before .fill .ensures .0) (c .before .before .before .first-root .result) (c .before .before .before .first-root .ensures .1),
+      ),
     )
 
 same-length-3 : tie.Need-same-length-3

@@ -47,8 +47,7 @@ add-get c = omega (arith, c .wide2 .ensures, whole-row (c .before .before .befor
 get-requires : tie.Need-get-requires
 get-requires c κs =
     let ready = c .before .before .before .before .before .before .before .before .before .before .pre .0 in
-    let row : getD (c .before .before .before .before .before .before .before .before .before .before .args .bases .now) (c .before .before .before .before .before .before .before .before .before .before .args .p) 0 + c .wide2 .result ≡ rowOf (arityIn (c .before .before .before .before .before .before .before .before .before .before .args .counts .now)) (c .before .before .before .before .before .before .before .before .before .before .args .p) (arityIn (c .before .before .before .before .before .before .before .before .before .before .args .counts .now) (c .before .before .before .before .before .before .before .before .before .before .args .p)) = omega (arith, c .wide2 .ensures, whole-row (c .before .before .before .before .before .before .before .before .before .before .args .counts .now) (c .before .before .before .before .before .before .before .before .before .before .args .bases .now) (c .before .before .before .before .before .before .before .before .before .before .args .roots .now) (c .before .before .before .before .before .before .before .before .before .before .args .text .now) (c .before .before .before .before .before .before .before .before .before .before .args .chart .now) ready (c .before .before .before .before .before .before .before .before .before .before .args .p) (c .before .before .before .before .before .before .before .before .before .before .pre .1)) in
-    (
+    let row : getD (c .before .before .before .before .before .before .before .before .before .before .args .bases .now) (c .before .before .before .before .before .before .before .before .before .before .args .p) 0 + c .wide2 .result ≡ rowOf (arityIn (c .before .before .before .before .before .before .before .before .before .before .args .counts .now)) (c .before .before .before .before .before .before .before .before .before .before .args .p) (arityIn (c .before .before .before .before .before .before .before .before .before .before .args .counts .now) (c .before .before .before .before .before .before .before .before .before .before .args .p)) = omega (arith, c .wide2 .ensures, whole-row (c .before .before .before .before .before .before .before .before .before .before .args .counts .now) (c .before .before .before .before .before .before .before .before .before .before .args .bases .now) (c .before .before .before .before .before .before .before .before .before .before .args .roots .now) (c .before .before .before .before .before .before .before .before .before .before .args .text .now) (c .before .before .before .before .before .before .before .before .before .before .args .chart .now) ready (c .before .before .before .before .before .before .before .before .before .before .args .p) (c .before .before .before .before .before .before .before .before .before .before .pre .1)) in (
       (ready .short, omega (arith, row, whole-few (c .before .before .before .before .before .before .before .before .before .before .args .counts .now) (c .before .before .before .before .before .before .before .before .before .before .args .bases .now) (c .before .before .before .before .before .before .before .before .before .before .args .roots .now) (c .before .before .before .before .before .before .before .before .before .before .args .text .now) (c .before .before .before .before .before .before .before .before .before .before .args .chart .now) ready (c .before .before .before .before .before .before .before .before .before .before .args .p) (c .before .before .before .before .before .before .before .before .before .before .pre .1)), omega arith, le-refl (length (c .before .before .before .before .before .before .before .before .before .before .args .text .now))),
       subst⁻¹ (λ (n : ℕ). (n + 1) * spanCount (length (c .before .before .before .before .before .before .before .before .before .before .args .text .now)) ≤ length (c .before .before .before .before .before .before .before .before .before .before .args .chart .now)) row (whole-room (c .before .before .before .before .before .before .before .before .before .before .args .counts .now) (c .before .before .before .before .before .before .before .before .before .before .args .bases .now) (c .before .before .before .before .before .before .before .before .before .before .args .roots .now) (c .before .before .before .before .before .before .before .before .before .before .args .text .now) (c .before .before .before .before .before .before .before .before .before .before .args .chart .now) ready (c .before .before .before .before .before .before .before .before .before .before .args .p) (c .before .before .before .before .before .before .before .before .before .before .pre .1)),
     )
@@ -63,8 +62,7 @@ returns : tie.Need-returns
 unfolding rootTerm cellOf
 returns c =
     let row = whole-row (c .before .before .before .before .before .before .before .before .before .before .before .before .args .counts .now) (c .before .before .before .before .before .before .before .before .before .before .before .before .args .bases .now) (c .before .before .before .before .before .before .before .before .before .before .before .before .args .roots .now) (c .before .before .before .before .before .before .before .before .before .before .before .before .args .text .now) (c .before .before .before .before .before .before .before .before .before .before .before .before .args .chart .now) (c .before .before .before .before .before .before .before .before .before .before .before .before .pre .0) (c .before .before .before .before .before .before .before .before .before .before .before .before .args .p) (c .before .before .before .before .before .before .before .before .before .before .before .before .pre .1) in
-    let e : getD (c .before .before .before .before .before .before .before .before .before .before .before .before .args .bases .now) (c .before .before .before .before .before .before .before .before .before .before .before .before .args .p) 0 + c .before .before .wide2 .result ≡ rowOf (arityIn (c .before .before .before .before .before .before .before .before .before .before .before .before .args .counts .now)) (c .before .before .before .before .before .before .before .before .before .before .before .before .args .p) (arityIn (c .before .before .before .before .before .before .before .before .before .before .before .before .args .counts .now) (c .before .before .before .before .before .before .before .before .before .before .before .before .args .p)) = omega (arith, c .before .before .wide2 .ensures, row) in
-    (
+    let e : getD (c .before .before .before .before .before .before .before .before .before .before .before .before .args .bases .now) (c .before .before .before .before .before .before .before .before .before .before .before .before .args .p) 0 + c .before .before .wide2 .result ≡ rowOf (arityIn (c .before .before .before .before .before .before .before .before .before .before .before .before .args .counts .now)) (c .before .before .before .before .before .before .before .before .before .before .before .before .args .p) (arityIn (c .before .before .before .before .before .before .before .before .before .before .before .before .args .counts .now) (c .before .before .before .before .before .before .before .before .before .before .before .before .args .p)) = omega (arith, c .before .before .wide2 .ensures, row) in (
       ap₂ _*_ (c .before .before .before .before .before .wide .ensures) (c .wide3 .ensures ∙ c .before .get .ensures ∙ ap (λ (n : ℕ). getD (c .before .before .before .before .before .before .before .before .before .before .before .before .args .chart .now) (cellAt (length (c .before .before .before .before .before .before .before .before .before .before .before .before .args .text .now)) n 0 (length (c .before .before .before .before .before .before .before .before .before .before .before .before .args .text .now))) 0) e),
       product-few (c .before .before .before .before .before .wide .ensures) (c .wide3 .ensures) (omega (arith, c .before .before .before .before .before .before .shared-slice-known6 .given (c .before .before .before .before .before .before .before .before .before .before .before .before .args .p))) (omega arith),
     )

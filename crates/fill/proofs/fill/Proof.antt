@@ -93,8 +93,7 @@ slice-aggregate-fill-columns-6 c = search needs
 
 fill-columns-requires : tie.Need-fill-columns-requires
 fill-columns-requires c κs =
-    let t = c .before .before .before .before .before .before .before .before .before .before .before .before .before .before .before .before .before .before .before .before .before .before .before .before .before .before .before .before .before .before .before .pre .0 in
-    (
+    let t = c .before .before .before .before .before .before .before .before .before .before .before .before .before .before .before .before .before .before .before .before .before .before .before .before .before .before .before .before .before .before .before .pre .0 in (
       c .before .before .before .before .before .before .before .before .before .before .before .before .before .before .before .before .before .before .before .before .before .link .ensures .0,
       record {
         short = c .before .before .before .before .before .before .before .before .before .before .before .before .before .before .before .before .before .before .before .before .before .before .before .before .before .before .before .before .before .before .before .pre .1 .0;
@@ -118,8 +117,7 @@ returns c =
     let a = (c .before .before .before .before .before .before .before .before .before .before .before .before .before .before .before .before .before .before .before .before .before .before .before .before .before .before .before .before .before .before .before .before .before .before .before .args) in
     let takes = c .before .before .before .before .before .before .before .before .before .before .before .before .before .before .before .before .before .before .before .before .before .before .before .before .before .link .ensures .1 in
     let subs : ℕ → ℕ → ℕ → Bool = λ p d q. eqb (getD (a .subs .now) (subAt (slot p d) q) 0) 1 in
-    let bottom = c .before .before .before .before .before .before .before .before .before .before .before .before .before .before .before .settle-empty .ensures (λ p d x. slotHas (a .chars .now) (slot p d) x) subs takes in
-    (
+    let bottom = c .before .before .before .before .before .before .before .before .before .before .before .before .before .before .before .settle-empty .ensures (λ p d x. slotHas (a .chars .now) (slot p d) x) subs takes in (
       filled-counts (a .counts .now) (a .chars .now) (c .before .before .before .before .before .before .before .before .before .before .before .before .before .before .before .before .before .before .before .before .before .before .before .before .before .link .last .1 .1 .0) (c .before .before .before .before .before .before .before .before .before .before .before .before .before .before .before .before .before .before .before .before .before .before .before .before .before .link .last .1 .1 .1 .0) (c .before .before .before .before .before .before .before .before .before .before .before .before .before .before .before .settle-empty .last .1 .1 .1 .1 .1 .0) (c .before .before .before .before .before .before .before .before .before .before .before .before .before .before .before .settle-empty .last .1 .1 .1 .1 .0) (a .text .now) (a .chart .now) (c .before .before .before .fill-columns .last .0) (c .before .before .before .before .before .before .before .before .before .before .before .zero-column .result) (c .before .before .before .fill-columns .last .1 .1 .1 .1 .1 .1 .1 .1 .1 .1 .0) (a .subs .now) takes bottom (c .before .before .before .before .before .before .before .before .before .before .before .zero-column .ensures .long) (c .before .before .before .fill-columns .ensures),
       filled-beyond (a .counts .now) (a .chars .now) (c .before .before .before .before .before .before .before .before .before .before .before .before .before .before .before .before .before .before .before .before .before .before .before .before .before .link .last .1 .1 .0) (c .before .before .before .before .before .before .before .before .before .before .before .before .before .before .before .before .before .before .before .before .before .before .before .before .before .link .last .1 .1 .1 .0) (c .before .before .before .before .before .before .before .before .before .before .before .before .before .before .before .settle-empty .last .1 .1 .1 .1 .1 .0) (c .before .before .before .before .before .before .before .before .before .before .before .before .before .before .before .settle-empty .last .1 .1 .1 .1 .0) (a .text .now) (a .chart .now) (c .before .before .before .fill-columns .last .0) (c .before .before .before .before .before .before .before .before .before .before .before .zero-column .result) (c .before .before .before .fill-columns .last .1 .1 .1 .1 .1 .1 .1 .1 .1 .1 .0) (a .subs .now) takes bottom (c .before .before .before .before .before .before .before .before .before .before .before .zero-column .ensures .long) (c .before .before .before .fill-columns .ensures),
     )

@@ -30,13 +30,12 @@ loop-less : tie.Need-loop-less Inv-loop μ-loop
 loop-less c = omega arith
 
 loop-again : tie.Need-loop-again Inv-loop μ-loop
-loop-again c =
-    (
-      further-join (c .before .before .before .before .before .before .before .before .before .before .before .before .before .before .before .before .before .before .before .args .chart .now) (c .before .before .before .before .before .before .before .before .before .before .before .before .before .before .before .before .before .before .before .args .column .now) (c .before .before .before .before .before .before .before .before .loop .chart) (c .before .before .before .before .before .before .before .before .loop .column) (c .before .before .before .before .fill-column .last .0) (c .before .before .before .before .fill-column .last .1 .1 .1 .1 .1 .1 .1 .1 .1 .1 .0) 0 0 (c .before .before .before .before .before .before .before .before .loop .j) (c .before .before .before .before .before .before .before .before .loop .j) (c .before .before .before .before .before .before .before .before .loop .j + 1) (c .before .before .before .before .before .before .before .before .loop .j + 1) (c .before .before .before .before .before .before .before .before .loop .inv .0) (c .before .before .before .before .fill-column .ensures),
-      c .before .before .before .before .fill-column .kept .0 ∙ c .before .before .before .before .before .before .before .before .loop .inv .1,
-      c .before .before .before .before .fill-column .kept .1 .1 .1 .1 .1 .1 .1 .1 .1 .1 .0 ∙ c .before .before .before .before .before .before .before .before .loop .inv .2,
-      omega arith,
-    )
+loop-again c = (
+  further-join (c .before .before .before .before .before .before .before .before .before .before .before .before .before .before .before .before .before .before .before .args .chart .now) (c .before .before .before .before .before .before .before .before .before .before .before .before .before .before .before .before .before .before .before .args .column .now) (c .before .before .before .before .before .before .before .before .loop .chart) (c .before .before .before .before .before .before .before .before .loop .column) (c .before .before .before .before .fill-column .last .0) (c .before .before .before .before .fill-column .last .1 .1 .1 .1 .1 .1 .1 .1 .1 .1 .0) 0 0 (c .before .before .before .before .before .before .before .before .loop .j) (c .before .before .before .before .before .before .before .before .loop .j) (c .before .before .before .before .before .before .before .before .loop .j + 1) (c .before .before .before .before .before .before .before .before .loop .j + 1) (c .before .before .before .before .before .before .before .before .loop .inv .0) (c .before .before .before .before .fill-column .ensures),
+  c .before .before .before .before .fill-column .kept .0 ∙ c .before .before .before .before .before .before .before .before .loop .inv .1,
+  c .before .before .before .before .fill-column .kept .1 .1 .1 .1 .1 .1 .1 .1 .1 .1 .0 ∙ c .before .before .before .before .before .before .before .before .loop .inv .2,
+  omega arith,
+)
 
 same-length : tie.Need-same-length Inv-loop μ-loop
 same-length c = c .before .loop .inv .1

@@ -53,12 +53,15 @@ slice-aggregate-settle-3 c = search needs
 settle-requires : tie.Need-settle-requires
 settle-requires c κs =
     let ready = c .before .before .before .before .before .before .before .before .before .before .before .before .before .before .before .before .before .before .before .before .before .pre .1 .0 in
-    let a = (c .before .before .before .before .before .before .before .before .before .before .before .before .before .before .before .before .before .before .before .before .before .args) in
-    (
+    let a = (c .before .before .before .before .before .before .before .before .before .before .before .before .before .before .before .before .before .before .before .before .before .args) in (
       c .before .before .before .before .before .before .before .before .before .before .before .before .before .before .before .before .before .before .before .before .before .pre .0,
-      (record { innerLong = c .before .before .before .before .before .before .inner-sums .kept .1 .1 .1 .1 .1 .1 .0 ∙ c .before .before .before .before .before .before .before .before .before .before .zero-row .ensures .long; frontLong = ready .emptyLong; backLong = ready .argsLong; argsLong = c .before .before .before .bare-args .ensures .long; cellsLong = c .before .before .before .before .zero-row2 .ensures .long },
-      (zero-founded (λ (p d : ℕ). bitOf (eqb (a .i + 1) (a .j) && slotHas (a .chars .now) (slot p d) (getD (a .text .now) (a .i) 0))) (a .counts .now) (a .users .now) (c .before .before .before .before .before .before .inner-sums .last .1 .1 .1 .1 .1 .1 .0) (a .empty .now) (a .back .now) (c .before .before .before .bare-args .result) (c .before .before .before .before .zero-row2 .result) (c .before .before .before .bare-args .ensures) (c .before .before .before .before .zero-row2 .ensures),
-      ready .wantedLong)),
+      (
+        record { innerLong = c .before .before .before .before .before .before .inner-sums .kept .1 .1 .1 .1 .1 .1 .0 ∙ c .before .before .before .before .before .before .before .before .before .before .zero-row .ensures .long; frontLong = ready .emptyLong; backLong = ready .argsLong; argsLong = c .before .before .before .bare-args .ensures .long; cellsLong = c .before .before .before .before .zero-row2 .ensures .long },
+        (
+          zero-founded (λ (p d : ℕ). bitOf (eqb (a .i + 1) (a .j) && slotHas (a .chars .now) (slot p d) (getD (a .text .now) (a .i) 0))) (a .counts .now) (a .users .now) (c .before .before .before .before .before .before .inner-sums .last .1 .1 .1 .1 .1 .1 .0) (a .empty .now) (a .back .now) (c .before .before .before .bare-args .result) (c .before .before .before .before .zero-row2 .result) (c .before .before .before .bare-args .ensures) (c .before .before .before .before .zero-row2 .ensures),
+          ready .wantedLong,
+        ),
+      ),
     )
 
 slice-aggregate-store-cells : tie.Need-slice-aggregate-store-cells

@@ -4,8 +4,9 @@ use mathlib.Core.Path.{_≡_, sym, _∙_, subst}
 use native.Mathlib.Omega.{arith}
 use lib.ListN.{length}
 use Rattle.ccg.specs.Tables.{slot}
+use Rattle.chart.proofs.LayoutLaws.{row-of-base}
 use Rattle.chart.specs.Layout.{arityIn, rowOf}
-use Rattle.links.proofs.LinkedLaws.{row-of-base, row-below, linked-last, linked-row}
+use Rattle.links.proofs.LinkedLaws.{row-below, linked-last, linked-row}
 use Rattle.links.specs.Linked.{RowLinked, LinkedTo}
 use Rattle.theory.specs.Tree.{below}
 use Rattle.links.proofs.link_production.Statement.{statement}

@@ -55,9 +55,9 @@ same-length c = c .before .loop .inv .0 .long
 
 returns : tie.Need-returns Inv-loop μ-loop
 returns c = (
-      λ m l. c .before .loop .inv .0 .done m (omega arith) ∙ ap (λ (p : ℕ). getD (c .before .before .before .before .before .args .chart .now) p 0) (omega (arith, c .before .before .cell-at .ensures, cell-place (c .before .before .before .before .before .args .n) (c .before .before .before .before .before .args .row) (c .before .before .before .before .before .args .i) (c .before .before .before .before .before .args .from) m (c .before .before .before .before .before .args .count) (c .before .before .before .before .before .pre .0 .2) (c .before .before .before .before .before .pre .0 .0) (c .before .before .before .before .before .pre .0 .1) (omega arith) l)),
-      λ m l. c .before .loop .inv .0 .rest m (omega arith),
-  )
+  λ m l. c .before .loop .inv .0 .done m (omega arith) ∙ ap (λ (p : ℕ). getD (c .before .before .before .before .before .args .chart .now) p 0) (omega (arith, c .before .before .cell-at .ensures, cell-place (c .before .before .before .before .before .args .n) (c .before .before .before .before .before .args .row) (c .before .before .before .before .before .args .i) (c .before .before .before .before .before .args .from) m (c .before .before .before .before .before .args .count) (c .before .before .before .before .before .pre .0 .2) (c .before .before .before .before .before .pre .0 .0) (c .before .before .before .before .before .pre .0 .1) (omega arith) l)),
+  λ m l. c .before .loop .inv .0 .rest m (omega arith),
+)
 
 pub copy-row-spec : {M : Type 1} → statement M
 copy-row-spec =

@@ -1,0 +1,141 @@
+-- The promise about the flat tables, carried to the grammar they come from.
+use Prim.Native.Nat.{ℕ, _+_, _*_, _/_, _%_, _≤_, _<_}
+use mathlib.Core.Path.{_≡_, sym, _∙_, ap, subst}
+use mathlib.Core.Bool.{Bool, false, true}
+use mathlib.Core.List.{List}
+use mathlib.Core.Logic.{_↔_, by-cases}
+use native.Mathlib.Omega.{arith}
+use native.Mathlib.Decide.{decLt}
+use lib.Dec.{eqb}
+use lib.ListN.{length, getD, take, List·getD-eq-default}
+use borrow.Author.Tests.{eq-eqb, ne-eqb}
+use Rattle.ccg.specs.Tables.{slot, tableMay, subAt, subBytes, FlatTables}
+use Rattle.ccg.specs.Theory.{theoryOf, ParserTables}
+use Rattle.charset.specs.Set.{characters}
+use Rattle.chart.specs.Layout.{arityIn, rowOf, rowCount, spanCount, cellAt}
+use Rattle.common.proofs.BelowLaws.{sum-same}
+use Rattle.common.specs.Below.{bitOf}
+use Rattle.engine.specs.Outcome.{Only, Answered, Parsed}
+use Rattle.engine.specs.Roots.{rootTest}
+use Rattle.engine.specs.declared.Answer.{Answer}
+use Rattle.engine.specs.declared.Answer.the-variants.{Refused, None, One, Several}
+use Rattle.grammar.specs.Formed.{WellFormed}
+use Rattle.grammar.specs.Layout.{productions, startSort, argumentCount, result}
+use Rattle.parse.proofs.BookLaws.{book-count, book-arity, book-lists, book-parses}
+use Rattle.parse.specs.Outcome.{needed, RootsAre}
+use Rattle.parse.specs.Reading.{Reading, EntryList}
+use Rattle.theory.proofs.CountLaws.{counts-same}
+use Rattle.theory.proofs.SoundLaws.{bit-small}
+use Rattle.theory.specs.Counts.{Counts}
+use Rattle.theory.specs.Grammar.{Grammar, Spells, Parse}
+use Rattle.theory.specs.Tree.{Tree, leaf, node, Forest}
+
+-- ---- the same answer for a predicate that says the same
+
+only-same : (P Q : Tree → Type 0) → ((t : Tree) → P t ↔ Q t) → (t : Tree) → Only P t → Only Q t
+only-same P Q e t o = record { holds = e t .0 (o .holds); alone = λ u h. o .alone u (e u .1 h) }
+
+pub answered-same : (P Q : Tree → Type 0) → ((t : Tree) → P t ↔ Q t) → (l₀ : List ℕ) (r : Answer) (l : List ℕ) → Answered P l₀ r l → Answered Q l₀ r l
+unfolding Answered
+answered-same P Q e l₀ None l a = ((λ t h. a .0 t (e t .1 h)), a .1)
+answered-same P Q e l₀ (One n) l a = (a .0, only-same P Q e (a .0) (a .1), a .2, a .3, a .4)
+answered-same P Q e l₀ Several l a = ((a .0 .0, a .0 .1, e (a .0 .0) .0 (a .0 .2), e (a .0 .1) .0 (a .0 .3), a .0 .4), a .1)
+answered-same P Q e l₀ (Refused number place) l a = (a .0, only-same P Q e (a .0) (a .1), a .2, a .3, a .4, a .5)
+
+-- ---- rows of the same argument counts
+
+rows-same : (f g : ℕ → ℕ) (n : ℕ) → ((p : ℕ) → p < n → f p ≡ g p) → rowCount f n ≡ rowCount g n
+unfolding rowCount
+rows-same f g n e = sum-same (λ q. f q + 1) (λ q. g q + 1) n (λ k l. ap (λ (m : ℕ). m + 1) (e k l))
+
+row-same-arity : (f g : ℕ → ℕ) (n p d : ℕ) → p < n → ((q : ℕ) → q < n → f q ≡ g q) → rowOf f p d ≡ rowOf g p d
+unfolding rowOf
+row-same-arity f g n p d l e = ap (λ (m : ℕ). m + d) (sum-same (λ q. f q + 1) (λ q. g q + 1) p (λ k h. ap (λ (m : ℕ). m + 1) (e k (omega arith))))
+
+-- ---- the tables of a grammar
+
+module _ (b : List ℕ) (formed : WellFormed b) (bytes : (k : ℕ) → getD b k 0 < characters) (counts chars subs : List ℕ) (tables : FlatTables b counts chars subs) where
+  abbrev kept : List ℕ
+  kept = take (productions b) counts
+
+  same-count : length kept ≡ productions b
+  same-count = book-count b formed bytes counts chars subs tables
+
+  same-arity : (p : ℕ) → p < productions b → arityIn kept p ≡ argumentCount b p
+  same-arity p l = book-arity b formed bytes counts chars subs tables p l
+
+  pub same-needed : (n : ℕ) → rowCount (arityIn kept) (length kept) * spanCount n ≡ needed b n
+  unfolding needed
+  same-needed n =
+      ap (λ (m : ℕ). m * spanCount n)
+      (ap (λ (m : ℕ). rowCount (arityIn kept) m) same-count ∙ rows-same (arityIn kept) (argumentCount b) (productions b) same-arity)
+
+  -- every byte of the table of productions is 0 or 1
+  subs-bits : (k : ℕ) → getD subs k 0 ≤ 1
+  unfolding subAt slot
+  subs-bits k =
+      by-cases (decLt k subBytes)
+      (λ l. let e : (k / 64 / 8 * 8 + k / 64 % 8) * 64 + k % 64 ≡ k = omega arith in
+      let it = tables .subsAre (k / 64 / 8) (k / 64 % 8) (k % 64) (omega arith) (omega arith) (omega arith) in
+      omega (arith, subst (λ (n : ℕ). getD subs n 0 ≡ bitOf (tableMay b (k / 64 / 8) (k / 64 % 8) (k % 64))) e it, bit-small (tableMay b (k / 64 / 8) (k / 64 % 8) (k % 64))))
+      (λ l. omega (arith, List·getD-eq-default subs 0 {n = k} (omega (arith, tables .subsLong))))
+
+  pub parser-tables : ParserTables kept chars subs
+  parser-tables =
+      record {
+        fewProductions = omega (arith, same-count, formed .framed .fewProductions);
+        fewArguments = λ p. by-cases (decLt p (productions b))
+            (λ l. omega (arith, same-arity p l, formed .framed .fewArguments p l))
+            (λ l. omega (arith, List·getD-eq-default kept 0 {n = p} (omega (arith, same-count))));
+        charsLong = tables .charsLong;
+        subsLong = tables .subsLong;
+        bits = subs-bits;
+      }
+
+  module _ (w : List ℕ) (text : (k : ℕ) → getD w k 0 < characters) (roots : List ℕ) (rootsAre : RootsAre b roots) where
+    abbrev g : Grammar
+    g = theoryOf kept chars subs
+
+    same-root : (p : ℕ) → p < productions b → rootTest roots p ≡ eqb (result b p) (startSort b)
+    unfolding rootTest
+    same-root p l =
+        elim (eqb (result b p) (startSort b)) as (λ (v : Bool). getD roots p 0 ≡ bitOf v → eqb (getD roots p 0) 1 ≡ v) [
+          | true ↦ λ e. eq-eqb (getD roots p 0) 1 e
+          | false ↦ λ e. ne-eqb (getD roots p 0) 1 (λ h. omega arith)
+        ] (rootsAre .starts p l)
+
+    same-parses : (t : Tree) → Parse g (rootTest roots) w t ↔ Reading b w t
+    unfolding Parse theoryOf
+    same-parses t = (forth t, back t)
+      where
+        forth : (t : Tree) → Parse g (rootTest roots) w t → Reading b w t
+        forth (leaf x) h = absurd h
+        forth (node p f) h = book-parses b formed bytes counts chars subs tables w text (node p f) .0 (h .0, sym (same-root p (omega (arith, same-count, h .0))) ∙ h .1, h .2, h .3)
+
+        back : (t : Tree) → Reading b w t → Parse g (rootTest roots) w t
+        back (leaf x) h = book-parses b formed bytes counts chars subs tables w text (leaf x) .1 h
+        back (node p f) h =
+            let k = book-parses b formed bytes counts chars subs tables w text (node p f) .1 h in
+            (k .0, same-root p (omega (arith, same-count, k .0)) ∙ k .1, k .2, k .3)
+
+    -- the whole promise
+    pub parsed-carried : (c₀ l₀ : List ℕ) (r : Answer) (c l : List ℕ)
+        → Parsed (Parse g (rootTest roots) w) (λ p d i j f. Spells g w p f d i j) (arityIn kept) (length kept) (length w) c₀ l₀ r c l
+        → Parsed (Reading b w) (EntryList b w) (argumentCount b) (productions b) (length w) c₀ l₀ r c l
+    parsed-carried c₀ l₀ r c l h =
+        record {
+          chart = record {
+            long = h .chart .long;
+            cells = λ p d i j lp ld ij jw. subst (λ (n : ℕ). Counts (EntryList b w p d i j) (getD c (cellAt (length w) n i j) 0)) (row-same-arity (arityIn kept) (argumentCount b) (productions b) p d lp same-arity)
+                (counts-same (λ (f : Forest). Spells g w p f d i j) (EntryList b w p d i j) (getD c (cellAt (length w) (rowOf (arityIn kept) p d) i j) 0)
+                (λ f. book-lists b formed bytes counts chars subs tables w text p d i j lp ld ij jw f)
+                (h .chart .cells p d i j (omega (arith, same-count)) (omega (arith, same-arity p lp)) ij jw));
+            beyond = λ k m. h .chart .beyond k (omega (arith, same-rows, m));
+          };
+          answer = answered-same (Parse g (rootTest roots) w) (Reading b w) same-parses l₀ r l (h .answer);
+        }
+      where
+        same-rows : rowCount (arityIn kept) (length kept) * spanCount (length w) ≡ rowCount (argumentCount b) (productions b) * spanCount (length w)
+        same-rows =
+            ap (λ (m : ℕ). m * spanCount (length w))
+            (ap (λ (m : ℕ). rowCount (arityIn kept) m) same-count ∙ rows-same (arityIn kept) (argumentCount b) (productions b) same-arity)
