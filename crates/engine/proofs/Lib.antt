@@ -1,3 +1,4 @@
 -- Laws of the engine.
 pub mod RootLaws
 pub mod EngineLaws
+pub mod UniqueLaws
