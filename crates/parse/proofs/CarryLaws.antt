@@ -1,6 +1,6 @@
 -- The promise about the flat tables, carried to the grammar they come from.
 use Prim.Native.Nat.{ℕ, _+_, _*_, _/_, _%_, _≤_, _<_}
-use mathlib.Core.Path.{_≡_, sym, _∙_, ap, subst}
+use mathlib.Core.Path.{_≡_, sym, _∙_, ap, subst, subst⁻¹}
 use mathlib.Core.Bool.{Bool, false, true}
 use mathlib.Core.List.{List}
 use mathlib.Core.Logic.{_↔_, by-cases}
@@ -12,7 +12,8 @@ use borrow.Author.Tests.{eq-eqb, ne-eqb}
 use Rattle.ccg.specs.Tables.{slot, tableMay, subAt, subBytes, FlatTables}
 use Rattle.ccg.specs.Theory.{theoryOf, ParserTables}
 use Rattle.charset.specs.Set.{characters}
-use Rattle.chart.specs.Layout.{arityIn, rowOf, rowCount, spanCount, cellAt}
+use Rattle.chart.proofs.LayoutLaws.{rows-few}
+use Rattle.chart.specs.Layout.{rowLimit, arityIn, rowOf, rowCount, spanCount, cellAt}
 use Rattle.common.proofs.BelowLaws.{sum-same}
 use Rattle.common.specs.Below.{bitOf}
 use Rattle.engine.specs.Outcome.{Only, Answered, Parsed}
@@ -139,3 +140,26 @@ module _ (b : List ℕ) (formed : WellFormed b) (bytes : (k : ℕ) → getD b k 
         same-rows =
             ap (λ (m : ℕ). m * spanCount (length w))
             (ap (λ (m : ℕ). rowCount (arityIn kept) m) same-count ∙ rows-same (arityIn kept) (argumentCount b) (productions b) same-arity)
+
+-- ---- the same for as many counts as the code found productions
+
+module _ (b : List ℕ) (formed : WellFormed b) (bytes : (k : ℕ) → getD b k 0 < characters) (counts chars subs : List ℕ) (tables : FlatTables b counts chars subs)
+    (n : ℕ) (e : n ≡ productions b) where
+  pub cut-count : length (take n counts) ≡ n
+  cut-count = subst⁻¹ (λ (m : ℕ). length (take m counts) ≡ m) e (book-count b formed bytes counts chars subs tables)
+
+  pub cut-needed : (m : ℕ) → rowCount (arityIn (take n counts)) (length (take n counts)) * spanCount m ≡ needed b m
+  cut-needed m = subst⁻¹ (λ (k : ℕ). rowCount (arityIn (take k counts)) (length (take k counts)) * spanCount m ≡ needed b m) e (same-needed b formed bytes counts chars subs tables m)
+
+  pub cut-tables : ParserTables (take n counts) chars subs
+  cut-tables = subst⁻¹ (λ (k : ℕ). ParserTables (take k counts) chars subs) e (parser-tables b formed bytes counts chars subs tables)
+
+  pub cut-rows : rowCount (arityIn (take n counts)) (length (take n counts)) ≤ rowLimit
+  cut-rows = rows-few (arityIn (take n counts)) (length (take n counts)) (cut-tables .fewProductions) (cut-tables .fewArguments)
+
+  pub cut-parsed : (w : List ℕ) → ((k : ℕ) → getD w k 0 < characters) → (roots : List ℕ) → RootsAre b roots → (c₀ l₀ : List ℕ) (r : Answer) (c l : List ℕ)
+      → Parsed (Parse (theoryOf (take n counts) chars subs) (rootTest roots) w) (λ p d i j f. Spells (theoryOf (take n counts) chars subs) w p f d i j) (arityIn (take n counts)) (length (take n counts)) (length w) c₀ l₀ r c l
+      → Parsed (Reading b w) (EntryList b w) (argumentCount b) (productions b) (length w) c₀ l₀ r c l
+  cut-parsed w text roots ra c₀ l₀ r c l h =
+      parsed-carried b formed bytes counts chars subs tables w text roots ra c₀ l₀ r c l
+      (subst (λ (k : ℕ). Parsed (Parse (theoryOf (take k counts) chars subs) (rootTest roots) w) (λ p d i j f. Spells (theoryOf (take k counts) chars subs) w p f d i j) (arityIn (take k counts)) (length (take k counts)) (length w) c₀ l₀ r c l) e h)

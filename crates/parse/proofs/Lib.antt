@@ -1,3 +1,4 @@
 -- Laws of parsing.
 pub mod BookLaws
 pub mod CarryLaws
+pub mod OutcomeLaws

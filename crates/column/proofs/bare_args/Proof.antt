@@ -11,10 +11,6 @@ use Rattle.column.proofs.RowsLaws.{rows-zero, rows-same}
 use Rattle.common.specs.Below.{bitOf}
 use Rattle.column.proofs.bare_args.Statement.{statement}
 use Rattle.column.proofs.bare_args.Tie as tie
-use Rattle.column.proofs.bare_args.Reads as reads
-use Rattle.column.proofs.bare_args.Lts as lts
-use Rattle.column.proofs.char_row.Reads as char-row-reads
-use Rattle.chart.proofs.sums.zero_row.Reads as zero-row-reads
 
 add-if1 : tie.Need-add-if1
 add-if1 c = search needs

@@ -10,9 +10,6 @@ use Rattle.common.specs.Below.{bitOf}
 use Rattle.common.specs.Region.{Region}
 use Rattle.column.proofs.char_production.Statement.{statement}
 use Rattle.column.proofs.char_production.Tie as tie
-use Rattle.column.proofs.char_production.Reads as reads
-use Rattle.column.proofs.char_production.Lts as lts
-use Rattle.ccg.proofs.tables.slot_has.Reads as slot-has-reads
 
 Entry : List ℕ → ℕ → ℕ → ℕ → ℕ → Type 0
 Entry chars p character d v = v ≡ bitOf (slotHas chars (slot p d) character)

@@ -16,11 +16,6 @@ use Rattle.grammar.proofs.FormedLaws.{inside}
 use Rattle.theory.proofs.SoundLaws.{bit-small}
 use Rattle.column.proofs.char_row.Statement.{statement}
 use Rattle.column.proofs.char_row.Tie as tie
-use Rattle.column.proofs.char_row.Reads as reads
-use Rattle.column.proofs.char_row.Lts as lts
-use Rattle.column.proofs.char_production.Reads as char-production-reads
-use Rattle.chart.proofs.sums.zero_row.Reads as zero-row-reads
-use Rattle.grammar.proofs.layout.wide.Reads as wide-reads
 
 bits : (chars : List ℕ) (character p d : ℕ) → bitOf (slotHas chars (slot p d) character) ≤ 1
 bits chars character p d = bit-small (slotHas chars (slot p d) character)

@@ -9,11 +9,6 @@ use Rattle.common.proofs.BelowLaws.{sum-same}
 use Rattle.theory.specs.Steps.{cap}
 use Rattle.column.proofs.inner_sum.Statement.{statement}
 use Rattle.column.proofs.inner_sum.Tie as tie
-use Rattle.column.proofs.inner_sum.Reads as reads
-use Rattle.column.proofs.inner_sum.Lts as lts
-use Rattle.chart.proofs.layout.copy_row.Reads as copy-row-reads
-use Rattle.chart.proofs.sums.capped.Reads as capped-reads
-use Rattle.chart.proofs.sums.row_sum.Reads as row-sum-reads
 
 add-copy-row : tie.Need-add-copy-row
 add-copy-row c = search needs

@@ -12,9 +12,6 @@ use Rattle.common.specs.Below.{sumBelow}
 use Rattle.theory.specs.Steps.{cap}
 use Rattle.column.proofs.inner_sums.Statement.{statement}
 use Rattle.column.proofs.inner_sums.Tie as tie
-use Rattle.column.proofs.inner_sums.Reads as reads
-use Rattle.column.proofs.inner_sums.Lts as lts
-use Rattle.column.proofs.inner_sum.Reads as inner-sum-reads
 
 Sum : (chart column : List ℕ) (n i j : ℕ) → ℕ → ℕ → Type 0
 Sum chart column n i j r v = v ≡ cap (sumBelow (j - i - 1) (λ k. getD chart (cellAt n r i (i + 1 + k)) 0 * getD column (r * places + (i + 1 + k)) 0))

@@ -7,8 +7,6 @@ use Rattle.column.proofs.ScatteredLaws.{scattered-none, scattered-more}
 use Rattle.column.specs.Scattered.{Scattered}
 use Rattle.column.proofs.store_args.Statement.{statement}
 use Rattle.column.proofs.store_args.Tie as tie
-use Rattle.column.proofs.store_args.Reads as reads
-use Rattle.column.proofs.store_args.Lts as lts
 
 -- the places of two rows are apart
 apart : (i r k : ℕ) → k < r → k * 201 + i ≡ r * 201 + i → ⊥

@@ -12,9 +12,6 @@ use Rattle.column.specs.Scattered.{Scattered}
 use Rattle.grammar.proofs.FormedLaws.{inside}
 use Rattle.column.proofs.store_cells.Statement.{statement}
 use Rattle.column.proofs.store_cells.Tie as tie
-use Rattle.column.proofs.store_cells.Reads as reads
-use Rattle.column.proofs.store_cells.Lts as lts
-use Rattle.chart.proofs.layout.put.Reads as put-reads
 
 -- the cells of two rows are apart
 apart : (n i j r k : ℕ) → i ≤ j → j ≤ n → k < r → cellAt n k i j ≡ cellAt n r i j → ⊥

@@ -9,9 +9,6 @@ use Rattle.engine.proofs.RootLaws.{sum-on, sum-still}
 use Rattle.engine.specs.Roots.{rootTerm}
 use Rattle.engine.proofs.first_root.Statement.{statement}
 use Rattle.engine.proofs.first_root.Tie as tie
-use Rattle.engine.proofs.first_root.Reads as reads
-use Rattle.engine.proofs.first_root.Lts as lts
-use Rattle.engine.proofs.root_at.Reads as root-at-reads
 
 abbrev Inv-loop : tie.InvT-loop
 Inv-loop chart text counts bases roots p₀ here₀ p trees = (trees ≡ rootTerm counts roots text chart p) × (sumBelow p (rootTerm counts roots text chart) ≡ 0) × (p < length counts)

@@ -14,13 +14,6 @@ use Rattle.extract.specs.Places.{Bases}
 use Rattle.extract.specs.Written.{room}
 use Rattle.engine.proofs.parse_tables.Statement.{statement}
 use Rattle.engine.proofs.parse_tables.Tie as tie
-use Rattle.engine.proofs.parse_tables.Reads as reads
-use Rattle.engine.proofs.parse_tables.Lts as lts
-use Rattle.engine.proofs.first_root.Reads as first-root-reads
-use Rattle.engine.proofs.root_sum.Reads as root-sum-reads
-use Rattle.extract.proofs.row_bases.Reads as row-bases-reads
-use Rattle.extract.proofs.write_tree.Reads as write-tree-reads
-use Rattle.fill.proofs.fill.Reads as fill-reads
 
 -- the tables of the root are ready
 ready : (counts chars subs bases roots w chart : List ℕ) → ParserTables counts chars subs → Bases counts bases → length counts ≤ length roots → 1 ≤ length counts → length w ≤ textLimit

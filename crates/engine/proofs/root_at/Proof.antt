@@ -11,10 +11,6 @@ use Rattle.engine.specs.Roots.{rootTerm}
 use Rattle.extract.specs.Places.{cellOf}
 use Rattle.engine.proofs.root_at.Statement.{statement}
 use Rattle.engine.proofs.root_at.Tie as tie
-use Rattle.engine.proofs.root_at.Reads as reads
-use Rattle.engine.proofs.root_at.Lts as lts
-use Rattle.chart.proofs.layout.get.Reads as get-reads
-use Rattle.grammar.proofs.layout.wide.Reads as wide-reads
 
 -- a product of bytes
 product-few : {a b x y : ℕ} → a ≡ x → b ≡ y → x < 256 → y < 256 → a * b < 256 * 256

@@ -8,9 +8,6 @@ use Rattle.common.specs.Below.{sumBelow}
 use Rattle.engine.specs.Roots.{rootTerm}
 use Rattle.engine.proofs.root_sum.Statement.{statement}
 use Rattle.engine.proofs.root_sum.Tie as tie
-use Rattle.engine.proofs.root_sum.Reads as reads
-use Rattle.engine.proofs.root_sum.Lts as lts
-use Rattle.engine.proofs.root_at.Reads as root-at-reads
 
 abbrev Inv-loop : tie.InvT-loop
 Inv-loop chart text counts bases roots sum₀ p₀ sum p = (sum ≡ sumBelow p (rootTerm counts roots text chart)) × (sum ≤ p * (256 * 256)) × (p ≤ length counts)

@@ -11,16 +11,6 @@ use Rattle.chart.specs.Tests.{grammarOf}
 use Rattle.fill.proofs.FurtherLaws.{filled-counts, filled-beyond}
 use Rattle.fill.proofs.fill.Statement.{statement}
 use Rattle.fill.proofs.fill.Tie as tie
-use Rattle.fill.proofs.fill.Reads as reads
-use Rattle.fill.proofs.fill.Lts as lts
-use Rattle.chart.proofs.layout.row_count.Reads as row-count-reads
-use Rattle.chart.proofs.sums.zero_row.Reads as zero-row-reads
-use Rattle.empty.proofs.settle_empty.Reads as settle-empty-reads
-use Rattle.fill.proofs.fill_columns.Reads as fill-columns-reads
-use Rattle.fill.proofs.zero_column.Reads as zero-column-reads
-use Rattle.fill.proofs.zero_users.Reads as zero-users-reads
-use Rattle.fill.proofs.zero_uses.Reads as zero-uses-reads
-use Rattle.links.proofs.link.Reads as link-reads
 
 -- each of n ones is at least 1
 one-each : (n p : ℕ) → p < n → 1 ≤ getD (replicate n 1) p 0

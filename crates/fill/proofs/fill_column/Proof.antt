@@ -10,10 +10,6 @@ use Rattle.fill.proofs.FurtherLaws.{further-none, further-join, further
 use Rattle.fill.specs.Tables.{Further}
 use Rattle.fill.proofs.fill_column.Statement.{statement}
 use Rattle.fill.proofs.fill_column.Tie as tie
-use Rattle.fill.proofs.fill_column.Reads as reads
-use Rattle.fill.proofs.fill_column.Lts as lts
-use Rattle.column.proofs.store_cells.Reads as store-cells-reads
-use Rattle.fill.proofs.fill_span.Reads as fill-span-reads
 
 abbrev Inv-loop : tie.InvT-loop
 Inv-loop chart₀ text counts chars users uses wanted rows empty back column₀ j i₀ chart column i = Further counts chars users empty back text chart₀ column₀ j j chart column i j × (length chart ≡ length chart₀) × (length column ≡ length column₀) × (i ≤ j)

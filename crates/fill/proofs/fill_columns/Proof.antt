@@ -7,9 +7,6 @@ use Rattle.fill.proofs.FurtherLaws.{further-none, further-join, ready-k
 use Rattle.fill.specs.Tables.{Further}
 use Rattle.fill.proofs.fill_columns.Statement.{statement}
 use Rattle.fill.proofs.fill_columns.Tie as tie
-use Rattle.fill.proofs.fill_columns.Reads as reads
-use Rattle.fill.proofs.fill_columns.Lts as lts
-use Rattle.fill.proofs.fill_column.Reads as fill-column-reads
 
 abbrev Inv-loop : tie.InvT-loop
 Inv-loop chart₀ text counts chars users uses wanted rows empty back column₀ j₀ chart column j = Further counts chars users empty back text chart₀ column₀ 0 0 chart column j j × (length chart ≡ length chart₀) × (length column ≡ length column₀) × (j ≤ length text + 1)

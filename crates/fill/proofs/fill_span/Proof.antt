@@ -13,14 +13,6 @@ use Rattle.common.specs.Below.{bitOf}
 use Rattle.fill.proofs.FillSpanLaws.{zero-exact, zero-founded, span-further}
 use Rattle.fill.proofs.fill_span.Statement.{statement}
 use Rattle.fill.proofs.fill_span.Tie as tie
-use Rattle.fill.proofs.fill_span.Reads as reads
-use Rattle.fill.proofs.fill_span.Lts as lts
-use Rattle.chart.proofs.sums.zero_row.Reads as zero-row-reads
-use Rattle.column.proofs.bare_args.Reads as bare-args-reads
-use Rattle.column.proofs.inner_sums.Reads as inner-sums-reads
-use Rattle.column.proofs.store_args.Reads as store-args-reads
-use Rattle.column.proofs.store_cells.Reads as store-cells-reads
-use Rattle.span.proofs.settle.Reads as settle-reads
 
 zero-row-requires : tie.Need-zero-row-requires
 zero-row-requires c κs = search needs

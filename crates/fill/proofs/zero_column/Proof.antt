@@ -4,8 +4,6 @@ use Rattle.chart.specs.Layout.{places, rowLimit}
 use Rattle.common.proofs.ZeroLaws.{all-zero}
 use Rattle.fill.proofs.zero_column.Statement.{statement}
 use Rattle.fill.proofs.zero_column.Tie as tie
-use Rattle.fill.proofs.zero_column.Reads as reads
-use Rattle.fill.proofs.zero_column.Lts as lts
 
 returns : tie.Need-returns
 returns c = all-zero (rowLimit * places)

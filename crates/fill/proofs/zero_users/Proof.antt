@@ -3,8 +3,6 @@ use Rattle.common.proofs.ZeroLaws.{all-zero}
 use Rattle.span.specs.Tables.{userBytes}
 use Rattle.fill.proofs.zero_users.Statement.{statement}
 use Rattle.fill.proofs.zero_users.Tie as tie
-use Rattle.fill.proofs.zero_users.Reads as reads
-use Rattle.fill.proofs.zero_users.Lts as lts
 
 returns : tie.Need-returns
 returns c = all-zero userBytes

@@ -3,8 +3,6 @@ use Rattle.common.proofs.ZeroLaws.{all-zero}
 use Rattle.span.specs.Tables.{useBytes}
 use Rattle.fill.proofs.zero_uses.Statement.{statement}
 use Rattle.fill.proofs.zero_uses.Tie as tie
-use Rattle.fill.proofs.zero_uses.Reads as reads
-use Rattle.fill.proofs.zero_uses.Lts as lts
 
 returns : tie.Need-returns
 returns c = all-zero useBytes

@@ -3,8 +3,6 @@ use Rattle.chart.specs.Layout.{rowLimit}
 use Rattle.common.proofs.ZeroLaws.{all-zero}
 use Rattle.chart.proofs.sums.zero_row.Statement.{statement}
 use Rattle.chart.proofs.sums.zero_row.Tie as tie
-use Rattle.chart.proofs.sums.zero_row.Reads as reads
-use Rattle.chart.proofs.sums.zero_row.Lts as lts
 
 returns : tie.Need-returns
 returns c = all-zero rowLimit
