@@ -2,3 +2,4 @@
 pub mod BookLaws
 pub mod CarryLaws
 pub mod OutcomeLaws
+pub mod NumberLaws

@@ -1,0 +1,54 @@
+-- No answer is too large for a 64-bit number.
+use Prim.Native.Nat.{ℕ, _^_, min, _≤_, _<_}
+use mathlib.Core.Path.{_≡_, refl, sym, _∙_, ap, subst⁻¹}
+use mathlib.Core.List.{List}
+use mathlib.Core.Logic.{by-cases}
+use native.Mathlib.Omega.{arith}
+use native.Mathlib.Decide.{decLt}
+use lib.ListN.{length, take, drop, length-take, drop-of-length-le}
+use lib.Seq.{take-all}
+use Rattle.engine.specs.Outcome.{Answered}
+use Rattle.engine.specs.declared.Answer.{Answer}
+use Rattle.engine.specs.declared.Answer.the-variants.{Refused, None, One, Several}
+use Rattle.extract.specs.Written.{room}
+use Rattle.grammar.specs.declared.Verdict.{Verdict}
+use Rattle.grammar.specs.declared.Verdict.the-variants.{Accepted}
+use Rattle.meadowsink.specs.Viewer.{listingLimit, viewerNumber}
+use Rattle.parse.proofs.NumberLaws.{Numbered, refusal-numbered}
+use Rattle.parse.specs.Outcome.{refusal, AfterVerdict, Outcome}
+use Rattle.parse.specs.Reading.{Reading}
+use Rattle.theory.specs.Tree.{Tree}
+use Rattle.grammar.specs.declared.Verdict.the-variants.{Refused as Rejected}
+
+answered-fits : (P : Tree → Type 0) (l₀ : List ℕ) (r : Answer) (l : List ℕ) → length l₀ ≤ listingLimit → Answered P l₀ r l → viewerNumber r < 2 ^ 64
+unfolding Answered viewerNumber room
+answered-fits P l₀ None l h a = omega arith
+answered-fits P l₀ (One n) l h a = omega (arith, a .3)
+answered-fits P l₀ Several l h a = omega arith
+answered-fits P l₀ (Refused number place) l h a = omega (arith, a .2)
+
+after-fits : (b w c₀ l₀ : List ℕ) (r : Answer) (c l : List ℕ) (v : Verdict) → length l₀ ≤ listingLimit → Numbered v → AfterVerdict b w c₀ l₀ r c l v → viewerNumber r < 2 ^ 64
+unfolding AfterVerdict viewerNumber
+after-fits b w c₀ l₀ r c l Accepted h n a = answered-fits (Reading b w) l₀ r l h (a .answer)
+after-fits b w c₀ l₀ r c l (Rejected number place) h n a = subst⁻¹ (λ (x : Answer). viewerNumber x < 2 ^ 64) (a .0) (omega (arith, n .small number place refl))
+
+pub number-fits : (b w c₀ l₀ : List ℕ) (r : Answer) (c l : List ℕ) → length l₀ ≤ listingLimit → Outcome b w c₀ l₀ r c l → viewerNumber r < 2 ^ 64
+unfolding Outcome
+number-fits b w c₀ l₀ r c l h o = after-fits b w c₀ l₀ r c l (refusal b w c₀) h (refusal-numbered b w c₀) o
+
+-- ---- the part of the buffer that is used
+
+pub used-take : (l : List ℕ) (n : ℕ) → n ≡ min (length l) listingLimit → take n l ≡ take listingLimit l
+used-take l n e =
+    by-cases (decLt listingLimit (length l))
+    (λ h. let same : n ≡ listingLimit = omega arith in ap (λ (k : ℕ). take k l) same)
+    (λ h. take-all n l (omega arith) ∙ sym (take-all listingLimit l (omega arith)))
+
+pub used-drop : (l : List ℕ) (n : ℕ) → n ≡ min (length l) listingLimit → drop n l ≡ drop listingLimit l
+used-drop l n e =
+    by-cases (decLt listingLimit (length l))
+    (λ h. let same : n ≡ listingLimit = omega arith in ap (λ (k : ℕ). drop k l) same)
+    (λ h. drop-of-length-le l {i = n} (omega arith) ∙ sym (drop-of-length-le l {i = listingLimit} (omega arith)))
+
+pub used-length : (l : List ℕ) (n : ℕ) → n ≡ min (length l) listingLimit → (n ≡ length (take n l)) × (length (take n l) ≤ listingLimit)
+used-length l n e = (omega (arith, length-take n l), omega (arith, length-take n l))
