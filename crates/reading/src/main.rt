@@ -5,7 +5,7 @@ use libc::STDIN_FILENO;
 use libc::STDOUT_FILENO;
 use parse::parse;
 use report::print_refusal;
-ghost use Prim.Native.Nat.{_≤_, _<_};
+ghost use Prim.Native.Nat.{_+_, _≤_, _<_};
 ghost use lib.ListN.{length};
 
 fn main() {
@@ -42,6 +42,9 @@ fn print_word(word: &[u8]) {
 
 // The first `count` numbers of a listing, each behind a space: number by number, since the line may be longer than a buffer.
 fn print_listing(listing: &[u8], count: usize) {
+    if listing.len() / 2 < count {
+        return;
+    }
     print_word(b"one");
     let mut at = 0;
     while at < count {
@@ -51,13 +54,13 @@ fn print_listing(listing: &[u8], count: usize) {
     print_word(b"\n");
 }
 
-// The number at a place of the buffer, two bytes, low byte first; nothing beyond its end.
-fn print_number(listing: &[u8], at: usize) {
-    if at + 1 < listing.len() {
-        print_word(b" ");
-        io::print_decimal(
-            STDOUT_FILENO,
-            (listing[at] as u64) + 256 * (listing[at + 1] as u64),
-        );
-    }
+// The number at a place of the buffer: two bytes, low byte first.
+fn print_number(listing: &[u8], at: usize)
+    requires { ⌜ at + 1 < length (now listing) ⌝ }
+{
+    print_word(b" ");
+    io::print_decimal(
+        STDOUT_FILENO,
+        (listing[at] as u64) + 256 * (listing[at + 1] as u64),
+    );
 }
