@@ -13,7 +13,7 @@ use grammar::limits::ARGUMENT_LIMIT;
 ghost use mathlib.Core.Path.{_≡_};
 ghost use mathlib.Core.Bool.{Bool, true, false, _&&_};
 ghost use mathlib.Core.List.{List};
-ghost use Prim.Native.Nat.{ℕ, _+_, _-_, _*_, _<_, _≤_};
+ghost use Prim.Native.Nat.{ℕ, _+_, _-_, _*_, _<_, _≤_, max};
 ghost use lib.Dec.{eqb};
 ghost use lib.ListN.{length, getD};
 ghost use Rattle.common.specs.Below.{sumBelow, bitOf};
@@ -27,6 +27,29 @@ ghost use Rattle.column.specs.Rows.{RowsFilled};
 
 // The length of the table of arguments of a column.
 pub const COLUMN: usize = ROW_LIMIT * PLACES;
+
+// The largest of `count` bytes from `at` on.
+fn largest(bytes: &[u8], at: usize, count: usize) -> u8
+    requires { ⌜ (at + count ≤ length (now bytes)) × (count ≤ textLimit) ⌝ }
+    ensures { λ r. ⌜ ((k : ℕ) → k < count → getD (now (bytes .entry)) (at + k) 0 ≤ r) ⌝ }
+{
+    let mut most = 0;
+    let mut k = 0;
+    while k < count {
+        most = larger(most, bytes[at + k]);
+        k += 1;
+    }
+    most
+}
+
+fn larger(a: u8, b: u8) -> u8
+    ensures { λ r. ⌜ r ≡ max a b ⌝ }
+{
+    if a < b {
+        return b;
+    }
+    a
+}
 
 // How many lists of trees of a row have their last split strictly between i and j: 0, 1, or 2 for more.
 fn inner_sum(
@@ -42,6 +65,10 @@ fn inner_sum(
     requires { ⌜ ((row + 1) * spanCount n ≤ length (now chart)) × (length (now column) ≡ rowLimit * places) × (length (now buffer) ≡ places) ⌝ }
     ensures { λ r. ⌜ r ≡ cap (sumBelow (j - i - 1) (λ k. getD (now (chart .entry)) (cellAt n row i (i + 1 + k)) 0 * getD (now (column .entry)) (row * places + (i + 1 + k)) 0)) ⌝ }
 {
+    // where no next argument ends at j, the cells of the row need not be fetched
+    if largest(column, row * PLACES + i + 1, j - i - 1) == 0 {
+        return 0;
+    }
     copy_row(chart, n, row, i, i + 1, j - i - 1, buffer);
     capped(row_sum(buffer, column, row * PLACES + i + 1, j - i - 1))
 }
