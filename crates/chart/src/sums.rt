@@ -1,7 +1,7 @@
 // The one inner loop of filling a chart, the cap, and an empty row table.
 use crate::layout::ROW_LIMIT;
 ghost use mathlib.Core.Path.{_≡_};
-ghost use Prim.Native.Nat.{ℕ, _+_, _*_, _≤_};
+ghost use Prim.Native.Nat.{ℕ, _+_, _*_, _≤_, max};
 ghost use lib.ListN.{length, getD};
 ghost use Rattle.common.specs.Below.{sumBelow};
 ghost use Rattle.theory.specs.Steps.{cap};
@@ -33,6 +33,15 @@ pub fn capped(n: usize) -> u8
         return 1;
     }
     2
+}
+
+pub fn larger(a: u8, b: u8) -> u8
+    ensures { λ r. ⌜ r ≡ max a b ⌝ }
+{
+    if a < b {
+        return b;
+    }
+    a
 }
 
 // A zero for each row.

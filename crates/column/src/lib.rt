@@ -6,6 +6,7 @@ use chart::layout::ROW_LIMIT;
 use chart::layout::copy_row;
 use chart::layout::put;
 use chart::sums::capped;
+use chart::sums::larger;
 use chart::sums::row_sum;
 use chart::sums::zero_row;
 use grammar::layout::wide;
@@ -13,7 +14,7 @@ use grammar::limits::ARGUMENT_LIMIT;
 ghost use mathlib.Core.Path.{_≡_};
 ghost use mathlib.Core.Bool.{Bool, true, false, _&&_};
 ghost use mathlib.Core.List.{List};
-ghost use Prim.Native.Nat.{ℕ, _+_, _-_, _*_, _<_, _≤_, max};
+ghost use Prim.Native.Nat.{ℕ, _+_, _-_, _*_, _<_, _≤_};
 ghost use lib.Dec.{eqb};
 ghost use lib.ListN.{length, getD};
 ghost use Rattle.common.specs.Below.{sumBelow, bitOf};
@@ -40,15 +41,6 @@ fn largest(bytes: &[u8], at: usize, count: usize) -> u8
         k += 1;
     }
     most
-}
-
-fn larger(a: u8, b: u8) -> u8
-    ensures { λ r. ⌜ r ≡ max a b ⌝ }
-{
-    if a < b {
-        return b;
-    }
-    a
 }
 
 // How many lists of trees of a row have their last split strictly between i and j: 0, 1, or 2 for more.

@@ -1,9 +1,9 @@
 // Turns the flat table of productions round: for each production, the rows that take it as their next argument, and the productions that have such a row.
 use chart::layout::ROW_LIMIT;
+use chart::sums::larger;
 use grammar::layout::wide;
 use grammar::limits::ARGUMENT_LIMIT;
 use grammar::limits::PRODUCTION_LIMIT;
-use span::larger;
 ghost use mathlib.Core.Path.{_≡_};
 ghost use mathlib.Core.Bool.{Bool, true, false};
 ghost use mathlib.Core.List.{List};

@@ -5,6 +5,7 @@
 // `inner` counts, for each row, the splits within the span; `front` the cells of the empty span at its start; `back` the arguments of the empty span at its end.
 use chart::layout::ROW_LIMIT;
 use chart::sums::capped;
+use chart::sums::larger;
 use grammar::layout::wide;
 use grammar::limits::PRODUCTION_LIMIT;
 ghost use mathlib.Core.Path.{_≡_};
@@ -21,15 +22,6 @@ ghost use Rattle.span.specs.Tables.{spanOf, advanced, Exact, Founded, Li
 pub const USERS: usize = PRODUCTION_LIMIT * ROW_LIMIT;
 // The length of the table of uses.
 pub const USES: usize = PRODUCTION_LIMIT * PRODUCTION_LIMIT;
-
-pub fn larger(a: u8, b: u8) -> u8
-    ensures { λ r. ⌜ r ≡ max a b ⌝ }
-{
-    if a < b {
-        return b;
-    }
-    a
-}
 
 fn smaller(a: u8, b: u8) -> u8
     ensures { λ r. ⌜ r ≡ min a b ⌝ }
