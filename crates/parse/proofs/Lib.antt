@@ -1,4 +1,5 @@
 -- Laws of parsing.
+pub mod TestsLaws
 pub mod BookLaws
 pub mod CarryLaws
 pub mod OutcomeLaws

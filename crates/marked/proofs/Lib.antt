@@ -1,0 +1,5 @@
+-- The marked cases hold.
+
+pub mod CaseTests
+pub mod CaseLaws
+pub mod Marked

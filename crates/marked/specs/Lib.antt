@@ -1,0 +1,2 @@
+-- The marked cases.
+pub mod Cases
