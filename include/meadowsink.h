@@ -26,7 +26,15 @@ extern "C" {
  *            258 + r for rule r, or a character, a rule before its arguments. Bytes beyond them are as they were.
  *   kind 2   two parses or more; the value is 0.
  *   kind 3   refused; the value is the number of the refusal:
- *            1 to 9   the book is not a grammar (README.md says where each number comes from),
+ *            1        the book is too short for its header or for its counts,
+ *            2        a byte of its header is out of range,
+ *            3        a rule has more than 8 arguments or a class more than 16 ranges,
+ *            4        the book's length is not the one its counts call for,
+ *            5        a result or argument names nothing,
+ *            6        a range has its low end above its high end,
+ *            7        a declaration has no such kind or names no rule,
+ *            8        two rules are equal,
+ *            9        a rule is ranked above itself,
  *            10       the text has more than 200 bytes,
  *            20       the chart is too short: it needs A * (n + 1) * (n + 2) / 2 bytes, where n is the length of the text and A the sum, over all
  *                     rules, of the number of arguments + 1,

@@ -62,6 +62,7 @@ pub fn get(chart: &[u8], n: usize, row: usize, i: usize, j: usize) -> u8
     chart[cell_at(n, row, i, j)]
 }
 
+// Sets that cell.
 pub fn put(chart: &mut [u8], n: usize, row: usize, i: usize, j: usize, value: u8)
     requires { ⌜ (n ≤ textLimit) × (row < rowLimit) × (i ≤ j) × (j ≤ n) ⌝ }
     requires { ⌜ (row + 1) * spanCount n ≤ length (now chart) ⌝ }

@@ -1,3 +1,3 @@
-// The chart: where a cell stands, and how all cells are filled.
+// The chart: where a cell stands, and the sums over its rows.
 pub mod layout;
 pub mod sums;

@@ -35,6 +35,7 @@ pub fn capped(n: usize) -> u8
     2
 }
 
+// The larger of two bytes.
 pub fn larger(a: u8, b: u8) -> u8
     ensures { λ r. ⌜ r ≡ max a b ⌝ }
 {

@@ -91,8 +91,8 @@ module _ (counts chars subs roots w : List ℕ) (bits : (k : ℕ) → getD roots
     answered-long place e h =
         let zeroth : room l₀ - 0 ≡ room l₀ = omega arith in
         (node p f, only, refl, e, omega (arith, written .next), written .wrote ∙ ap (λ (n : ℕ). sets l₀ 0 (joined twoBytes (take n (listing (node p f))))) zeroth)
-    -- the cell that the tree is written from is not 0
 
+  -- the cell that the tree is written from is not 0
   pub root-cell : (p : ℕ) → 1 ≤ rootTerm counts roots w chart p → 1 ≤ cellOf counts w chart p (getD counts p 0) 0 (length w)
   unfolding rootTerm
   root-cell p h = product-one (getD roots p 0) (cellOf counts w chart p (getD counts p 0) 0 (length w)) h .1

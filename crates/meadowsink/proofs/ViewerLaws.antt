@@ -1,7 +1,7 @@
--- No answer is too large for a 64-bit number.
+-- Laws of the viewer's call: no answer is too large for a 64-bit number, and the promise determines the outcome.
 use Prim.Native.Nat.{ℕ, _^_, min, _≤_, _<_}
 use mathlib.Core.Path.{_≡_, refl, sym, _∙_, ap, subst⁻¹}
-use mathlib.Core.List.{List}
+use mathlib.Core.List.{List, _++_}
 use mathlib.Core.Logic.{by-cases}
 use native.Mathlib.Omega.{arith}
 use native.Mathlib.Decide.{decLt}
@@ -13,8 +13,9 @@ use Rattle.engine.specs.declared.Answer.the-variants.{Refused, None, One, Sever
 use Rattle.extract.specs.Written.{room}
 use Rattle.grammar.specs.declared.Verdict.{Verdict}
 use Rattle.grammar.specs.declared.Verdict.the-variants.{Accepted}
-use Rattle.meadowsink.specs.Viewer.{listingLimit, viewerNumber}
+use Rattle.meadowsink.specs.Viewer.{listingLimit, viewerNumber, ViewerOutcome}
 use Rattle.parse.proofs.NumberLaws.{Numbered, refusal-numbered}
+use Rattle.parse.proofs.OutcomeLaws.{outcome-unique}
 use Rattle.parse.specs.Outcome.{refusal, AfterVerdict, Outcome}
 use Rattle.parse.specs.Reading.{Reading}
 use Rattle.theory.specs.Tree.{Tree}
@@ -52,3 +53,14 @@ used-drop l n e =
 
 pub used-length : (l : List ℕ) (n : ℕ) → n ≡ min (length l) listingLimit → (n ≡ length (take n l)) × (length (take n l) ≤ listingLimit)
 used-length l n e = (omega (arith, length-take n l), omega (arith, length-take n l))
+
+-- ---- the outcome
+
+-- For one input, two outcomes that meet the promise have the same number and the same bytes.
+pub viewer-unique : (b w c₀ l₀ : List ℕ) (r r′ : ℕ) (c c′ l l′ : List ℕ) → ViewerOutcome b w c₀ l₀ r c l → ViewerOutcome b w c₀ l₀ r′ c′ l′ → (r ≡ r′) × (c ≡ c′) × (l ≡ l′)
+viewer-unique b w c₀ l₀ r r′ c c′ l l′ h k =
+    let (answers, charts, parts) = outcome-unique b w c₀ (take listingLimit l₀) (h .answer) (k .answer) c c′ (h .used) (k .used) (h .outcome) (k .outcome) in (
+      h .number ∙ ap viewerNumber answers ∙ sym (k .number),
+      charts,
+      h .listing ∙ ap (λ (part : List ℕ). part ++ drop listingLimit l₀) parts ∙ sym (k .listing),
+    )

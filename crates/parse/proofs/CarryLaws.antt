@@ -65,11 +65,12 @@ module _ (b : List ℕ) (formed : WellFormed b) (bytes : (k : ℕ) → getD b k 
   same-arity : (p : ℕ) → p < productions b → arityIn kept p ≡ argumentCount b p
   same-arity p l = book-arity b formed bytes counts chars subs tables p l
 
+  same-rows : rowCount (arityIn kept) (length kept) ≡ rowCount (argumentCount b) (productions b)
+  same-rows = ap (λ (m : ℕ). rowCount (arityIn kept) m) same-count ∙ rows-same (arityIn kept) (argumentCount b) (productions b) same-arity
+
   pub same-needed : (n : ℕ) → rowCount (arityIn kept) (length kept) * spanCount n ≡ needed b n
   unfolding needed
-  same-needed n =
-      ap (λ (m : ℕ). m * spanCount n)
-      (ap (λ (m : ℕ). rowCount (arityIn kept) m) same-count ∙ rows-same (arityIn kept) (argumentCount b) (productions b) same-arity)
+  same-needed n = ap (λ (m : ℕ). m * spanCount n) same-rows
 
   -- every byte of the table of productions is 0 or 1
   subs-bits : (k : ℕ) → getD subs k 0 ≤ 1
@@ -131,15 +132,10 @@ module _ (b : List ℕ) (formed : WellFormed b) (bytes : (k : ℕ) → getD b k 
                 (counts-same (λ (f : Forest). Spells g w p f d i j) (EntryList b w p d i j) (getD c (cellAt (length w) (rowOf (arityIn kept) p d) i j) 0)
                 (λ f. book-lists b formed bytes counts chars subs tables w text p d i j lp ld ij jw f)
                 (h .chart .cells p d i j (omega (arith, same-count)) (omega (arith, same-arity p lp)) ij jw));
-            beyond = λ k m. h .chart .beyond k (omega (arith, same-rows, m));
+            beyond = λ k m. h .chart .beyond k (omega (arith, ap (λ (x : ℕ). x * spanCount (length w)) same-rows, m));
           };
           answer = answered-same (Parse g (rootTest roots) w) (Reading b w) same-parses l₀ r l (h .answer);
         }
-      where
-        same-rows : rowCount (arityIn kept) (length kept) * spanCount (length w) ≡ rowCount (argumentCount b) (productions b) * spanCount (length w)
-        same-rows =
-            ap (λ (m : ℕ). m * spanCount (length w))
-            (ap (λ (m : ℕ). rowCount (arityIn kept) m) same-count ∙ rows-same (arityIn kept) (argumentCount b) (productions b) same-arity)
 
 -- ---- the same for as many counts as the code found productions
 
