@@ -1,8 +1,8 @@
--- The character class grammar that the tables of a grammar hold has the text of the grammar's own.
-use Prim.Native.Nat.{ℕ, zero, suc, _+_, _-_, _≤_, _<_}
-use mathlib.Core.Path.{_≡_, refl, sym, _∙_, ap}
+-- The character class grammar that the tables of a grammar hold is the grammar's own.
+use Prim.Native.Nat.{ℕ, _+_, _-_, _≤_, _<_}
+use mathlib.Core.Path.{_≡_, refl, sym, _∙_, ap, fun-ext}
 use mathlib.Core.Bool.{Bool, false, true, and-false}
-use mathlib.Core.List.{List, [], _∷_, _++_}
+use mathlib.Core.List.{List}
 use mathlib.Core.Logic.{⊎-elim, by-cases}
 use native.Mathlib.Omega.{arith}
 use native.Mathlib.Decide.{decLt}
@@ -10,16 +10,14 @@ use lib.Dec.{leb, ltb, eqb}
 use lib.ListN.{getD}
 use borrow.Author.Tests.{leb-true, lt-ltb, le-ltb, le-leb, lt-leb}
 use Rattle.ccg.proofs.FlatLaws.{class-small, flat-of-class, flat-of-sort}
-use Rattle.ccg.proofs.TextLaws.{class-text-same}
 use Rattle.ccg.specs.Flat.{isProduction, mayStand, flatClass, flatLine, flatGrammar}
 use Rattle.ccg.specs.Tables.{slot, tableMay, tableHas, tableCount, subAt, slotHas, FlatTables, tableClass, slotLine, tableLine, tableGrammar}
-use Rattle.ccg.specs.Text.{classText, argumentsText, lineText, grammarText}
+use Rattle.ccg.specs.Text.{grammarText}
 use Rattle.ccg.specs.Trees.{isClass, classHas}
 use Rattle.charset.specs.Set.{characters}
 use Rattle.common.proofs.BoolLaws.{and-first-true, true-or-false}
-use Rattle.common.proofs.ListLaws.{joined-append, joined-one}
+use Rattle.common.proofs.ListLaws.{tabulate-same}
 use Rattle.common.specs.Below.{bitOf}
-use Rattle.common.specs.Lists.{tabulate, joined}
 use Rattle.grammar.specs.Formed.{WellFormed}
 use Rattle.grammar.specs.Layout.{sorts, productions, classes, argumentCount, argument}
 use Rattle.grammar.specs.Limits.{classBase}
@@ -33,13 +31,17 @@ module _ (chars subs : List ℕ) (s : ℕ) where
   table-of-character n l = rw (lt-ltb n characters l) refl
 
   -- no number between the characters and the productions
-  table-between : (n : ℕ) → characters ≤ n → n < 258 → tableClass chars subs s n ≡ false
+  pub table-between : (n : ℕ) → characters ≤ n → n < 258 → tableClass chars subs s n ≡ false
   unfolding tableClass
   table-between n l h = rw (le-ltb n characters l, lt-leb 258 n h) refl
 
   pub table-of-production : (n : ℕ) → 258 ≤ n → n < 322 → tableClass chars subs s n ≡ eqb (getD subs (subAt s (n - 258)) 0) 1
   unfolding tableClass
   table-of-production n l h = rw (le-ltb n characters (omega arith), le-leb 258 n l, lt-ltb n 322 h) refl
+
+  table-above : (n : ℕ) → 322 ≤ n → tableClass chars subs s n ≡ false
+  unfolding tableClass
+  table-above n l = rw (le-ltb n characters (omega arith), le-leb 258 n (omega arith), le-ltb n 322 l) refl
 
   pub table-class-characters : tableClass chars subs s characters ≡ false
   table-class-characters = table-between characters (omega arith) (omega arith)
@@ -105,48 +107,52 @@ module _ (b : List ℕ) (w : WellFormed b) (bytes : (k : ℕ) → getD b k 0 < c
       (λ e. flat-of-sort b p i n e ∙ rw (is-there n l) refl)
       (true-or-false (isClass b (argument b p i)))
 
+  -- no number is above the productions
+  flat-above : (n : ℕ) → 322 ≤ n → flatClass b p i n ≡ false
+  unfolding isProduction
+  flat-above n l =
+      ⊎-elim
+      (λ e. flat-of-class b p i n e ∙ class-no-production n (omega arith))
+      (λ e. flat-of-sort b p i n e ∙ rw (le-leb 258 n (omega arith), le-ltb n (258 + productions b) (omega (arith, w .framed .fewProductions))) refl)
+      (true-or-false (isClass b (argument b p i)))
+
   module _ (counts chars subs : List ℕ) (t : FlatTables b counts chars subs) where
     -- the class of the slot and the class of the argument agree
-    table-class : (n : ℕ) → n < 322 → tableClass chars subs (slot p i) n ≡ flatClass b p i n
-    table-class n h =
+    table-class : (n : ℕ) → tableClass chars subs (slot p i) n ≡ flatClass b p i n
+    table-class n =
         let p64 : p < 64 = omega (arith, w .framed .fewProductions) in
         let i8 : i < 8 = omega (arith, w .framed .fewArguments p lp) in
         by-cases (decLt n characters)
         (λ l. table-of-character chars subs (slot p i) n l ∙ t .charsAre p i n p64 i8 l ∙ sym (flat-of-character n l))
         (λ m. by-cases (decLt n 258)
         (λ l. table-between chars subs (slot p i) n (omega arith) l ∙ sym (flat-between n (omega arith) l))
-        (λ l. table-of-production chars subs (slot p i) n (omega arith) h
+        (λ m₂. by-cases (decLt n 322)
+        (λ l. table-of-production chars subs (slot p i) n (omega arith) l
         ∙ ap (λ (v : ℕ). eqb v 1) (t .subsAre p i (n - 258) p64 i8 (omega arith))
         ∙ bit-of (tableMay b p i (n - 258))
-        ∙ sym (flat-of-production n (omega arith))))
+        ∙ sym (flat-of-production n (omega arith)))
+        (λ m₃. table-above chars subs (slot p i) n (omega arith) ∙ sym (flat-above n (omega arith)))))
 
--- ---- texts
-
--- lists made of functions that give the same texts have the same text
-tabulate-text : {A : Type 0} (text : A → List ℕ) (n : ℕ) (f g : ℕ → A) → ((k : ℕ) → k < n → text (f k) ≡ text (g k)) → joined text (tabulate n f) ≡ joined text (tabulate n g)
-unfolding tabulate
-tabulate-text text zero f g h = refl
-tabulate-text text (suc n) f g h =
-    rw (joined-append text (tabulate n f) (f n ∷ []), joined-append text (tabulate n g) (g n ∷ []), joined-one text (f n), joined-one text (g n))
-    (rw (tabulate-text text n f g (λ k l. h k (omega arith)), h n (omega arith)) refl)
+-- ---- the whole grammar
 
 module _ (b counts chars subs : List ℕ) (w : WellFormed b) (bytes : (k : ℕ) → getD b k 0 < characters) (t : FlatTables b counts chars subs) where
   count-is : (p : ℕ) → p < productions b → getD counts p 0 ≡ argumentCount b p
   unfolding tableCount
   count-is p l = t .countsAre p (omega (arith, w .framed .fewProductions)) ∙ rw (lt-ltb p (productions b) l) refl
 
-  arguments-text : (p : ℕ) → p < productions b
-      → argumentsText (tabulate (argumentCount b p) (λ i. tableClass chars subs (slot p i))) ≡ argumentsText (tabulate (argumentCount b p) (flatClass b p))
-  unfolding argumentsText
-  arguments-text p l =
-      tabulate-text (λ cc. classText cc ++ (32 ∷ [])) (argumentCount b p) (λ i. tableClass chars subs (slot p i)) (flatClass b p)
-      (λ i m. ap (λ (x : List ℕ). x ++ (32 ∷ [])) (class-text-same (tableClass chars subs (slot p i)) (flatClass b p i) (table-class b w bytes p i l m counts chars subs t)))
+  table-line : (p : ℕ) → p < productions b → tableLine counts chars subs p ≡ flatLine b p
+  unfolding tableLine slotLine flatLine
+  table-line p l =
+      rw (
+        count-is p l,
+        tabulate-same (argumentCount b p) (λ i. tableClass chars subs (slot p i)) (flatClass b p) (λ i m. fun-ext (table-class b w bytes p i l m counts chars subs t)),
+      ) refl
 
-  line-text : (p : ℕ) → p < productions b → lineText (tableLine counts chars subs p) ≡ lineText (flatLine b p)
-  unfolding lineText tableLine slotLine flatLine
-  line-text p l = rw (count-is p l, arguments-text p l) refl
+  -- the tables of a grammar hold its character class grammar
+  pub table-grammar : tableGrammar (productions b) counts chars subs ≡ flatGrammar b
+  unfolding tableGrammar flatGrammar
+  table-grammar = tabulate-same (productions b) (tableLine counts chars subs) (flatLine b) table-line
 
-  -- the tables of a grammar hold its text
+  -- and its text
   pub table-text : grammarText (tableGrammar (productions b) counts chars subs) ≡ grammarText (flatGrammar b)
-  unfolding grammarText tableGrammar flatGrammar
-  table-text = tabulate-text lineText (productions b) (tableLine counts chars subs) (flatLine b) line-text
+  table-text = ap grammarText table-grammar

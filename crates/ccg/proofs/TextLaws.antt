@@ -12,7 +12,7 @@ use lib.ListN.{length, getD, length-append, List·getD-append}
 use borrow.Author.Tests.{lt-ltb, le-ltb, eq-eqb}
 use Rattle.ccg.specs.Ccg.{Class, Line, noLine, noClass}
 use Rattle.ccg.specs.Text.{decimal, numeral, rangeText, classText, argumentsText, resultText, lineText, grammarText}
-use Rattle.charset.proofs.RunLaws.{runs-skip, runs-same, runs-split, runs-one, Bounded, runs-count, runs-bound}
+use Rattle.charset.proofs.RunLaws.{runs-skip, runs-split, runs-one, Bounded, runs-count, runs-bound}
 use Rattle.charset.specs.Runs.{Range, range, runs}
 use Rattle.charset.specs.Set.{characters}
 use Rattle.common.proofs.ListLaws.{length-tabulate, getD-tabulate, joined-append, joined-one}
@@ -136,11 +136,6 @@ one-range-text n = rw (eq-eqb n n refl) refl
 pub one-text : (n : ℕ) → n < 322 → classText (eqb n) ≡ 91 ∷ 92 ∷ (numeral n ++ (93 ∷ []))
 unfolding classText
 one-text n h = rw (runs-one n 0 322 (omega arith) (omega arith), joined-one rangeText (range n n), one-range-text n) refl
-
--- classes that agree below the limit of numbers have the same text
-pub class-text-same : (f g : Class) → ((n : ℕ) → n < 322 → f n ≡ g n) → classText f ≡ classText g
-unfolding classText
-class-text-same f g h = rw (runs-same f g 0 322 (λ k l m. h k (omega arith))) refl
 
 -- ---- how long a text is
 

@@ -1,0 +1,243 @@
+-- What checking a listing answers, over the grammar's own trees: right exactly if the numbers are the listing of a parse of the text; what parsing answers with one
+-- is found right; and each refusal is given only under its condition.
+use Prim.Native.Nat.{ℕ, _+_, _*_, _/_, _%_, _≤_, _<_}
+use mathlib.Core.Path.{_≡_, refl, sym, _∙_, ap, subst⁻¹}
+use mathlib.Core.Bool.{_||_}
+use mathlib.Core.List.{List, [], _∷_, _++_}
+use mathlib.Core.Logic.{_↔_, _⊎_, inl, inr, ⊎-elim}
+use native.Mathlib.Omega.{arith}
+use lib.Dec.{ltb, eqb}
+use lib.ListN.{length, getD, take, drop, length-append}
+use lib.Seq.{take-at, sets, sets-eq}
+use borrow.Author.Tests.{ltb-true, eqb-true, le-ltb, ne-eqb}
+use Rattle.ccg.proofs.FlatLaws.{flat-length, flat-result, flat-trees}
+use Rattle.ccg.specs.Ccg.{Class, Line}
+use Rattle.ccg.specs.Flat.{flatGrammar, plainClass}
+use Rattle.charset.specs.Set.{characters}
+use Rattle.chart.specs.Layout.{textLimit}
+use Rattle.common.proofs.BoolLaws.{or-cases, true-or-false}
+use Rattle.common.specs.Lists.{joined}
+use Rattle.engine.specs.Outcome.{Answered}
+use Rattle.engine.specs.declared.Answer.the-variants.{One}
+use Rattle.extract.specs.Written.{twoBytes, room}
+use Rattle.grammar.proofs.VerdictLaws.{and-first, and-second, refuse-case, FirstIn, here, there, order-first}
+use Rattle.grammar.specs.Formed.{WellFormed}
+use Rattle.grammar.specs.Layout.{startSort}
+use Rattle.grammar.specs.Verdict.{andThen, inOrder, unlessRefused}
+use Rattle.grammar.specs.declared.Verdict.{Verdict}
+use Rattle.grammar.specs.declared.Verdict.the-variants.{Accepted}
+use Rattle.listing.proofs.TreeLaws.{Numbered, judge-right}
+use Rattle.listing.specs.Answer.{byteLimit, badListing, judged, afterVerdict, listingAnswer}
+use Rattle.listing.specs.Judge.{isRight, dueAfter, textAfter, judge}
+use Rattle.listing.specs.Numbers.{numbersOf}
+use Rattle.listing.specs.declared.ListingAnswer.{ListingAnswer}
+use Rattle.listing.specs.declared.ListingAnswer.the-variants.{Right, Wrong, Refused}
+use Rattle.parse.specs.Outcome.{tooLong, tooShort, refusal, AfterVerdict, Outcome}
+use Rattle.parse.specs.Reading.{Reading}
+use Rattle.priority.proofs.CheckLaws.{accepted-formed}
+use Rattle.priority.proofs.RefusalLaws.{refused-holds}
+use Rattle.priority.specs.Check.{checked}
+use Rattle.priority.specs.Table.{Holds, refusal1, refusal1′, refusal2, refusal3, refusal4, refusal5, refusal6, refusal7, refusal8, refusal9}
+use Rattle.theory.specs.Tree.{Tree, listing}
+use Rattle.grammar.specs.declared.Verdict.the-variants.{Refused as Rejected}
+
+-- ---- bytes and numbers
+
+-- two bytes to a number
+bytes-long : (ns : List ℕ) → length (joined twoBytes ns) ≡ 2 * length ns
+unfolding joined twoBytes
+bytes-long [] = refl
+bytes-long (n ∷ ns) = omega (arith, bytes-long ns, length-append (twoBytes n) (joined twoBytes ns))
+
+-- what is written of numbers is read as these numbers
+pub numbers-joined : (ns : List ℕ) → numbersOf (joined twoBytes ns) ≡ ns
+unfolding numbersOf joined twoBytes
+numbers-joined [] = refl
+numbers-joined (n ∷ ns) = let e : n % 256 + 256 * (n / 256) ≡ n = omega arith in rw (numbers-joined ns, e) refl
+
+-- ---- right
+
+flat-numbered : (b : List ℕ) → Numbered (flatGrammar b)
+flat-numbered b = record { own = λ p l. flat-result b p (omega (arith, flat-length b)) }
+
+module _ (b : List ℕ) (formed : WellFormed b) (bytes : (k : ℕ) → getD b k 0 < characters) (w l : List ℕ) where
+  right-reading : judged b w l ≡ Right → (t : Tree) × Reading b w t × (listing t ≡ numbersOf l)
+  unfolding judged
+  right-reading e =
+      let (t, tree, list, spells) = judge-right (flatGrammar b) (flat-numbered b) (plainClass b (startSort b)) (numbersOf l) w .0 e in
+      let (built, free) = flat-trees b formed bytes (startSort b) t .1 tree in
+      (t, record { built = built; free = free; spells = spells }, list)
+
+  reading-right : (t : Tree) → Reading b w t → listing t ≡ numbersOf l → judged b w l ≡ Right
+  unfolding judged
+  reading-right t r list =
+      judge-right (flatGrammar b) (flat-numbered b) (plainClass b (startSort b)) (numbersOf l) w .1
+      (t, flat-trees b formed bytes (startSort b) t .0 (r .built, r .free), list, r .spells)
+
+-- For a well-formed grammar the numbers are found right exactly if they are the listing of a parse of the text.
+pub judged-right : (b : List ℕ) → WellFormed b → ((k : ℕ) → getD b k 0 < characters) → (w l : List ℕ)
+    → (judged b w l ≡ Right) ↔ ((t : Tree) × Reading b w t × (listing t ≡ numbersOf l))
+judged-right b formed bytes w l = ((λ e. right-reading b formed bytes w l e), (λ h. reading-right b formed bytes w l (h .0) (h .1) (h .2)))
+
+-- ---- the whole answer
+
+refused-not-right : {A : Type 0} (n p : ℕ) → Refused n p ≡ Right → A
+refused-not-right n p e = let z : _≡_ {A = ℕ} 0 1 = cc in absurd (omega arith)
+
+-- an answer that is "right" is no refusal
+accepted-if-right : (v : Verdict) (a : ListingAnswer) → unlessRefused Refused v a ≡ Right → (v ≡ Accepted) × (a ≡ Right)
+accepted-if-right Accepted a e = (refl, e)
+accepted-if-right (Rejected n p) a e = refused-not-right n p e
+
+module _ (b w l : List ℕ) where
+  -- the refusals, in order
+  abbrev refusals : Verdict
+  refusals = inOrder (checked b ∷ tooLong w ∷ badListing l ∷ [])
+
+  -- without a refusal the numbers decide, and the grammar is well-formed
+  answer-judged : refusals ≡ Accepted → listingAnswer b w l ≡ judged b w l
+  unfolding listingAnswer afterVerdict
+  answer-judged e = ap (λ (v : Verdict). unlessRefused Refused v (judged b w l)) e
+
+  refusals-formed : refusals ≡ Accepted → WellFormed b
+  refusals-formed e = accepted-formed b (and-first (checked b) (andThen (tooLong w) (badListing l)) e)
+
+  right-parts : listingAnswer b w l ≡ Right → (refusals ≡ Accepted) × (judged b w l ≡ Right)
+  unfolding listingAnswer afterVerdict
+  right-parts e = accepted-if-right refusals (judged b w l) e
+
+-- The answer is "right" exactly if nothing is refused and the numbers are the listing of a parse of the text.
+pub listing-right : (b : List ℕ) → ((k : ℕ) → getD b k 0 < characters) → (w l : List ℕ)
+    → (listingAnswer b w l ≡ Right) ↔ ((inOrder (checked b ∷ tooLong w ∷ badListing l ∷ []) ≡ Accepted) × ((t : Tree) × Reading b w t × (listing t ≡ numbersOf l)))
+listing-right b bytes w l = (
+  (λ e. let (accepted, e′) = right-parts b w l e in (accepted, judged-right b (refusals-formed b w l accepted) bytes w l .0 e′)),
+  (λ h. answer-judged b w l (h .0) ∙ judged-right b (refusals-formed b w l (h .0)) bytes w l .1 (h .1)),
+)
+
+-- ---- what parsing answers with one
+
+-- an even byte count within the limit is not refused
+listing-accepted : (l : List ℕ) → length l % 2 ≡ 0 → length l ≤ byteLimit → badListing l ≡ Accepted
+unfolding badListing
+listing-accepted l even short = rw (ne-eqb (length l % 2) 1 (λ e. omega arith), le-ltb byteLimit (length l) short) refl
+
+module _ (b w c₀ l₀ : List ℕ) (n : ℕ) (c l : List ℕ) where
+  -- one is no refusal
+  one-accepted : (v : Verdict) → AfterVerdict b w c₀ l₀ (One n) c l v → (v ≡ Accepted) × Answered (Reading b w) l₀ (One n) l
+  unfolding AfterVerdict
+  one-accepted Accepted h = (refl, h .answer)
+  one-accepted (Rejected number place) h = let e = h .0 in let z : _≡_ {A = ℕ} 0 1 = cc in absurd (omega arith)
+
+  one-parts : Outcome b w c₀ l₀ (One n) c l → (checked b ≡ Accepted) × (tooLong w ≡ Accepted) × Answered (Reading b w) l₀ (One n) l
+  unfolding Outcome refusal
+  one-parts h =
+      let (accepted, answered) = one-accepted (refusal b w c₀) h in
+      let later = and-second (checked b) (andThen (tooLong w) (tooShort b w c₀)) accepted in
+      (and-first (checked b) (andThen (tooLong w) (tooShort b w c₀)) accepted, and-first (tooLong w) (tooShort b w c₀) later, answered)
+
+-- the listing is at the start of the buffer
+written-first : (ns l₀ : List ℕ) → length ns ≤ room l₀ → take (2 * length ns) (sets l₀ 0 (joined twoBytes ns)) ≡ joined twoBytes ns
+unfolding room
+written-first ns l₀ h =
+    let long = bytes-long ns in
+    rw (sets-eq (joined twoBytes ns) l₀ 0 (omega arith)) (take-at (joined twoBytes ns) (drop (0 + length (joined twoBytes ns)) l₀) (2 * length ns) long)
+
+-- the listing of a parse, written at the start of a buffer, is found right
+reading-written : (b : List ℕ) → ((k : ℕ) → getD b k 0 < characters) → (w l₀ l : List ℕ) (t : Tree) → checked b ≡ Accepted → tooLong w ≡ Accepted → Reading b w t
+    → length (listing t) ≤ room l₀ → 2 * length (listing t) ≤ byteLimit → l ≡ sets l₀ 0 (joined twoBytes (listing t))
+    → listingAnswer b w (take (2 * length (listing t)) l) ≡ Right
+reading-written b bytes w l₀ l t good short reading enough small wrote =
+    let ns = listing t in
+    let start : take (2 * length ns) l ≡ joined twoBytes ns = rw wrote (written-first ns l₀ enough) in
+    let few = listing-accepted (joined twoBytes ns) (omega (arith, bytes-long ns)) (omega (arith, bytes-long ns)) in
+    rw start (listing-right b bytes w (joined twoBytes ns) .1 (rw (good, short) few, (t, reading, sym (numbers-joined ns))))
+
+-- What parsing answers with one is found right, if it is short enough to be checked.
+pub one-right : (b : List ℕ) → ((k : ℕ) → getD b k 0 < characters) → (w c₀ l₀ : List ℕ) (n : ℕ) (c l : List ℕ) → Outcome b w c₀ l₀ (One n) c l → 2 * n ≤ byteLimit
+    → listingAnswer b w (take (2 * n) l) ≡ Right
+unfolding Answered
+one-right b bytes w c₀ l₀ n c l outcome small =
+    let (good, short, answered) = one-parts b w c₀ l₀ n c l outcome in
+    let (t, only, count, enough, wrote) = answered in
+    subst⁻¹ (λ (m : ℕ). listingAnswer b w (take (2 * m) l) ≡ Right) count
+    (reading-written b bytes w l₀ l t good short (only .holds) (omega arith) (omega arith) wrote)
+
+-- ---- refusals
+
+wrong-no-refusal : (k number place : ℕ) → Wrong k ≡ Refused number place → ⊥
+wrong-no-refusal k number place e = let z : _≡_ {A = ℕ} 0 1 = cc in omega arith
+
+-- going through the numbers never refuses
+judge-no-refusal : (g : List Line) (ns : List ℕ) (dues : List Class) (w : List ℕ) (k number place : ℕ) → judge g ns dues w k ≡ Refused number place → ⊥
+unfolding judge
+judge-no-refusal g [] [] [] k number place e = let z : _≡_ {A = ℕ} 0 1 = cc in omega arith
+judge-no-refusal g [] [] (c ∷ w) k number place e = wrong-no-refusal k number place e
+judge-no-refusal g [] (due ∷ dues) w k number place e = wrong-no-refusal k number place e
+judge-no-refusal g (n ∷ ns) [] w k number place e = wrong-no-refusal k number place e
+judge-no-refusal g (n ∷ ns) (due ∷ dues) w k number place e =
+    ⊎-elim
+    (λ t. judge-no-refusal g ns (dueAfter g n ++ dues) (textAfter g w n) (k + 1) number place (rw t at e))
+    (λ t. wrong-no-refusal k number place (rw t at e))
+    (true-or-false (isRight g due w n))
+
+-- a refusal that isn't of the numbers is the verdict's
+refused-by-verdict : (v : Verdict) (a : ListingAnswer) (number place : ℕ) → (a ≡ Refused number place → ⊥) → unlessRefused Refused v a ≡ Refused number place
+    → v ≡ Rejected number place
+refused-by-verdict Accepted a number place h e = absurd (h e)
+refused-by-verdict (Rejected n p) a number place h e = cc
+
+-- A refusal is the first of the grammar's, 10 and 11.
+pub refused-if : (b w l : List ℕ) (number place : ℕ) → listingAnswer b w l ≡ Refused number place
+    → inOrder (checked b ∷ tooLong w ∷ badListing l ∷ []) ≡ Rejected number place
+unfolding listingAnswer afterVerdict judged
+refused-if b w l number place e =
+    refused-by-verdict (refusals b w l) (judged b w l) number place
+    (λ h. judge-no-refusal (flatGrammar b) (numbersOf l) (plainClass b (startSort b) ∷ []) w 0 number place h)
+    e
+
+-- the grammar is refused with 1 to 9
+holds-number : {b : List ℕ} {k p : ℕ} → Holds b k p → k ≤ 9
+holds-number (refusal1 h) = omega arith
+holds-number (refusal1′ h) = omega arith
+holds-number (refusal2 h) = omega arith
+holds-number (refusal3 h) = omega arith
+holds-number (refusal4 h) = omega arith
+holds-number (refusal5 h) = omega arith
+holds-number (refusal6 h) = omega arith
+holds-number (refusal7 h) = omega arith
+holds-number (refusal8 h) = omega arith
+holds-number (refusal9 h) = omega arith
+
+long-refused : (w : List ℕ) {k p : ℕ} → tooLong w ≡ Rejected k p → (k ≡ 10) × (textLimit < length w) × (p ≡ length w)
+unfolding tooLong
+long-refused w e =
+    refuse-case (λ k p. (k ≡ 10) × (textLimit < length w) × (p ≡ length w)) (ltb textLimit (length w)) 10 (length w) e
+    (λ t. (refl, ltb-true textLimit (length w) t, refl))
+
+listing-refused : (l : List ℕ) {k p : ℕ} → badListing l ≡ Rejected k p → (k ≡ 11) × ((length l % 2 ≡ 1) ⊎ (byteLimit < length l)) × (p ≡ length l)
+unfolding badListing
+listing-refused l e =
+    let odd = eqb (length l % 2) 1 in
+    let tooMany = ltb byteLimit (length l) in
+    refuse-case (λ k p. (k ≡ 11) × ((length l % 2 ≡ 1) ⊎ (byteLimit < length l)) × (p ≡ length l)) (odd || tooMany) 11 (length l) e
+    (λ t. (refl, ⊎-elim (λ o. inl (eqb-true (length l % 2) 1 o)) (λ o. inr (ltb-true byteLimit (length l) o)) (or-cases odd tooMany t), refl))
+
+module _ (b w l : List ℕ) where
+  -- which of them has the number
+  by-ten : {k p : ℕ} → FirstIn (checked b ∷ tooLong w ∷ badListing l ∷ []) k p → k ≡ 10 → (textLimit < length w) × (p ≡ length w)
+  by-ten (here e) ten = absurd (omega (arith, holds-number (refused-holds b e)))
+  by-ten (there a (here e)) ten = let h = long-refused w e in (h .1, h .2)
+  by-ten (there a (there c (here e))) ten = absurd (omega (arith, listing-refused l e .0))
+
+  by-eleven : {k p : ℕ} → FirstIn (checked b ∷ tooLong w ∷ badListing l ∷ []) k p → k ≡ 11 → ((length l % 2 ≡ 1) ⊎ (byteLimit < length l)) × (p ≡ length l)
+  by-eleven (here e) eleven = absurd (omega (arith, holds-number (refused-holds b e)))
+  by-eleven (there a (here e)) eleven = absurd (omega (arith, long-refused w e .0))
+  by-eleven (there a (there c (here e))) eleven = let h = listing-refused l e in (h .1, h .2)
+
+  -- 10 only for a text over its limit; the place is its length
+  pub ten-only : (place : ℕ) → listingAnswer b w l ≡ Refused 10 place → (textLimit < length w) × (place ≡ length w)
+  ten-only place e = by-ten (order-first (checked b ∷ tooLong w ∷ badListing l ∷ []) (refused-if b w l 10 place e)) refl
+
+  -- 11 only for a listing with an odd byte count or one over the limit; the place is the byte count
+  pub eleven-only : (place : ℕ) → listingAnswer b w l ≡ Refused 11 place → ((length l % 2 ≡ 1) ⊎ (byteLimit < length l)) × (place ≡ length l)
+  eleven-only place e = by-eleven (order-first (checked b ∷ tooLong w ∷ badListing l ∷ []) (refused-if b w l 11 place e)) refl

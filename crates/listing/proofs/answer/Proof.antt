@@ -1,0 +1,36 @@
+-- `answer` meets its contract, part by part.
+use mathlib.Core.Path.{refl, sym}
+use native.Mathlib.Omega.{arith}
+use borrow.Author.Needs.{needs}
+use Rattle.listing.proofs.EndLaws.{numbers-left, text-left, nothing-left}
+use Rattle.listing.proofs.NumberLaws.{numbers-length}
+use Rattle.listing.specs.Numbers.{numbersOf}
+use Rattle.listing.specs.Parts.{afterPart}
+use Rattle.listing.proofs.answer.Statement.{statement}
+use Rattle.listing.proofs.answer.Tie as tie
+
+enum-known-whole : tie.Need-enum-known-whole
+enum-known-whole c = search needs
+
+enum-known-whole-2 : tie.Need-enum-known-whole-2
+enum-known-whole-2 c = search needs
+
+returns : tie.Need-returns
+unfolding afterPart
+returns c = λ g. rw (c .before .before .whole2 .given .1) (sym (numbers-left g (numbersOf (c .before .before .before .before .args .listing .now)) (c .before .before .before .before .args .text .now) (c .before .before .whole2 .given .0 .0) (c .before .before .whole2 .given .0 .1 .0) (let e = numbers-length (c .before .before .before .before .args .listing .now) in omega arith)))
+
+returns-2 : tie.Need-returns-2
+unfolding afterPart
+returns-2 c = λ g. rw (c .before .before .before .whole2 .given .1) (sym (text-left g (numbersOf (c .before .before .before .before .before .args .listing .now)) (c .before .before .before .before .before .args .text .now) (c .before .before .before .whole2 .given .0 .0) (c .before .before .before .whole2 .given .0 .1 .0) (let e = numbers-length (c .before .before .before .before .before .args .listing .now) in omega arith) (c .if2 .taken)))
+
+returns-3 : tie.Need-returns-3
+unfolding afterPart
+returns-3 c = λ g. rw (c .before .whole .given .1) refl
+
+returns-4 : tie.Need-returns-4
+unfolding afterPart
+returns-4 c = λ g. rw (c .before .before .before .whole2 .given .1) (sym (nothing-left g (numbersOf (c .before .before .before .before .before .args .listing .now)) (c .before .before .before .before .before .args .text .now) (c .before .before .before .whole2 .given .0 .0) (c .before .before .before .whole2 .given .0 .1 .0) (let e = numbers-length (c .before .before .before .before .before .args .listing .now) in omega arith) (omega arith)))
+
+pub answer-spec : {M : Type 1} → statement M
+answer-spec =
+    tie.close (tie.spec enum-known-whole enum-known-whole-2 returns returns-2 returns-3 returns-4)
