@@ -2,7 +2,7 @@
 # The tests that need rustc or gcc come first: rt ci removes target/.
 
 BUILD := build
-CASE_CRATES := grammar_cases conflict_cases flat_cases
+CASE_CRATES := grammar_cases conflict_cases flat_cases listing_cases
 
 .PHONY: run test lib viewer bench books cases store-cases check clean
 

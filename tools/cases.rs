@@ -4,7 +4,7 @@
 //
 // A line of CASES is `EXPECTED: FIELD | FIELD ..`, or `def NAME = ITEMS`, or empty; `#` starts a comment.
 // A case that is to print several lines, or none, has no EXPECTED, and those lines follow it, each behind `> `.
-// A field is a row of items: a byte in base ten, "text", a NAME, or N*ITEM and N*( ITEMS ) for N times the same.
+// A field is a row of items: a byte in base ten, @N for a number of two bytes, low byte first, "text", a NAME, or N*ITEM and N*( ITEMS ) for N times the same.
 // STDIN gets each field as two bytes of length, low byte first, and then its bytes; STDOUT the expected lines.
 use std::collections::HashMap;
 use std::{env, fs, process};
@@ -86,6 +86,9 @@ fn item(words: &[String], at: &mut usize, names: &Names, number: usize) -> Vec<u
     }
     if let Some(text) = word.strip_prefix('"') {
         return text.bytes().collect();
+    }
+    if let Some(number_of_two) = word.strip_prefix('@') {
+        return number_of_two.parse::<u16>().unwrap_or_else(|_| fail(number, "no number of two bytes")).to_le_bytes().to_vec();
     }
     if let Ok(n) = word.parse::<usize>() {
         if words.get(*at).map(String::as_str) == Some("*") {

@@ -1,7 +1,8 @@
 -- Laws of checking a listing.
 pub mod NumberLaws
+pub mod TerminalLaws
+pub mod TreeLaws
 pub mod WalkLaws
 pub mod EndLaws
-pub mod TreeLaws
-pub mod ReadingLaws
 pub mod AnswerLaws
+pub mod ReadingLaws

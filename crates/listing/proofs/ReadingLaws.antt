@@ -26,7 +26,8 @@ use Rattle.grammar.specs.Layout.{startSort}
 use Rattle.grammar.specs.Verdict.{andThen, inOrder, unlessRefused}
 use Rattle.grammar.specs.declared.Verdict.{Verdict}
 use Rattle.grammar.specs.declared.Verdict.the-variants.{Accepted}
-use Rattle.listing.proofs.TreeLaws.{Numbered, judge-right}
+use Rattle.listing.proofs.TerminalLaws.{OwnNumbers}
+use Rattle.listing.proofs.TreeLaws.{judge-right}
 use Rattle.listing.specs.Answer.{byteLimit, badListing, judged, afterVerdict, listingAnswer}
 use Rattle.listing.specs.Judge.{isRight, dueAfter, textAfter, judge}
 use Rattle.listing.specs.Numbers.{numbersOf}
@@ -57,7 +58,7 @@ numbers-joined (n ∷ ns) = let e : n % 256 + 256 * (n / 256) ≡ n = omega arit
 
 -- ---- right
 
-flat-numbered : (b : List ℕ) → Numbered (flatGrammar b)
+flat-numbered : (b : List ℕ) → OwnNumbers (flatGrammar b)
 flat-numbered b = record { own = λ p l. flat-result b p (omega (arith, flat-length b)) }
 
 module _ (b : List ℕ) (formed : WellFormed b) (bytes : (k : ℕ) → getD b k 0 < characters) (w l : List ℕ) where

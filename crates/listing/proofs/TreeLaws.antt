@@ -2,55 +2,21 @@
 -- lines have their own numbers.
 use Prim.Native.Nat.{ℕ, zero, suc, _+_, _-_, _≤_, _<_}
 use mathlib.Core.Path.{_≡_, refl, sym, _∙_, ap, ap₂, subst₂}
-use mathlib.Core.Bool.{false, true, not, _||_, true≢false, false≢true, and-false}
+use mathlib.Core.Bool.{false, true, not, _||_, false≢true}
 use mathlib.Core.List.{List, [], _∷_, _++_, append-assoc, append-nil}
 use mathlib.Core.Logic.{_↔_, ⊎-elim}
 use native.Mathlib.Omega.{arith}
 use native.Mathlib.Nat.{le-refl}
-use lib.Dec.{eqb}
 use lib.ListN.{length, getD, take, drop, length-append, drop-of-length-le}
 use lib.Seq.{take-length, take-suc, drop-cons, append-snoc}
 use borrow.Author.Tests.{eqb-true, eq-eqb}
 use Rattle.ccg.proofs.FlatLaws.{production-of-number}
 use Rattle.ccg.specs.Ccg.{Class, Line, noLine, noClass, isTerminal, Generated, Each}
 use Rattle.common.proofs.BoolLaws.{and-first-true, and-second-true, true-or-false}
+use Rattle.listing.proofs.TerminalLaws.{OwnNumbers, production-no-terminal, no-terminal-production}
 use Rattle.listing.specs.Judge.{isNext, isRight, dueAfter, textAfter, judge}
 use Rattle.listing.specs.declared.ListingAnswer.the-variants.{Right, Wrong}
 use Rattle.theory.specs.Tree.{Tree, leaf, node, Forest, none, _▷_, productionNumber, yield, yields, listing, listings}
-
--- every line has its own number as its result
-pub record Numbered (g : List Line) : Type 0 where
-  pub own : (p : ℕ) → p < length g → getD g p noLine .result ≡ productionNumber p
-
--- ---- terminals
-
--- the result of a line is no terminal
-result-not-terminal : (g : List Line) (n k : ℕ) → k < length g → getD g k noLine .result ≡ n → isTerminal g n ≡ false
-unfolding isTerminal
-result-not-terminal [] n k h e = absurd (omega arith)
-result-not-terminal (l ∷ ls) n zero h e = rw (eq-eqb (l .result) n e) refl
-result-not-terminal (l ∷ ls) n (suc k) h e = rw (result-not-terminal ls n k (omega arith) e) (and-false (not (eqb (l .result) n)))
-
--- what is no terminal is the result of a line
-not-terminal-result : (g : List Line) (n : ℕ) → isTerminal g n ≡ false → (k : ℕ) × (k < length g) × (getD g k noLine .result ≡ n)
-unfolding isTerminal
-not-terminal-result [] n e = absurd (true≢false e)
-not-terminal-result (l ∷ ls) n e =
-    ⊎-elim
-    (λ t. (0, omega arith, eqb-true (l .result) n t))
-    (λ t. let (k, h, r) = not-terminal-result ls n (rw t at e) in (suc k, omega arith, r))
-    (true-or-false (eqb (l .result) n))
-
-module _ (g : List Line) (numbered : Numbered g) where
-  production-no-terminal : (p : ℕ) → p < length g → isTerminal g (productionNumber p) ≡ false
-  production-no-terminal p l = result-not-terminal g (productionNumber p) p l (numbered .own p l)
-
-  -- if every line has its own number, what is no terminal is the number of a line
-  no-terminal-production : (n : ℕ) → isTerminal g n ≡ false → (n ≡ productionNumber (n - productionNumber 0)) × (n - productionNumber 0 < length g)
-  no-terminal-production n e =
-      let (k, l, r) = not-terminal-result g n e in
-      let same : n ≡ productionNumber k = sym r ∙ numbered .own k l in
-      (omega arith, omega arith)
 
 -- ---- one number
 
@@ -69,7 +35,7 @@ module _ (g : List Line) (due : Class) (ns : List ℕ) (dues : List Class) where
 -- ---- the numbers of a tree are right
 
 -- Behind the numbers of a tree, and of a list of trees, going through them is where it would be without them.
-module _ (g : List Line) (numbered : Numbered g) where
+module _ (g : List Line) (numbered : OwnNumbers g) where
   mutual
     unfolding Generated listing yield
 
@@ -169,7 +135,7 @@ module _ (g : List Line) (due : Class) (n : ℕ) (ns : List ℕ) (dues : List Cl
   unfolding dueAfter textAfter
   production-right t = rw t at following-right
 
-module _ (g : List Line) (numbered : Numbered g) where
+module _ (g : List Line) (numbered : OwnNumbers g) where
   -- a line's number, and behind it the trees of its arguments
   node-covers : (due : Class) (dues : List Class) (n p : ℕ) (ns w : List ℕ) → due n ≡ true → n ≡ productionNumber p → p < length g
       → Gathered g (getD g p noLine .arguments) dues ns w → Covers g (due ∷ dues) (n ∷ ns) w
@@ -218,6 +184,6 @@ module _ (g : List Line) (numbered : Numbered g) where
       ∙ judge-tree g numbered t cc [] [] [] 0 tree
 
 -- The numbers are found right exactly if they are the listing of a tree of the class due at the root, and it spells the text.
-pub judge-right : (g : List Line) → Numbered g → (cc : Class) (ns w : List ℕ)
+pub judge-right : (g : List Line) → OwnNumbers g → (cc : Class) (ns w : List ℕ)
     → (judge g ns (cc ∷ []) w 0 ≡ Right) ↔ ((t : Tree) × Generated g cc t × (listing t ≡ ns) × (yield t ≡ w))
 judge-right g numbered cc ns w = ((λ e. right-tree g numbered cc ns w e), (λ h. tree-right g numbered cc ns w (h .0) (h .1) (h .2) (h .3)))

@@ -1,7 +1,7 @@
 -- One step of the walk over a listing, by the flat tables.
-use Prim.Native.Nat.{ℕ, zero, suc, _+_, _-_, _≤_, _<_}
+use Prim.Native.Nat.{ℕ, suc, _+_, _-_, _≤_, _<_}
 use mathlib.Core.Path.{_≡_, refl, sym, _∙_, ap, ap₂}
-use mathlib.Core.Bool.{Bool, false, true, not, _&&_, and-true, and-false, and-assoc}
+use mathlib.Core.Bool.{Bool, false, true, _&&_, and-true, and-false}
 use mathlib.Core.List.{List, [], _∷_, _++_}
 use mathlib.Core.Logic.{by-cases}
 use native.Mathlib.Omega.{arith}
@@ -10,10 +10,10 @@ use native.Mathlib.Numerals.{add-one}
 use lib.Dec.{leb, ltb, eqb}
 use lib.ListN.{length, getD, drop, drop-of-length-le}
 use lib.Seq.{drop-cons, drop-drop}
-use borrow.Author.Tests.{ltb-true, leb-true, lt-ltb, le-ltb, le-leb, lt-leb, eq-eqb, ne-eqb}
+use borrow.Author.Tests.{ltb-true, leb-true, lt-ltb, le-ltb, le-leb, lt-leb, ne-eqb}
 use Rattle.ccg.proofs.FlatLaws.{sort-no-class}
 use Rattle.ccg.proofs.TableTextLaws.{table-of-character, table-between, table-of-production}
-use Rattle.ccg.specs.Ccg.{Class, Line, noLine, noClass, isTerminal}
+use Rattle.ccg.specs.Ccg.{Class, Line, noLine, noClass}
 use Rattle.ccg.specs.Flat.{isProduction, plainClass}
 use Rattle.ccg.specs.Tables.{slot, subAt, slotHas, tableClass, slotLine, tableLine, tableGrammar}
 use Rattle.ccg.specs.Theory.{ParserTables}
@@ -23,6 +23,7 @@ use Rattle.common.proofs.ListLaws.{length-tabulate, getD-tabulate}
 use Rattle.common.specs.Lists.{tabulate}
 use Rattle.grammar.specs.Formed.{WellFormed}
 use Rattle.grammar.specs.Layout.{productions, startSort, result}
+use Rattle.listing.proofs.TerminalLaws.{table-production, table-terminal}
 use Rattle.listing.specs.Judge.{isNext, isRight, dueAfter, textAfter, judge}
 use Rattle.listing.specs.Parts.{afterPart, EndsBeyond, Walked, duesFrom}
 use Rattle.listing.specs.declared.ListingAnswer.the-variants.{Wrong}
@@ -30,36 +31,6 @@ use Rattle.listing.specs.declared.Part.{Part}
 use Rattle.listing.specs.declared.Part.the-variants.{Complete, Fault}
 use Rattle.parse.proofs.OutcomeLaws.{rest}
 use Rattle.theory.specs.Tree.{productionNumber, below}
-
--- ---- terminals of lines that have their own numbers
-
-terminal-append : (a b : List Line) (n : ℕ) → isTerminal (a ++ b) n ≡ (isTerminal a n && isTerminal b n)
-unfolding isTerminal
-terminal-append [] b n = refl
-terminal-append (l ∷ a) b n = rw (terminal-append a b n) (sym (and-assoc (not (eqb (l .result) n)) (isTerminal a n) (isTerminal b n)))
-
-module _ (counts chars subs : List ℕ) where
-  terminal-next : (m n : ℕ) → isTerminal (tableGrammar (suc m) counts chars subs) n ≡ (isTerminal (tableGrammar m counts chars subs) n && not (eqb (productionNumber m) n))
-  unfolding isTerminal tableGrammar tableLine slotLine tabulate
-  terminal-next m n =
-      terminal-append (tabulate m (tableLine counts chars subs)) (tableLine counts chars subs m ∷ []) n
-      ∙ ap (λ (v : Bool). isTerminal (tabulate m (tableLine counts chars subs)) n && v) (and-true (not (eqb (productionNumber m) n)))
-
-  -- what is no production's number is one
-  terminal-else : (m n : ℕ) → ((q : ℕ) → q < m → productionNumber q ≡ n → ⊥) → isTerminal (tableGrammar m counts chars subs) n ≡ true
-  unfolding isTerminal tableGrammar tabulate
-  terminal-else zero n h = refl
-  terminal-else (suc m) n h =
-      terminal-next m n ∙ rw (terminal-else m n (λ q l. h q (omega arith)), ne-eqb (productionNumber m) n (h m (omega arith))) refl
-
-  -- and what is a production's number is not
-  terminal-production : (m n : ℕ) → productionNumber 0 ≤ n → n < productionNumber m → isTerminal (tableGrammar m counts chars subs) n ≡ false
-  terminal-production zero n l h = absurd (omega arith)
-  terminal-production (suc m) n l h =
-      terminal-next m n
-      ∙ by-cases (decLt n (productionNumber m))
-      (λ k. rw (terminal-production m n l k) refl)
-      (λ k. rw (eq-eqb (productionNumber m) n (omega arith)) (and-false (isTerminal (tableGrammar m counts chars subs) n)))
 
 -- ---- the next byte of a text
 
@@ -119,7 +90,7 @@ module _ (counts chars subs : List ℕ) (tables : ParserTables counts chars subs
     right-character : n < characters → isRight g (tableClass chars subs s) w n ≡ (slotHas chars s n && isNext w n)
     unfolding isRight
     right-character l =
-        rw (table-of-character chars subs s n l, terminal-else counts chars subs (length counts) n (λ q h e. omega arith)) refl
+        rw (table-of-character chars subs s n l, table-terminal counts chars subs (length counts) n (λ m h. omega arith)) refl
 
     -- any other number if the slot has the production
     right-production : characters ≤ n → isNext w n ≡ false
@@ -129,8 +100,8 @@ module _ (counts chars subs : List ℕ) (tables : ParserTables counts chars subs
         by-cases (decLt n 258)
         (λ h. rw (table-between chars subs s n l h, lt-leb 258 n h) refl)
         (λ h. by-cases (decLt n (productionNumber (length counts)))
-        (λ k. rw (table-of-production chars subs s n (omega arith) (omega (arith, tables .fewProductions)), terminal-production counts chars subs (length counts) n (omega arith) k, le-leb 258 n (omega arith), lt-ltb n (productionNumber (length counts)) k) (and-true (eqb (getD subs (subAt s (n - productionNumber 0)) 0) 1)))
-        (λ k. rw (e, terminal-else counts chars subs (length counts) n (λ q m f. omega arith), le-ltb n (productionNumber (length counts)) (omega arith), and-false (leb 258 n)) (and-false (tableClass chars subs s n))))
+        (λ k. rw (table-of-production chars subs s n (omega arith) (omega (arith, tables .fewProductions)), table-production counts chars subs (length counts) n (omega arith) k, le-leb 258 n (omega arith), lt-ltb n (productionNumber (length counts)) k) (and-true (eqb (getD subs (subAt s (n - productionNumber 0)) 0) 1)))
+        (λ k. rw (e, table-terminal counts chars subs (length counts) n (λ m f. k f), le-ltb n (productionNumber (length counts)) (omega arith), and-false (leb 258 n)) (and-false (tableClass chars subs s n))))
 
   -- what a right number brings
   module _ (n : ℕ) (ns : List ℕ) (due : Class) (dues : List Class) (w : List ℕ) (k : ℕ) where
@@ -140,13 +111,13 @@ module _ (counts chars subs : List ℕ) (tables : ParserTables counts chars subs
 
     judge-character : n < characters → isRight g due w n ≡ true → judge g (n ∷ ns) (due ∷ dues) w k ≡ judge g ns dues (drop 1 w) (k + 1)
     unfolding judge dueAfter textAfter
-    judge-character l e = rw (e, terminal-else counts chars subs (length counts) n (λ q h f. omega arith)) refl
+    judge-character l e = rw (e, table-terminal counts chars subs (length counts) n (λ m h. omega arith)) refl
 
     judge-production : productionNumber 0 ≤ n → n < productionNumber (length counts) → isRight g due w n ≡ true
         → judge g (n ∷ ns) (due ∷ dues) w k ≡ judge g ns (duesFrom counts chars subs (n - productionNumber 0) 0 ++ dues) w (k + 1)
     unfolding judge dueAfter textAfter duesFrom tableGrammar tableLine
     judge-production l h e =
-        rw (e, terminal-production counts chars subs (length counts) n l h, getD-tabulate (length counts) (tableLine counts chars subs) (n - productionNumber 0) noLine (omega arith)) refl
+        rw (e, table-production counts chars subs (length counts) n l h, getD-tabulate (length counts) (tableLine counts chars subs) (n - productionNumber 0) noLine (omega arith)) refl
 
   -- ---- what is due at the arguments of a production
 
@@ -277,7 +248,7 @@ module _ (counts chars subs : List ℕ) (tables : ParserTables counts chars subs
           let below : n < productionNumber (length counts) = omega arith in
           record {
             decides = λ others. ap (λ (v : List ℕ). judge g v (roots ∷ others) w 0) root-number
-                ∙ judge-production n (drop 1 numbers) roots others w 0 (within .0) below (rw (h, terminal-production counts chars subs (length counts) n (within .0) below) refl)
+                ∙ judge-production n (drop 1 numbers) roots others w 0 (within .0) below (rw (h, table-production counts chars subs (length counts) n (within .0) below) refl)
                 ∙ walked .decides others;
             ends = ends-weaker numbers w r (1 + length (duesFrom counts chars subs (n - productionNumber 0) 0)) 1 (omega arith) (walked .ends);
           }

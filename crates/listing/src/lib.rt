@@ -130,6 +130,7 @@ fn check_root(
     if !starts(book, n) {
         return Part::Fault(0);
     }
+    let next = 1;
     check_arguments(
         counts,
         chars,
@@ -138,7 +139,7 @@ fn check_root(
         listing,
         n - FIRST_PRODUCTION,
         0,
-        1,
+        next,
         0,
     )
 }
