@@ -50,11 +50,7 @@ fn check_case(input: &[u8], start: usize, end: usize, from: usize, to: usize) ->
     let listing = field_at(input, to);
     let first = listing.start;
     let last = listing.end;
-    print(check_listing(
-        &input[start..end],
-        &input[from..to],
-        &input[first..last],
-    ));
+    print(check_listing(&input[start..end], &input[from..to], &input[first..last]));
     last
 }
 

@@ -108,7 +108,7 @@ check-arguments-returns-3 t c =
     (c .check-arguments .ensures)
 
 check-tree-returns : (t : ℕ) → check-tree-lts.Need-returns (check-tree-claims t) (check-tree-at t) check-tree.Post
-check-tree-returns t c =     walked-missing (c .before .before .before .before .before .before .args .counts .now) (c .before .before .before .before .before .before .args .chars .now) (c .before .before .before .before .before .before .args .subs .now) (c .before .before .before .before .before .before .pre .1 .0) (numbersOf (c .before .before .before .before .before .before .args .listing .now)) (c .before .before .before .before .before .before .args .text .now) (slot (c .before .before .before .before .before .before .args .p) (c .before .before .before .before .before .before .args .d)) (c .before .before .before .before .before .before .args .at) (c .before .before .before .before .before .before .args .place) (let e = numbers-length (c .before .before .before .before .before .before .args .listing .now) in omega arith)
+check-tree-returns t c = walked-missing (c .before .before .before .before .before .before .args .counts .now) (c .before .before .before .before .before .before .args .chars .now) (c .before .before .before .before .before .before .args .subs .now) (c .before .before .before .before .before .before .pre .1 .0) (numbersOf (c .before .before .before .before .before .before .args .listing .now)) (c .before .before .before .before .before .before .args .text .now) (slot (c .before .before .before .before .before .before .args .p) (c .before .before .before .before .before .before .args .d)) (c .before .before .before .before .before .before .args .at) (c .before .before .before .before .before .before .args .place) (let e = numbers-length (c .before .before .before .before .before .before .args .listing .now) in omega arith)
 
 check-tree-number-at-requires : (t : ℕ) → check-tree-lts.Need-number-at-requires (check-tree-claims t) (check-tree-at t) check-tree.Post
 check-tree-number-at-requires t c κs = let e = numbers-length (c .before .before .before .before .before .before .args .listing .now) in omega arith
@@ -130,11 +130,11 @@ check-tree-add-t18 t c = omega (arith, c .before .before .before .before .before
 
 check-tree-returns-2 : (t : ℕ) → check-tree-lts.Need-returns-2 (check-tree-claims t) (check-tree-at t) check-tree.Post
 unfolding slot
-check-tree-returns-2 t c =     walked-character (c .before .before .before .before .before .before .before .before .before .before .args .counts .now) (c .before .before .before .before .before .before .before .before .before .before .args .chars .now) (c .before .before .before .before .before .before .before .before .before .before .args .subs .now) (c .before .before .before .before .before .before .before .before .before .before .pre .1 .0) (numbersOf (c .before .before .before .before .before .before .before .before .before .before .args .listing .now)) (c .before .before .before .before .before .before .before .before .before .before .args .text .now) (slot (c .before .before .before .before .before .before .before .before .before .before .args .p) (c .before .before .before .before .before .before .before .before .before .before .args .d)) (c .before .before .before .before .before .before .before .before .before .before .args .at) (c .before .before .before .before .before .before .before .before .before .before .args .place) (c .before .before .before .number-at .result) (let e = numbers-length (c .before .before .before .before .before .before .before .before .before .before .args .listing .now) in omega arith) (c .before .before .before .number-at .ensures) (c .before .before .if2 .taken) (sym (c .before .char-right .ensures) ∙ c .if3 .taken)
+check-tree-returns-2 t c = walked-character (c .before .before .before .before .before .before .before .before .before .before .args .counts .now) (c .before .before .before .before .before .before .before .before .before .before .args .chars .now) (c .before .before .before .before .before .before .before .before .before .before .args .subs .now) (c .before .before .before .before .before .before .before .before .before .before .pre .1 .0) (numbersOf (c .before .before .before .before .before .before .before .before .before .before .args .listing .now)) (c .before .before .before .before .before .before .before .before .before .before .args .text .now) (slot (c .before .before .before .before .before .before .before .before .before .before .args .p) (c .before .before .before .before .before .before .before .before .before .before .args .d)) (c .before .before .before .before .before .before .before .before .before .before .args .at) (c .before .before .before .before .before .before .before .before .before .before .args .place) (c .before .before .before .number-at .result) (let e = numbers-length (c .before .before .before .before .before .before .before .before .before .before .args .listing .now) in omega arith) (c .before .before .before .number-at .ensures) (c .before .before .if2 .taken) (sym (c .before .char-right .ensures) ∙ c .if3 .taken)
 
 check-tree-returns-3 : (t : ℕ) → check-tree-lts.Need-returns-3 (check-tree-claims t) (check-tree-at t) check-tree.Post
 unfolding slot
-check-tree-returns-3 t c =     walked-no-character (c .before .before .before .before .before .before .before .before .before .before .args .counts .now) (c .before .before .before .before .before .before .before .before .before .before .args .chars .now) (c .before .before .before .before .before .before .before .before .before .before .args .subs .now) (c .before .before .before .before .before .before .before .before .before .before .pre .1 .0) (numbersOf (c .before .before .before .before .before .before .before .before .before .before .args .listing .now)) (c .before .before .before .before .before .before .before .before .before .before .args .text .now) (slot (c .before .before .before .before .before .before .before .before .before .before .args .p) (c .before .before .before .before .before .before .before .before .before .before .args .d)) (c .before .before .before .before .before .before .before .before .before .before .args .at) (c .before .before .before .before .before .before .before .before .before .before .args .place) (c .before .before .before .number-at .result) (let e = numbers-length (c .before .before .before .before .before .before .before .before .before .before .args .listing .now) in omega arith) (c .before .before .before .number-at .ensures) (c .before .before .if2 .taken) (sym (c .before .char-right .ensures) ∙ c .if3 .left)
+check-tree-returns-3 t c = walked-no-character (c .before .before .before .before .before .before .before .before .before .before .args .counts .now) (c .before .before .before .before .before .before .before .before .before .before .args .chars .now) (c .before .before .before .before .before .before .before .before .before .before .args .subs .now) (c .before .before .before .before .before .before .before .before .before .before .pre .1 .0) (numbersOf (c .before .before .before .before .before .before .before .before .before .before .args .listing .now)) (c .before .before .before .before .before .before .before .before .before .before .args .text .now) (slot (c .before .before .before .before .before .before .before .before .before .before .args .p) (c .before .before .before .before .before .before .before .before .before .before .args .d)) (c .before .before .before .before .before .before .before .before .before .before .args .at) (c .before .before .before .before .before .before .before .before .before .before .args .place) (c .before .before .before .number-at .result) (let e = numbers-length (c .before .before .before .before .before .before .before .before .before .before .args .listing .now) in omega arith) (c .before .before .before .number-at .ensures) (c .before .before .if2 .taken) (sym (c .before .char-right .ensures) ∙ c .if3 .left)
 
 check-tree-mul-production-right : (t : ℕ) → check-tree-lts.Need-mul-production-right (check-tree-claims t) (check-tree-at t) check-tree.Post
 check-tree-mul-production-right t c = omega (arith, c .before .before .before .before .before .before .before .before .pre .1 .1 .0, c .before .before .before .before .before .before .before .before .pre .1 .0 .fewProductions)
@@ -147,11 +147,11 @@ check-tree-production-right-requires t c κs = (omega (arith, c .before .before 
 
 check-tree-returns-4 : (t : ℕ) → check-tree-lts.Need-returns-4 (check-tree-claims t) (check-tree-at t) check-tree.Post
 unfolding slot
-check-tree-returns-4 t c =     walked-no-production (c .before .before .before .before .before .before .before .before .before .before .args .counts .now) (c .before .before .before .before .before .before .before .before .before .before .args .chars .now) (c .before .before .before .before .before .before .before .before .before .before .args .subs .now) (c .before .before .before .before .before .before .before .before .before .before .pre .1 .0) (numbersOf (c .before .before .before .before .before .before .before .before .before .before .args .listing .now)) (c .before .before .before .before .before .before .before .before .before .before .args .text .now) (slot (c .before .before .before .before .before .before .before .before .before .before .args .p) (c .before .before .before .before .before .before .before .before .before .before .args .d)) (c .before .before .before .before .before .before .before .before .before .before .args .at) (c .before .before .before .before .before .before .before .before .before .before .args .place) (c .before .before .before .number-at .result) (let e = numbers-length (c .before .before .before .before .before .before .before .before .before .before .args .listing .now) in omega arith) (c .before .before .before .number-at .ensures) (λ k. omega (arith, c .before .before .before .before .before .before .shared-slice-known4 .given k)) (omega arith) (sym (c .before .production-right .ensures) ∙ not-true (c .before .production-right .result) (c .if4 .taken))
+check-tree-returns-4 t c = walked-no-production (c .before .before .before .before .before .before .before .before .before .before .args .counts .now) (c .before .before .before .before .before .before .before .before .before .before .args .chars .now) (c .before .before .before .before .before .before .before .before .before .before .args .subs .now) (c .before .before .before .before .before .before .before .before .before .before .pre .1 .0) (numbersOf (c .before .before .before .before .before .before .before .before .before .before .args .listing .now)) (c .before .before .before .before .before .before .before .before .before .before .args .text .now) (slot (c .before .before .before .before .before .before .before .before .before .before .args .p) (c .before .before .before .before .before .before .before .before .before .before .args .d)) (c .before .before .before .before .before .before .before .before .before .before .args .at) (c .before .before .before .before .before .before .before .before .before .before .args .place) (c .before .before .before .number-at .result) (let e = numbers-length (c .before .before .before .before .before .before .before .before .before .before .args .listing .now) in omega arith) (c .before .before .before .number-at .ensures) (λ k. omega (arith, c .before .before .before .before .before .before .shared-slice-known4 .given k)) (omega arith) (sym (c .before .production-right .ensures) ∙ not-true (c .before .production-right .result) (c .if4 .taken))
 
 check-tree-sub-check-arguments : (t : ℕ) → check-tree-lts.Need-sub-check-arguments (check-tree-claims t) (check-tree-at t) check-tree.Post
 unfolding slot
-check-tree-sub-check-arguments t c =     omega (arith, tested-within (c .before .before .before .number-at .result) (length (c .before .before .before .before .before .before .before .before .before .before .args .counts .now)) (eqb (getD (c .before .before .before .before .before .before .before .before .before .before .args .subs .now) (subAt (slot (c .before .before .before .before .before .before .before .before .before .before .args .p) (c .before .before .before .before .before .before .before .before .before .before .args .d)) (c .before .before .before .number-at .result - 258)) 0) 1) (sym (c .before .production-right .ensures) ∙ not-false (c .before .production-right .result) (c .if4 .left)) .0)
+check-tree-sub-check-arguments t c = omega (arith, tested-within (c .before .before .before .number-at .result) (length (c .before .before .before .before .before .before .before .before .before .before .args .counts .now)) (eqb (getD (c .before .before .before .before .before .before .before .before .before .before .args .subs .now) (subAt (slot (c .before .before .before .before .before .before .before .before .before .before .args .p) (c .before .before .before .before .before .before .before .before .before .before .args .d)) (c .before .before .before .number-at .result - 258)) 0) 1) (sym (c .before .production-right .ensures) ∙ not-false (c .before .production-right .result) (c .if4 .left)) .0)
 
 check-tree-add-check-arguments : (t : ℕ) → check-tree-lts.Need-add-check-arguments (check-tree-claims t) (check-tree-at t) check-tree.Post
 check-tree-add-check-arguments t c = omega arith
@@ -165,7 +165,7 @@ check-tree-check-arguments-requires t c κs =
 
 check-tree-returns-5 : (t : ℕ) → check-tree-lts.Need-returns-5 (check-tree-claims t) (check-tree-at t) check-tree.Post
 unfolding slot
-check-tree-returns-5 t c =     walked-production (c .before .before .before .before .before .before .before .before .before .before .before .args .counts .now) (c .before .before .before .before .before .before .before .before .before .before .before .args .chars .now) (c .before .before .before .before .before .before .before .before .before .before .before .args .subs .now) (c .before .before .before .before .before .before .before .before .before .before .before .pre .1 .0) (numbersOf (c .before .before .before .before .before .before .before .before .before .before .before .args .listing .now)) (c .before .before .before .before .before .before .before .before .before .before .before .args .text .now) (slot (c .before .before .before .before .before .before .before .before .before .before .before .args .p) (c .before .before .before .before .before .before .before .before .before .before .before .args .d)) (c .before .before .before .before .before .before .before .before .before .before .before .args .at) (c .before .before .before .before .before .before .before .before .before .before .before .args .place) (c .before .before .before .before .number-at .result) (let e = numbers-length (c .before .before .before .before .before .before .before .before .before .before .before .args .listing .now) in omega arith) (c .before .before .before .before .number-at .ensures) (λ k. omega (arith, c .before .before .before .before .before .before .before .shared-slice-known4 .given k)) (omega arith) (c .check-arguments .result) (sym (c .before .before .production-right .ensures) ∙ not-false (c .before .before .production-right .result) (c .before .if4 .left)) (c .check-arguments .ensures)
+check-tree-returns-5 t c = walked-production (c .before .before .before .before .before .before .before .before .before .before .before .args .counts .now) (c .before .before .before .before .before .before .before .before .before .before .before .args .chars .now) (c .before .before .before .before .before .before .before .before .before .before .before .args .subs .now) (c .before .before .before .before .before .before .before .before .before .before .before .pre .1 .0) (numbersOf (c .before .before .before .before .before .before .before .before .before .before .before .args .listing .now)) (c .before .before .before .before .before .before .before .before .before .before .before .args .text .now) (slot (c .before .before .before .before .before .before .before .before .before .before .before .args .p) (c .before .before .before .before .before .before .before .before .before .before .before .args .d)) (c .before .before .before .before .before .before .before .before .before .before .before .args .at) (c .before .before .before .before .before .before .before .before .before .before .before .args .place) (c .before .before .before .before .number-at .result) (let e = numbers-length (c .before .before .before .before .before .before .before .before .before .before .before .args .listing .now) in omega arith) (c .before .before .before .before .number-at .ensures) (λ k. omega (arith, c .before .before .before .before .before .before .before .shared-slice-known4 .given k)) (omega arith) (c .check-arguments .result) (sym (c .before .before .production-right .ensures) ∙ not-false (c .before .before .production-right .result) (c .before .if4 .left)) (c .check-arguments .ensures)
 
 pub +check-arguments+check-tree-spec : {M : Type 1} → statement M
 +check-arguments+check-tree-spec =

@@ -46,7 +46,7 @@ array-share-prefix-counts : tie.Need-array-share-prefix-counts
 array-share-prefix-counts c = search needs
 
 slice-aggregate-check-root : tie.Need-slice-aggregate-check-root
-slice-aggregate-check-root c =     sym (cut-count (c .before .before .before .before .before .before .before .before .before .before .before .before .before .before .before .before .before .before .args .book .now) (c .before .before .before .before .before .before .before .before .before .before .before .before .before .before .before .before .before .before .pre) (λ k. omega (arith, c .before .before .before .before .before .before .before .before .before .before .before .before .before .before .before .before .before .shared-slice-known .given k)) (c .before .before .before .before .before .flatten .last .1 .0) (c .before .before .before .before .before .flatten .last .1 .1 .0) (c .before .before .before .before .before .flatten .last .1 .1 .1 .0) (c .before .before .before .before .before .flatten .ensures) (c .before .production-count .result) (c .before .production-count .ensures))
+slice-aggregate-check-root c = sym (cut-count (c .before .before .before .before .before .before .before .before .before .before .before .before .before .before .before .before .before .before .args .book .now) (c .before .before .before .before .before .before .before .before .before .before .before .before .before .before .before .before .before .before .pre) (λ k. omega (arith, c .before .before .before .before .before .before .before .before .before .before .before .before .before .before .before .before .before .shared-slice-known .given k)) (c .before .before .before .before .before .flatten .last .1 .0) (c .before .before .before .before .before .flatten .last .1 .1 .0) (c .before .before .before .before .before .flatten .last .1 .1 .1 .0) (c .before .before .before .before .before .flatten .ensures) (c .before .production-count .result) (c .before .production-count .ensures))
 
 slice-aggregate-check-root-2 : tie.Need-slice-aggregate-check-root-2
 slice-aggregate-check-root-2 c = search needs
@@ -56,10 +56,13 @@ slice-aggregate-check-root-3 c = search needs
 
 check-root-requires : tie.Need-check-root-requires
 check-root-requires c κs =
-    let cut = cut-count (c .before .before .before .before .before .before .before .before .before .before .before .before .before .before .before .before .before .before .before .before .args .book .now) (c .before .before .before .before .before .before .before .before .before .before .before .before .before .before .before .before .before .before .before .before .pre) (λ k. omega (arith, c .before .before .before .before .before .before .before .before .before .before .before .before .before .before .before .before .before .before .before .shared-slice-known .given k)) (c .before .before .before .before .before .before .before .flatten .last .1 .0) (c .before .before .before .before .before .before .before .flatten .last .1 .1 .0) (c .before .before .before .before .before .before .before .flatten .last .1 .1 .1 .0) (c .before .before .before .before .before .before .before .flatten .ensures) (c .before .before .before .production-count .result) (c .before .before .before .production-count .ensures) in
-    ((c .before .before .before .before .before .before .before .before .before .before .before .before .before .before .before .before .before .before .before .before .pre),
-      (cut-tables (c .before .before .before .before .before .before .before .before .before .before .before .before .before .before .before .before .before .before .before .before .args .book .now) (c .before .before .before .before .before .before .before .before .before .before .before .before .before .before .before .before .before .before .before .before .pre) (λ k. omega (arith, c .before .before .before .before .before .before .before .before .before .before .before .before .before .before .before .before .before .before .before .shared-slice-known .given k)) (c .before .before .before .before .before .before .before .flatten .last .1 .0) (c .before .before .before .before .before .before .before .flatten .last .1 .1 .0) (c .before .before .before .before .before .before .before .flatten .last .1 .1 .1 .0) (c .before .before .before .before .before .before .before .flatten .ensures) (c .before .before .before .production-count .result) (c .before .before .before .production-count .ensures),
-        cut ∙ c .before .before .before .production-count .ensures))
+    let cut = cut-count (c .before .before .before .before .before .before .before .before .before .before .before .before .before .before .before .before .before .before .before .before .args .book .now) (c .before .before .before .before .before .before .before .before .before .before .before .before .before .before .before .before .before .before .before .before .pre) (λ k. omega (arith, c .before .before .before .before .before .before .before .before .before .before .before .before .before .before .before .before .before .before .before .shared-slice-known .given k)) (c .before .before .before .before .before .before .before .flatten .last .1 .0) (c .before .before .before .before .before .before .before .flatten .last .1 .1 .0) (c .before .before .before .before .before .before .before .flatten .last .1 .1 .1 .0) (c .before .before .before .before .before .before .before .flatten .ensures) (c .before .before .before .production-count .result) (c .before .before .before .production-count .ensures) in (
+      (c .before .before .before .before .before .before .before .before .before .before .before .before .before .before .before .before .before .before .before .before .pre),
+      (
+        cut-tables (c .before .before .before .before .before .before .before .before .before .before .before .before .before .before .before .before .before .before .before .before .args .book .now) (c .before .before .before .before .before .before .before .before .before .before .before .before .before .before .before .before .before .before .before .before .pre) (λ k. omega (arith, c .before .before .before .before .before .before .before .before .before .before .before .before .before .before .before .before .before .before .before .shared-slice-known .given k)) (c .before .before .before .before .before .before .before .flatten .last .1 .0) (c .before .before .before .before .before .before .before .flatten .last .1 .1 .0) (c .before .before .before .before .before .before .before .flatten .last .1 .1 .1 .0) (c .before .before .before .before .before .before .before .flatten .ensures) (c .before .before .before .production-count .result) (c .before .before .before .production-count .ensures),
+        cut ∙ c .before .before .before .production-count .ensures,
+      ),
+    )
 
 answer-requires : tie.Need-answer-requires
 answer-requires c κs = search needs

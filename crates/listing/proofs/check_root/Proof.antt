@@ -10,7 +10,7 @@ use Rattle.listing.proofs.check_root.Statement.{statement}
 use Rattle.listing.proofs.check_root.Tie as tie
 
 returns : tie.Need-returns
-returns c =     root-missing (c .before .before .before .before .before .before .before .args .counts .now) (c .before .before .before .before .before .before .before .args .chars .now) (c .before .before .before .before .before .before .before .args .subs .now) (c .before .before .before .before .before .before .before .pre .1 .0) (c .before .before .before .before .before .before .before .args .book .now) (c .before .before .before .before .before .before .before .pre .0) (c .before .before .before .before .before .before .before .pre .1 .1) (numbersOf (c .before .before .before .before .before .before .before .args .listing .now)) (c .before .before .before .before .before .before .before .args .text .now) (let e = numbers-length (c .before .before .before .before .before .before .before .args .listing .now) in omega arith)
+returns c = root-missing (c .before .before .before .before .before .before .before .args .counts .now) (c .before .before .before .before .before .before .before .args .chars .now) (c .before .before .before .before .before .before .before .args .subs .now) (c .before .before .before .before .before .before .before .pre .1 .0) (c .before .before .before .before .before .before .before .args .book .now) (c .before .before .before .before .before .before .before .pre .0) (c .before .before .before .before .before .before .before .pre .1 .1) (numbersOf (c .before .before .before .before .before .before .before .args .listing .now)) (c .before .before .before .before .before .before .before .args .text .now) (let e = numbers-length (c .before .before .before .before .before .before .before .args .listing .now) in omega arith)
 
 number-at-requires : tie.Need-number-at-requires
 number-at-requires c κs = let e = numbers-length (c .before .before .before .before .before .before .before .args .listing .now) in omega arith
@@ -19,7 +19,7 @@ starts-requires : tie.Need-starts-requires
 starts-requires c κs = search needs
 
 returns-2 : tie.Need-returns-2
-returns-2 c =     root-fault (c .before .before .before .before .before .before .before .before .before .before .args .counts .now) (c .before .before .before .before .before .before .before .before .before .before .args .chars .now) (c .before .before .before .before .before .before .before .before .before .before .args .subs .now) (c .before .before .before .before .before .before .before .before .before .before .pre .1 .0) (c .before .before .before .before .before .before .before .before .before .before .args .book .now) (c .before .before .before .before .before .before .before .before .before .before .pre .0) (c .before .before .before .before .before .before .before .before .before .before .pre .1 .1) (numbersOf (c .before .before .before .before .before .before .before .before .before .before .args .listing .now)) (c .before .before .before .before .before .before .before .before .before .before .args .text .now) (c .before .before .number-at .result) (let e = numbers-length (c .before .before .before .before .before .before .before .before .before .before .args .listing .now) in omega arith) (c .before .before .number-at .ensures) (sym (c .before .starts .ensures) ∙ not-true (c .before .starts .result) (c .if2 .taken))
+returns-2 c = root-fault (c .before .before .before .before .before .before .before .before .before .before .args .counts .now) (c .before .before .before .before .before .before .before .before .before .before .args .chars .now) (c .before .before .before .before .before .before .before .before .before .before .args .subs .now) (c .before .before .before .before .before .before .before .before .before .before .pre .1 .0) (c .before .before .before .before .before .before .before .before .before .before .args .book .now) (c .before .before .before .before .before .before .before .before .before .before .pre .0) (c .before .before .before .before .before .before .before .before .before .before .pre .1 .1) (numbersOf (c .before .before .before .before .before .before .before .before .before .before .args .listing .now)) (c .before .before .before .before .before .before .before .before .before .before .args .text .now) (c .before .before .number-at .result) (let e = numbers-length (c .before .before .before .before .before .before .before .before .before .before .args .listing .now) in omega arith) (c .before .before .number-at .ensures) (sym (c .before .starts .ensures) ∙ not-true (c .before .starts .result) (c .if2 .taken))
 
 sub-check-arguments : tie.Need-sub-check-arguments
 sub-check-arguments c = root-within (c .before .before .before .before .before .before .before .before .before .before .args .book .now) (c .before .before .before .before .before .before .before .before .before .before .pre .0) (c .before .before .number-at .result) (sym (c .before .starts .ensures) ∙ not-false (c .before .starts .result) (c .if2 .left)) .0
@@ -31,7 +31,7 @@ check-arguments-requires c κs =
     (c .before .before .before .before .before .before .before .before .before .before .pre .1 .0, (omega (arith, within .1, c .before .before .before .before .before .before .before .before .before .before .pre .1 .1), omega arith, omega arith, omega arith))
 
 returns-3 : tie.Need-returns-3
-returns-3 c =     root-walked (c .before .before .before .before .before .before .before .before .before .before .before .args .counts .now) (c .before .before .before .before .before .before .before .before .before .before .before .args .chars .now) (c .before .before .before .before .before .before .before .before .before .before .before .args .subs .now) (c .before .before .before .before .before .before .before .before .before .before .before .pre .1 .0) (c .before .before .before .before .before .before .before .before .before .before .before .args .book .now) (c .before .before .before .before .before .before .before .before .before .before .before .pre .0) (c .before .before .before .before .before .before .before .before .before .before .before .pre .1 .1) (numbersOf (c .before .before .before .before .before .before .before .before .before .before .before .args .listing .now)) (c .before .before .before .before .before .before .before .before .before .before .before .args .text .now) (c .before .before .before .number-at .result) (let e = numbers-length (c .before .before .before .before .before .before .before .before .before .before .before .args .listing .now) in omega arith) (c .before .before .before .number-at .ensures) (c .check-arguments .result) (sym (c .before .before .starts .ensures) ∙ not-false (c .before .before .starts .result) (c .before .if2 .left)) (c .check-arguments .ensures)
+returns-3 c = root-walked (c .before .before .before .before .before .before .before .before .before .before .before .args .counts .now) (c .before .before .before .before .before .before .before .before .before .before .before .args .chars .now) (c .before .before .before .before .before .before .before .before .before .before .before .args .subs .now) (c .before .before .before .before .before .before .before .before .before .before .before .pre .1 .0) (c .before .before .before .before .before .before .before .before .before .before .before .args .book .now) (c .before .before .before .before .before .before .before .before .before .before .before .pre .0) (c .before .before .before .before .before .before .before .before .before .before .before .pre .1 .1) (numbersOf (c .before .before .before .before .before .before .before .before .before .before .before .args .listing .now)) (c .before .before .before .before .before .before .before .before .before .before .before .args .text .now) (c .before .before .before .number-at .result) (let e = numbers-length (c .before .before .before .before .before .before .before .before .before .before .before .args .listing .now) in omega arith) (c .before .before .before .number-at .ensures) (c .check-arguments .result) (sym (c .before .before .starts .ensures) ∙ not-false (c .before .before .starts .result) (c .before .if2 .left)) (c .check-arguments .ensures)
 
 pub check-root-spec : {M : Type 1} → statement M
 check-root-spec =
