@@ -10,14 +10,87 @@ extern "C" {
 #endif
 
 /*
- * Parses a text by a grammar (a "book").
+ * Areas. Each area is a pointer and a length in bytes. The areas of a call must not overlap. An area of length 0 may have any pointer that is not NULL.
+ * A `const` area is only read. What the others hold before a call doesn't matter.
+ *
+ * Two calls to an operation. The first gives its answer, 4 * value + kind, where kind 3 is a refusal and the value its number; meadowsink_check alone gives
+ * the number as it is. The second, whose name ends in `_place`, takes the same areas, does the same to them, and gives the place of the refusal; it is 0 if
+ * nothing is refused, but 0 may also be a place.
+ *
+ * Refusals, with their places. Bytes and rules are counted from 0. The book's refusals, 1 to 9, come before the others.
+ *
+ *   1    the book is too short for its header or for its counts. Place: the book's length.
+ *   2    a byte of its header is out of range. Place: which byte of the book.
+ *   3    a rule has more than 8 arguments or a class more than 16 ranges. Place: the byte of the count.
+ *   4    the book's length is not the one its counts call for. Place: the smaller of the two.
+ *   5    a result or argument names nothing. Place: its byte.
+ *   6    a range has its low end above its high end. Place: the byte of the low end.
+ *   7    a declaration has no such kind or names no rule. Place: its byte.
+ *        For the conflict question also: there is no such rule or no such argument. Place: 0.
+ *   8    two rules are equal. Place: the byte at which the later one starts.
+ *   9    a rule is ranked above itself. Place: the rule, the lowest such.
+ *   10   the text has more than 200 bytes. Place: how many.
+ *   11   the listing has an odd count of bytes, or more than 8,192. Place: how many.
+ *   20   the chart is too short: it needs A * (n + 1) * (n + 2) / 2 bytes, where n is the length of the text and A the sum, over all rules, of the number of
+ *        arguments + 1. Place: how many it needs.
+ *   21   the written grammar doesn't fit. Place: how many bytes it needs.
+ *   22   there is one parse, but its listing doesn't fit. Place: how many numbers of it are written.
+ */
+
+/*
+ * Checks a grammar (a "book").
+ *
+ *   book     the bytes of the grammar
+ *
+ * The result is 0 if the book is accepted, otherwise the number of the refusal, 1 to 9.
+ */
+uint64_t meadowsink_check(const uint8_t *book, size_t book_length);
+
+/* The place of the refusal. */
+uint64_t meadowsink_check_place(const uint8_t *book, size_t book_length);
+
+/*
+ * Asks whether the ranks of a book keep a rule from standing somewhere.
+ *
+ *   book     the bytes of the grammar
+ *   p, i, q  may rule q stand as argument i of rule p? Rules and arguments are counted from 0.
+ *
+ * The result is 4 * value + kind:
+ *
+ *   kind 0   no conflict: the ranks don't forbid it; the value is 0. A rule whose result is not that argument is no conflict either.
+ *   kind 1   a conflict: the ranks forbid it; the value is 0.
+ *   kind 3   refused; the value is the number of the refusal, 1 to 9.
+ */
+uint64_t meadowsink_conflict(const uint8_t *book, size_t book_length, size_t p, size_t i, size_t q);
+
+/* The place of the refusal. */
+uint64_t meadowsink_conflict_place(const uint8_t *book, size_t book_length, size_t p, size_t i, size_t q);
+
+/*
+ * Writes the character class grammar of a book: a grammar with the same parses that needs no ranks, as text, a line to a rule.
+ *
+ *   book     the bytes of the grammar
+ *   out      where the text goes
+ *
+ * The result is 4 * value + kind:
+ *
+ *   kind 1   written; the value is how many bytes. They stand at the start of `out`. Bytes beyond them are as they were.
+ *   kind 3   refused; the value is the number of the refusal, 1 to 9 or 21. `out` is as it was.
+ *
+ * To learn how many bytes are needed, ask for the place with an `out` of length 0.
+ */
+uint64_t meadowsink_flat(const uint8_t *book, size_t book_length, uint8_t *out, size_t out_length);
+
+/* The place of the refusal. It writes to `out` as meadowsink_flat does. */
+uint64_t meadowsink_flat_place(const uint8_t *book, size_t book_length, uint8_t *out, size_t out_length);
+
+/*
+ * Parses a text by a book.
  *
  *   book     the bytes of the grammar
  *   text     the bytes of the text, at most 200
- *   chart    room to work in; what it holds before doesn't matter
- *   listing  where the numbers of the parse go; what it holds before doesn't matter
- *
- * Each area is a pointer and a length in bytes. The four areas must not overlap. An area of length 0 may have any pointer that is not NULL.
+ *   chart    room to work in
+ *   listing  where the numbers of the parse go
  *
  * The result is 4 * value + kind:
  *
@@ -25,27 +98,39 @@ extern "C" {
  *   kind 1   one parse; the value is how many numbers its listing has. They stand at the start of `listing`, two bytes a number, low byte first:
  *            258 + r for rule r, or a character, a rule before its arguments. Bytes beyond them are as they were.
  *   kind 2   two parses or more; the value is 0.
- *   kind 3   refused; the value is the number of the refusal:
- *            1        the book is too short for its header or for its counts,
- *            2        a byte of its header is out of range,
- *            3        a rule has more than 8 arguments or a class more than 16 ranges,
- *            4        the book's length is not the one its counts call for,
- *            5        a result or argument names nothing,
- *            6        a range has its low end above its high end,
- *            7        a declaration has no such kind or names no rule,
- *            8        two rules are equal,
- *            9        a rule is ranked above itself,
- *            10       the text has more than 200 bytes,
- *            20       the chart is too short: it needs A * (n + 1) * (n + 2) / 2 bytes, where n is the length of the text and A the sum, over all
- *                     rules, of the number of arguments + 1,
- *            22       there is one parse, but its listing doesn't fit. The first numbers of it are written, as many as fit whole: the smaller of
- *                     `listing_length` and 65,536, halved.
+ *   kind 3   refused; the value is the number of the refusal, 1 to 10, 20 or 22. By 22 the first numbers of the listing are written, as many as fit whole:
+ *            the smaller of `listing_length` and 65,536, halved.
  *
  * At most the first 65,536 bytes of `listing` are used. After kinds 0 and 2 it is as it was. After a refusal other than 22 all areas are as they were;
  * otherwise the chart holds the counts of the parse table.
  */
 uint64_t meadowsink_read(const uint8_t *book, size_t book_length, const uint8_t *text, size_t text_length, uint8_t *chart, size_t chart_length,
                          uint8_t *listing, size_t listing_length);
+
+/* The place of the refusal. It parses, and writes to `chart` and `listing`, as meadowsink_read does. */
+uint64_t meadowsink_read_place(const uint8_t *book, size_t book_length, const uint8_t *text, size_t text_length, uint8_t *chart, size_t chart_length,
+                               uint8_t *listing, size_t listing_length);
+
+/*
+ * Checks whether numbers are the listing of a parse of a text by a book.
+ *
+ *   book     the bytes of the grammar
+ *   text     the bytes of the text, at most 200
+ *   listing  the numbers, as meadowsink_read writes them; at most 8,192 bytes
+ *
+ * The result is 4 * value + kind:
+ *
+ *   kind 0   right: they are; the value is 0.
+ *   kind 1   wrong: they are not; the value is the index, from 0, of the first number that is wrong. If a number is missing, or text is left over behind
+ *            all of them, it is how many there are.
+ *   kind 3   refused; the value is the number of the refusal, 1 to 11.
+ */
+uint64_t meadowsink_check_listing(const uint8_t *book, size_t book_length, const uint8_t *text, size_t text_length, const uint8_t *listing,
+                                  size_t listing_length);
+
+/* The place of the refusal. */
+uint64_t meadowsink_check_listing_place(const uint8_t *book, size_t book_length, const uint8_t *text, size_t text_length, const uint8_t *listing,
+                                        size_t listing_length);
 
 #ifdef __cplusplus
 }

@@ -1,2 +1,3 @@
 -- Laws of the calls.
 pub mod ViewerLaws
+pub mod FitLaws

@@ -1,2 +1,3 @@
 -- What the contracts of the calls cite.
+pub mod Calls
 pub mod Viewer

@@ -1,14 +1,12 @@
--- `number_of` meets its contract, answer by answer.
+-- `read_number` meets its contract, answer by answer.
 use Prim.Native.Nat.{_^_, _<_}
 use mathlib.Core.Path.{refl, subst}
 use native.Mathlib.Omega.{arith}
 use borrow.Author.Needs.{needs}
 use Rattle.engine.specs.declared.Answer.{Answer}
 use Rattle.meadowsink.specs.Viewer.{viewerNumber}
-use Rattle.meadowsink.proofs.number_of.Statement.{statement}
-use Rattle.meadowsink.proofs.number_of.Tie as tie
-use Rattle.meadowsink.proofs.number_of.Reads as reads
-use Rattle.meadowsink.proofs.number_of.Lts as lts
+use Rattle.meadowsink.proofs.numbers.read_number.Statement.{statement}
+use Rattle.meadowsink.proofs.numbers.read_number.Tie as tie
 
 enum-told : tie.Need-enum-told
 enum-told c = search needs
@@ -19,13 +17,13 @@ enum-known-answer c = search needs
 mul-result : tie.Need-mul-result
 unfolding viewerNumber
 mul-result c =
-    let h = subst (λ (x : Answer). viewerNumber x < 2 ^ 64) (c .before .answer .given .1) ((c .before .before .before .pre)) in
+    let h = subst (λ (x : Answer). viewerNumber x < 2 ^ 64) (c .before .answer .given .1) (c .before .before .before .pre) in
     omega arith
 
 add-result : tie.Need-add-result
 unfolding viewerNumber
 add-result c =
-    let h = subst (λ (x : Answer). viewerNumber x < 2 ^ 64) (c .before .answer .given .1) ((c .before .before .before .pre)) in
+    let h = subst (λ (x : Answer). viewerNumber x < 2 ^ 64) (c .before .answer .given .1) (c .before .before .before .pre) in
     omega arith
 
 enum-told-2 : tie.Need-enum-told-2
@@ -37,13 +35,13 @@ enum-known-answer-2 c = search needs
 mul-result-2 : tie.Need-mul-result-2
 unfolding viewerNumber
 mul-result-2 c =
-    let h = subst (λ (x : Answer). viewerNumber x < 2 ^ 64) (c .before .answer2 .given .1) ((c .before .before .before .pre)) in
+    let h = subst (λ (x : Answer). viewerNumber x < 2 ^ 64) (c .before .answer2 .given .1) (c .before .before .before .pre) in
     omega arith
 
 add-result-2 : tie.Need-add-result-2
 unfolding viewerNumber
 add-result-2 c =
-    let h = subst (λ (x : Answer). viewerNumber x < 2 ^ 64) (c .before .answer2 .given .1) ((c .before .before .before .pre)) in
+    let h = subst (λ (x : Answer). viewerNumber x < 2 ^ 64) (c .before .answer2 .given .1) (c .before .before .before .pre) in
     omega arith
 
 returns : tie.Need-returns
@@ -62,8 +60,8 @@ returns-4 : tie.Need-returns-4
 unfolding viewerNumber
 returns-4 c = rw (c .before .answer2 .given .1) refl
 
-pub number-of-spec : {M : Type 1} → statement M
-number-of-spec =
+pub read-number-spec : {M : Type 1} → statement M
+read-number-spec =
     tie.close
     (tie.spec
     enum-told

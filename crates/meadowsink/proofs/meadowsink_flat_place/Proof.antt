@@ -1,0 +1,22 @@
+-- `meadowsink_flat_place` meets its contract: the place is that of the answer, and the buffer is as writing leaves it.
+use mathlib.Core.Path.{_∙_, ap}
+use borrow.Author.Needs.{needs}
+use Rattle.meadowsink.specs.Calls.{flatPlace}
+use Rattle.meadowsink.proofs.meadowsink_flat_place.Statement.{statement}
+use Rattle.meadowsink.proofs.meadowsink_flat_place.Tie as tie
+
+write-flat-requires : tie.Need-write-flat-requires
+write-flat-requires c κs = search needs
+
+flat-place-requires : tie.Need-flat-place-requires
+flat-place-requires c κs = search needs
+
+same-length : tie.Need-same-length
+same-length c = search needs
+
+returns : tie.Need-returns
+returns c = (c .flat-place .ensures ∙ ap flatPlace (c .before .before .before .write-flat .ensures .0), c .before .before .before .write-flat .ensures .1)
+
+pub meadowsink-flat-place-spec : {M : Type 1} → statement M
+meadowsink-flat-place-spec =
+    tie.close (tie.spec write-flat-requires flat-place-requires same-length returns)

@@ -1,0 +1,31 @@
+-- `conflict_place` meets its contract, answer by answer.
+use mathlib.Core.Path.{refl}
+use borrow.Author.Needs.{needs}
+use Rattle.meadowsink.specs.Calls.{conflictPlace}
+use Rattle.meadowsink.proofs.numbers.conflict_place.Statement.{statement}
+use Rattle.meadowsink.proofs.numbers.conflict_place.Tie as tie
+
+enum-told : tie.Need-enum-told
+enum-told c = search needs
+
+enum-told-2 : tie.Need-enum-told-2
+enum-told-2 c = search needs
+
+enum-known-answer : tie.Need-enum-known-answer
+enum-known-answer c = search needs
+
+returns : tie.Need-returns
+unfolding conflictPlace
+returns c = rw (c .enum-told .given .1) refl
+
+returns-2 : tie.Need-returns-2
+unfolding conflictPlace
+returns-2 c = rw (c .enum-told2 .given .1) refl
+
+returns-3 : tie.Need-returns-3
+unfolding conflictPlace
+returns-3 c = rw (c .before .answer .given .1) refl
+
+pub conflict-place-spec : {M : Type 1} → statement M
+conflict-place-spec =
+    tie.close (tie.spec enum-told enum-told-2 enum-known-answer returns returns-2 returns-3)
