@@ -2,3 +2,7 @@
 
 pub mod ScatteredLaws
 pub mod RowsLaws
+pub mod PlaceLaws
+pub mod WrittenLaws
+pub mod SumsLaws
+pub mod TurnLaws

@@ -1,3 +1,5 @@
 -- What the contracts of a column cite.
+pub mod ByEnds
+pub mod Sums
 pub mod Scattered
 pub mod Rows

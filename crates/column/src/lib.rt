@@ -1,91 +1,118 @@
-// A column of the chart: for each row, the next arguments that end where the column does, by their start. What is summed up before a span is settled,
-// and what is stored afterwards.
+// A column of the chart: the sums of splits for its spans, by row and start, and what is stored of a span once it is settled.
+pub mod by_ends;
+
+use by_ends::add_row;
+use by_ends::clear_row;
+use by_ends::store;
+use by_ends::turn_row;
 use ccg::tables::slot_has;
 use chart::layout::PLACES;
 use chart::layout::ROW_LIMIT;
-use chart::layout::copy_row;
-use chart::layout::put;
 use chart::sums::capped;
-use chart::sums::larger;
-use chart::sums::row_sum;
 use chart::sums::zero_row;
 use grammar::layout::wide;
 use grammar::limits::ARGUMENT_LIMIT;
 ghost use mathlib.Core.Path.{_≡_};
-ghost use mathlib.Core.Bool.{Bool, true, false, _&&_};
+ghost use mathlib.Core.Bool.{_&&_};
 ghost use mathlib.Core.List.{List};
-ghost use Prim.Native.Nat.{ℕ, _+_, _-_, _*_, _<_, _≤_};
+ghost use Prim.Native.Nat.{ℕ, _+_, _*_, _<_, _≤_};
 ghost use lib.Dec.{eqb};
 ghost use lib.ListN.{length, getD};
-ghost use Rattle.common.specs.Below.{sumBelow, bitOf};
+ghost use Rattle.common.specs.Below.{bitOf};
 ghost use Rattle.common.specs.Region.{Region};
 ghost use Rattle.grammar.specs.Limits.{productionLimit, argumentLimit};
-ghost use Rattle.theory.specs.Steps.{cap};
 ghost use Rattle.ccg.specs.Tables.{slot, slotHas, charWords};
-ghost use Rattle.chart.specs.Layout.{textLimit, places, rowLimit, rowOf, rowCount, spanCount, cellAt};
+ghost use Rattle.chart.specs.Layout.{textLimit, places, rowLimit, spanCount};
+ghost use Rattle.column.specs.ByEnds.{placeAt, Turned};
+ghost use Rattle.column.specs.Sums.{ColumnCleared, RowAdded, SplitsAdded};
 ghost use Rattle.column.specs.Scattered.{Scattered};
 ghost use Rattle.column.specs.Rows.{RowsFilled};
 
-// The length of the table of arguments of a column.
-pub const COLUMN: usize = ROW_LIMIT * PLACES;
+// The length of the table of sums of a column.
+pub const SUMS: usize = ROW_LIMIT * PLACES;
 
-// The largest of `count` bytes from `at` on.
-fn largest(bytes: &[u8], at: usize, count: usize) -> u8
-    requires { ⌜ (at + count ≤ length (now bytes)) × (count ≤ textLimit) ⌝ }
-    ensures { λ r. ⌜ ((k : ℕ) → k < count → getD (now (bytes .entry)) (at + k) 0 ≤ r) ⌝ }
-{
-    let mut most = 0;
-    let mut k = 0;
-    while k < count {
-        most = larger(most, bytes[at + k]);
-        k += 1;
-    }
-    most
-}
+// ---- sums
 
-// How many lists of trees of a row have their last split strictly between i and j: 0, 1, or 2 for more.
-fn inner_sum(
-    chart: &[u8],
-    n: usize,
-    row: usize,
-    i: usize,
-    j: usize,
-    column: &[u8],
-    buffer: &mut [u8],
-) -> u8
-    requires { ⌜ (n ≤ textLimit) × (row < rowLimit) × (i < j) × (j ≤ n) ⌝ }
-    requires { ⌜ ((row + 1) * spanCount n ≤ length (now chart)) × (length (now column) ≡ rowLimit * places) × (length (now buffer) ≡ places) ⌝ }
-    ensures { λ r. ⌜ r ≡ cap (sumBelow (j - i - 1) (λ k. getD (now (chart .entry)) (cellAt n row i (i + 1 + k)) 0 * getD (now (column .entry)) (row * places + (i + 1 + k)) 0)) ⌝ }
+// Zeros for all cells that end at j and start before it.
+pub fn clear_column(chart: &mut [u8], n: usize, rows: usize, j: usize)
+    requires { ⌜ (n ≤ textLimit) × (rows ≤ rowLimit) × (j ≤ n) ⌝ }
+    requires { ⌜ rows * spanCount n ≤ length (now chart) ⌝ }
+    ensures { λ _. ⌜ ColumnCleared n rows j (now (chart .entry)) (now (chart .exit)) ⌝ }
 {
-    // where no next argument ends at j, the cells of the row need not be fetched
-    if largest(column, row * PLACES + i + 1, j - i - 1) == 0 {
-        return 0;
-    }
-    copy_row(chart, n, row, i, i + 1, j - i - 1, buffer);
-    capped(row_sum(buffer, column, row * PLACES + i + 1, j - i - 1))
-}
-
-// The same for each row.
-pub fn inner_sums(
-    chart: &[u8],
-    n: usize,
-    rows: usize,
-    i: usize,
-    j: usize,
-    column: &[u8],
-    inner: &mut [u8],
-)
-    requires { ⌜ (n ≤ textLimit) × (rows ≤ rowLimit) × (i < j) × (j ≤ n) ⌝ }
-    requires { ⌜ (rows * spanCount n ≤ length (now chart)) × (length (now column) ≡ rowLimit * places) × (length (now inner) ≡ rowLimit) ⌝ }
-    ensures { λ _. ⌜ ((r : ℕ) → r < rows → getD (now (inner .exit)) r 0 ≡ cap (sumBelow (j - i - 1) (λ k. getD (now (chart .entry)) (cellAt n r i (i + 1 + k)) 0 * getD (now (column .entry)) (r * places + (i + 1 + k)) 0))) ⌝ }
-{
-    let mut buffer = [0; PLACES];
     let mut r = 0;
     while r < rows {
-        inner[r] = inner_sum(chart, n, r, i, j, column, &mut buffer);
+        clear_row(chart, n, r, j);
         r += 1;
     }
 }
+
+// The sums of all rows for start i.
+pub fn sums_at(sums: &[u8], rows: usize, i: usize) -> [u8; ROW_LIMIT]
+    requires { ⌜ (length (now sums) ≡ rowLimit * places) × (rows ≤ rowLimit) × (i < places) ⌝ }
+    ensures { λ out. ⌜ (length out ≡ rowLimit) × ((r : ℕ) → r < rows → getD out r 0 ≡ getD (now (sums .entry)) (r * places + i) 0) × ((r : ℕ) → rows ≤ r → getD out r 0 ≡ 0) ⌝ }
+{
+    let mut out = zero_row();
+    let mut r = 0;
+    while r < rows {
+        out[r] = sums[r * PLACES + i];
+        r += 1;
+    }
+    out
+}
+
+// Adds the splits of one row at m, unless nothing may stand behind them.
+fn add_split(
+    chart: &[u8],
+    n: usize,
+    row: usize,
+    m: usize,
+    argument: u8,
+    sums: &mut [u8],
+    live: &mut [u8],
+)
+    requires { ⌜ (n ≤ textLimit) × (row < rowLimit) × (m ≤ n) ⌝ }
+    requires { ⌜ ((row + 1) * spanCount n ≤ length (now chart)) × (length (now sums) ≡ rowLimit * places) × (length (now live) ≡ places) ⌝ }
+    requires { ⌜ ((i : ℕ) → i < m → getD (now sums) (row * places + i) 0 ≤ 2) × ((i : ℕ) → i < m → getD (now chart) (placeAt n row i m) 0 ≤ 2) ⌝ }
+    ensures { λ _. ⌜ RowAdded n row m argument (now (chart .entry)) (now (sums .entry)) (now (live .entry)) (now (sums .exit)) (now (live .exit)) ⌝ }
+{
+    if argument == 0 {
+        return;
+    }
+    add_row(
+        chart,
+        n,
+        row,
+        m,
+        capped(wide(argument)),
+        sums,
+        row * PLACES,
+        live,
+    );
+}
+
+// The same for each row.
+pub fn add_splits(
+    chart: &[u8],
+    n: usize,
+    rows: usize,
+    m: usize,
+    args: &[u8],
+    sums: &mut [u8],
+    live: &mut [u8],
+)
+    requires { ⌜ (n ≤ textLimit) × (rows ≤ rowLimit) × (m ≤ n) × (length (now args) ≡ rowLimit) ⌝ }
+    requires { ⌜ (rows * spanCount n ≤ length (now chart)) × (length (now sums) ≡ rowLimit * places) × (length (now live) ≡ places) ⌝ }
+    requires { ⌜ ((r i : ℕ) → r < rows → i < m → getD (now sums) (r * places + i) 0 ≤ 2) × ((r i : ℕ) → r < rows → i < m → getD (now chart) (placeAt n r i m) 0 ≤ 2) ⌝ }
+    ensures { λ _. ⌜ SplitsAdded n rows m (now (chart .entry)) (now (args .entry)) (now (sums .entry)) (now (live .entry)) (now (sums .exit)) (now (live .exit)) ⌝ }
+{
+    let mut r = 0;
+    while r < rows {
+        add_split(chart, n, r, m, args[r], sums, live);
+        r += 1;
+    }
+}
+
+// ---- characters
 
 // Writes which arguments of production p take the character.
 fn char_production(
@@ -135,27 +162,30 @@ pub fn bare_args(text: &[u8], counts: &[u8], chars: &[u64], i: usize, j: usize) 
     char_row(counts, chars, text[i])
 }
 
+// ---- cells
+
 // Stores the cells of all rows for the span from i to j.
 pub fn store_cells(chart: &mut [u8], n: usize, rows: usize, i: usize, j: usize, cells: &[u8])
     requires { ⌜ (n ≤ textLimit) × (rows ≤ rowLimit) × (i ≤ j) × (j ≤ n) ⌝ }
     requires { ⌜ (rows * spanCount n ≤ length (now chart)) × (length (now cells) ≡ rowLimit) ⌝ }
-    ensures { λ _. ⌜ Scattered (λ r. cellAt n r i j) (λ r. getD (now (cells .entry)) r 0) rows (now (chart .entry)) (now (chart .exit)) ⌝ }
+    ensures { λ _. ⌜ Scattered (λ r. placeAt n r i j) (λ r. getD (now (cells .entry)) r 0) rows (now (chart .entry)) (now (chart .exit)) ⌝ }
 {
     let mut r = 0;
     while r < rows {
-        put(chart, n, r, i, j, cells[r]);
+        store(chart, n, r, i, j, cells[r]);
         r += 1;
     }
 }
 
-// Stores the next arguments of all rows from start i.
-pub fn store_args(column: &mut [u8], rows: usize, i: usize, args: &[u8])
-    requires { ⌜ (length (now column) ≡ rowLimit * places) × (rows ≤ rowLimit) × (i < places) × (length (now args) ≡ rowLimit) ⌝ }
-    ensures { λ _. ⌜ Scattered (λ r. r * places + i) (λ r. getD (now (args .entry)) r 0) rows (now (column .entry)) (now (column .exit)) ⌝ }
+// Turns the rows: all cells stand where the chart has them.
+pub fn turn_rows(chart: &mut [u8], n: usize, rows: usize)
+    requires { ⌜ (n ≤ textLimit) × (rows ≤ rowLimit) ⌝ }
+    requires { ⌜ rows * spanCount n ≤ length (now chart) ⌝ }
+    ensures { λ _. ⌜ Turned n rows (now (chart .entry)) (now (chart .exit)) ⌝ }
 {
     let mut r = 0;
     while r < rows {
-        column[r * PLACES + i] = args[r];
+        turn_row(chart, n, r);
         r += 1;
     }
 }

@@ -1,30 +1,62 @@
 -- Laws of a chart while it is filled: each span settled and stored leaves it filled so much further, and filled to the end it counts.
-use Prim.Native.Nat.{ℕ, _+_, _*_, _≤_, _<_}
-use mathlib.Core.Path.{_≡_, refl, sym, _∙_, subst, subst⁻¹, subst₂}
+use Prim.Native.Nat.{ℕ, zero, suc, _+_, _-_, _*_, _≤_, _<_}
+use mathlib.Core.Path.{_≡_, refl, sym, _∙_, ap, ap₂, subst, subst⁻¹, subst₂}
 use mathlib.Core.Bool.{lt}
 use mathlib.Core.List.{List}
 use mathlib.Core.Logic.{by-cases}
 use native.Mathlib.Omega.{arith}
 use native.Mathlib.Decide.{ℕ-discrete, decLt}
-use native.Mathlib.Nat.{le-refl}
-use lib.ListN.{length, getD}
-use Rattle.chart.proofs.LayoutLaws.{cell-below, cell-same, row-in, row-shift}
+use native.Mathlib.Nat.{add-zero, mul-zero, zero-add, zero-mul, le-refl}
+use lib.ListN.{length, getD, List·getD-eq-default}
+use borrow.Author.Tests.{ne-eqb}
+use Rattle.chart.proofs.LayoutLaws.{row-in, row-shift}
 use Rattle.chart.specs.Counted.{Counted}
 use Rattle.chart.specs.Layout.{textLimit, places, rowLimit, rowOf, rowCount, cellAt}
+use Rattle.column.proofs.PlaceLaws.{place-below, place-same}
+use Rattle.column.specs.ByEnds.{placeAt, Turned}
 use Rattle.column.specs.Scattered.{Scattered}
+use Rattle.column.specs.Sums.{ColumnCleared, SplitsAdded}
+use Rattle.common.proofs.BelowLaws.{sum-bound, sum-same, sum-first}
+use Rattle.common.proofs.ListLaws.{length-tabulate, getD-tabulate}
+use Rattle.common.specs.Below.{sumBelow, bitOf}
+use Rattle.common.specs.Lists.{tabulate}
 use Rattle.common.specs.Zeros.{AllZero}
 use Rattle.empty.specs.Empty.{EmptyRight}
-use Rattle.fill.proofs.SpanFillLaws.{over-here, over-else, view-empty, view-cell, raised-small, empty-step, Known, argument-whole, step-split, Fine, Inside, settled-fine}
-use Rattle.fill.specs.Filling.{viewOf, over, Done, Filling}
+use Rattle.fill.proofs.SpanFillLaws.{over-here, over-else, view-empty, view-cell, empty-step, Known, argument-whole, step-split, Fine, Inside, settled-fine}
+use Rattle.fill.specs.Filling.{viewOf, over, Done, SmallCells, SmallSums, Filling, Summing}
 use Rattle.grammar.proofs.FormedLaws.{inside}
-use Rattle.span.specs.Span.{Span, ClosedAt, Raised}
+use Rattle.grammar.proofs.VerdictLaws.{here}
+use Rattle.grammar.specs.Layout.{argument}
+use Rattle.span.specs.Span.{Span, whole, usedSum, argumentOf, stepOf, ClosedAt, Raised, asBefore}
 use Rattle.span.specs.Tables.{Exact}
 use Rattle.theory.proofs.CountLaws.{entry-counts}
 use Rattle.theory.proofs.SplitLaws.{argument-same, split-same}
 use Rattle.theory.specs.Counts.{Shown}
 use Rattle.theory.specs.Grammar.{Grammar, Spells}
-use Rattle.theory.specs.Steps.{Chart, cap, argumentSum, splitSum, Sound, Closed}
+use Rattle.theory.specs.Steps.{Chart, cap, charEntry, argumentSum, splitSum, Sound, Closed}
 use Rattle.theory.specs.Tree.{Forest}
+
+-- ---- sums
+
+-- of a product only the cap of a factor matters
+cap-product : (sum cell argument : ℕ) → cap (cap sum + cell * cap argument) ≡ cap (cell * argument + sum)
+cap-product sum zero argument = omega arith
+cap-product sum (suc cell) argument =
+    by-cases (decLt argument 2)
+    (λ l. let e : cap argument ≡ argument = omega arith in rw e (omega arith))
+    (λ l. let e : cap argument ≡ 2 = omega arith in rw e (omega arith))
+
+pub zero-sum : (f : ℕ → ℕ) (n : ℕ) → ((k : ℕ) → f k ≡ 0) → sumBelow n f ≡ 0
+zero-sum f n e = omega (arith, sum-bound 0 f (λ k. omega (arith, e k)) n)
+
+abbrev zero-at : ℕ → ℕ
+zero-at m = 0
+
+tabulate-zero : (n k : ℕ) → getD (tabulate n zero-at) k 0 ≡ 0
+tabulate-zero n k =
+    by-cases (decLt k n)
+    (λ l. getD-tabulate n zero-at k 0 l)
+    (λ l. List·getD-eq-default (tabulate n zero-at) 0 {n = k} (omega (arith, length-tabulate n zero-at)))
 
 -- ---- spans done
 
@@ -44,7 +76,7 @@ done-before n i j i′ j′ d apart =
 -- ---- a span stored
 
 module _ (g : Grammar) (w empty bytes bytes′ x : List ℕ) (i j : ℕ) (ij : i < j) (jw : j ≤ length w)
-    (stored : Scattered (λ (r : ℕ). cellAt (length w) r i j) (λ (r : ℕ). getD x r 0) (rowCount (g .arity) (g .count)) bytes bytes′) where
+    (stored : Scattered (λ (r : ℕ). placeAt (length w) r i j) (λ (r : ℕ). getD x r 0) (rowCount (g .arity) (g .count)) bytes bytes′) where
   abbrev view : Chart
   view = viewOf (g .arity) (length w) empty bytes
 
@@ -55,10 +87,10 @@ module _ (g : Grammar) (w empty bytes bytes′ x : List ℕ) (i j : ℕ) (ij : i
   o = over (g .arity) view i j x
 
   -- other cells are as they were
-  other-cell : (r i′ j′ : ℕ) → i′ ≤ j′ → j′ ≤ length w → (i′ ≡ i → j′ ≡ j → ⊥) → getD bytes′ (cellAt (length w) r i′ j′) 0 ≡ getD bytes (cellAt (length w) r i′ j′) 0
+  other-cell : (r i′ j′ : ℕ) → i′ ≤ j′ → j′ ≤ length w → (i′ ≡ i → j′ ≡ j → ⊥) → getD bytes′ (placeAt (length w) r i′ j′) 0 ≡ getD bytes (placeAt (length w) r i′ j′) 0
   other-cell r i′ j′ l h apart =
-      stored .others (cellAt (length w) r i′ j′)
-      (λ k o e. let (a, b, c) = cell-same (length w) r k i′ i j′ j l h (omega arith) jw e in apart b c)
+      stored .others (placeAt (length w) r i′ j′)
+      (λ k o e. let (a, b, c) = place-same (length w) r k i′ i j′ j l h (omega arith) jw e in apart b c)
 
   -- the view is the one before with the span put in
   stored-view : (p d i′ j′ : ℕ) → p < g .count → d ≤ g .arity p → i′ ≤ j′ → j′ ≤ length w → view′ p d i′ j′ ≡ o p d i′ j′
@@ -99,8 +131,8 @@ module _ (g : Grammar) (w empty bytes bytes′ x : List ℕ) (i j : ℕ) (ij : i
 -- ---- one span further
 
 module _ (g : Grammar) (w empty back : List ℕ) (bottom : EmptyRight g empty back) (few : rowCount (g .arity) (g .count) ≤ rowLimit) (short : length w ≤ textLimit)
-    (before bytes column : List ℕ) (i j : ℕ) (ij : i < j) (jw : j ≤ length w)
-    (fill : Filling g w empty before bytes column (i + 1) j) (users : ℕ → ℕ → ℕ) (bare inner : ℕ → ℕ) where
+    (before bytes sums live : List ℕ) (i j : ℕ) (ij : i < j) (jw : j ≤ length w)
+    (fill : Filling g w empty before bytes (i + 1) j) (summing : Summing g w empty bytes sums live (i + 1) j) (users : ℕ → ℕ → ℕ) (bare inner : ℕ → ℕ) where
   abbrev c : Chart
   c = viewOf (g .arity) (length w) empty bytes
 
@@ -113,6 +145,13 @@ module _ (g : Grammar) (w empty back : List ℕ) (bottom : EmptyRight g empty ba
   abbrev pub Knows : Type 0
   Knows = Known g w empty back bottom c diag i j ij jw users bare inner
 
+  -- the splits inside the span are the sums for its start
+  pub inner-sums : (p d : ℕ) → p < g .count → d < g .arity p
+      → getD sums (rowOf (g .arity) p d * places + i) 0 ≡ cap (sumBelow (j - i - 1) (λ k. c p d i (i + 1 + k) * argumentSum g w c p d (i + 1 + k) j))
+  inner-sums p d lp ld =
+      let e : j - (i + 1) ≡ j - i - 1 = omega arith in
+      summing .splits p d i lp ld (omega arith) ∙ ap (λ (m : ℕ). cap (sumBelow m (λ k. c p d i (i + 1 + k) * argumentSum g w c p d (i + 1 + k) j))) e
+
   within : Inside g w empty back bottom c diag i j ij jw users bare inner
   within =
       record {
@@ -122,9 +161,8 @@ module _ (g : Grammar) (w empty back : List ℕ) (bottom : EmptyRight g empty ba
 
   module _ (known : Knows) (x₀ x args : List ℕ) (zeros : AllZero rowLimit x₀) (came : Raised s x₀ x)
       (closed : (p : ℕ) → p < g .count → ClosedAt s x p) (exact : Exact s x args)
-      (bytes′ column′ : List ℕ)
-      (stored : Scattered (λ (r : ℕ). cellAt (length w) r i j) (λ (r : ℕ). getD x r 0) (rowCount (g .arity) (g .count)) bytes bytes′)
-      (kept : Scattered (λ (r : ℕ). r * places + i) (λ (r : ℕ). getD args r 0) (rowCount (g .arity) (g .count)) column column′) where
+      (bytes′ : List ℕ)
+      (stored : Scattered (λ (r : ℕ). placeAt (length w) r i j) (λ (r : ℕ). getD x r 0) (rowCount (g .arity) (g .count)) bytes bytes′) where
     abbrev c′ : Chart
     c′ = viewOf (g .arity) (length w) empty bytes′
 
@@ -137,9 +175,6 @@ module _ (g : Grammar) (w empty back : List ℕ) (bottom : EmptyRight g empty ba
 
     fine-cells : Fine g w empty back bottom c diag i j ij jw users bare inner x
     fine-cells = settled-fine g w empty back bottom c diag i j ij jw users bare inner known within x₀ x zeros few came
-
-    small-x : (r : ℕ) → getD x r 0 ≤ 2
-    small-x r = raised-small s x₀ x came (λ k. omega (arith, zeros .zeros k)) r
 
     -- a statement about each cell holds of the new one and of those before
     each : (P : ℕ → ℕ → ℕ → Type 0) (p d : ℕ) → p < g .count → d ≤ g .arity p → P i j (getD x (rowOf (g .arity) p d) 0)
@@ -169,40 +204,143 @@ module _ (g : Grammar) (w empty back : List ℕ) (bottom : EmptyRight g empty ba
         (λ u v du. subst⁻¹ (λ (n : ℕ). cap n ≤ c p (d + 1) u v) (split-before g w empty bytes bytes′ x i j ij jw stored p d u v du) (fill .steps p d u v lp ld du))
         i′ j′ dn)
 
-    -- the arguments of the column
-    still-sums : (p d m : ℕ) → p < g .count → d < g .arity p → i ≤ m → m < j → getD column′ (rowOf (g .arity) p d * places + m) 0 ≡ argumentSum g w c′ p d m j
-    unfolding put
-    still-sums p d m lp ld im mj =
-        let row = rowOf (g .arity) p d in
-        let inside = row-in (g .arity) p d (g .count) lp (omega arith) in
-        let new = stored-argument g w empty bytes bytes′ x i j ij jw stored p d m (omega arith) in
-        elim (ℕ-discrete m i) [
-          | yes e ↦ subst⁻¹ (λ (n : ℕ). getD column′ (row * places + n) 0 ≡ argumentSum g w c′ p d n j) e
-              (kept .here row inside ∙ exact .exact row (omega arith) ∙ sym (argument-whole g w empty back bottom c diag i j ij jw users bare inner known x p d lp ld)
-              ∙ sym (stored-argument g w empty bytes bytes′ x i j ij jw stored p d i (omega arith)))
-          | no e ↦ let lt : i < m = by-cases (decLt i m) (λ l. l) (λ l. absurd (e (omega arith))) in
-              kept .others (row * places + m) (λ k l h. omega arith)
-              ∙ fill .sums p d m lp ld (omega arith) mj
-              ∙ sym (argument-same g w put c p d m j (λ q l. over-else (g .arity) c i j x q (g .arity q) m j (λ u v. e u)))
-              ∙ sym new
-        ]
-
-    pub filling-next : Filling g w empty before bytes′ column′ i j
+    pub filling-next : Filling g w empty before bytes′ i j
     filling-next =
         record {
           long = stored .long ∙ fill .long;
-          columnLong = kept .long ∙ fill .columnLong;
-          beyond = λ k l. stored .others k (λ r o e. omega (arith, cell-below (length w) r (rowCount (g .arity) (g .count)) i j o (omega arith) jw)) ∙ fill .beyond k l;
-          small = λ p d i′ j′ lp ld dn. each (λ (u v n : ℕ). n ≤ 2) p d lp ld (small-x (rowOf (g .arity) p d)) (λ u v du. fill .small p d u v lp ld du) i′ j′ dn;
+          beyond = λ k l. stored .others k (λ r o e. omega (arith, place-below (length w) r (rowCount (g .arity) (g .count)) i j o (omega arith) jw)) ∙ fill .beyond k l;
           shown = λ p d i′ j′ lp ld dn. each (λ (u v n : ℕ). Shown (λ (f : Forest). Spells g w p f d u v) n) p d lp ld (fine-cells .fine p d lp ld) (λ u v du. fill .shown p d u v lp ld du) i′ j′ dn;
           steps = still-closed;
           diagonal = λ r j′ lr l. other-cell g w empty bytes bytes′ x i j ij jw stored r j′ j′ (le-refl j′) (omega arith) (λ u v. omega arith) ∙ fill .diagonal r j′ lr l;
-          sums = still-sums;
         }
+
+    -- the argument over the span, and over a part that ends where it does
+    argument-here : (p d : ℕ) → p < g .count → d < g .arity p → getD args (rowOf (g .arity) p d) 0 ≡ argumentSum g w c′ p d i j
+    argument-here p d lp ld =
+        let inside = row-in (g .arity) p d (g .count) lp (omega arith) in
+        exact .exact (rowOf (g .arity) p d) (omega arith)
+        ∙ sym (argument-whole g w empty back bottom c diag i j ij jw users bare inner known x p d lp ld)
+        ∙ sym (stored-argument g w empty bytes bytes′ x i j ij jw stored p d i (omega arith))
+
+    argument-later : (p d m : ℕ) → i < m → m ≤ j → argumentSum g w c′ p d m j ≡ argumentSum g w c p d m j
+    argument-later p d m l h =
+        stored-argument g w empty bytes bytes′ x i j ij jw stored p d m h
+        ∙ argument-same g w (over (g .arity) c i j x) c p d m j (λ q o. over-else (g .arity) c i j x q (g .arity q) m j (λ u v. omega arith))
+
+    -- a cell of an earlier start
+    cell-earlier : (p d i′ m : ℕ) → p < g .count → d ≤ g .arity p → i′ < i → i′ ≤ m → m ≤ length w → c′ p d i′ m ≡ c p d i′ m
+    cell-earlier p d i′ m lp ld l h o = stored-view g w empty bytes bytes′ x i j ij jw stored p d i′ m lp ld h o ∙ over-else (g .arity) c i j x p d i′ m (λ u v. omega arith)
+
+    module _ (sums′ live′ : List ℕ) (added : SplitsAdded (length w) (rowCount (g .arity) (g .count)) i bytes′ args sums live sums′ live′) where
+      next-sums : (p d i′ : ℕ) → p < g .count → d < g .arity p → i′ < i
+          → getD sums′ (rowOf (g .arity) p d * places + i′) 0 ≡ cap (sumBelow (j - i) (λ k. c′ p d i′ (i + k) * argumentSum g w c′ p d (i + k) j))
+      next-sums p d i′ lp ld l =
+          let row = rowOf (g .arity) p d in
+          let f : ℕ → ℕ = λ k. c′ p d i′ (i + k) * argumentSum g w c′ p d (i + k) j in
+          let old : ℕ → ℕ = λ k. c p d i′ (i + 1 + k) * argumentSum g w c p d (i + 1 + k) j in
+          let cell : getD bytes′ (placeAt (length w) row i′ i) 0 ≡ c′ p d i′ i = sym (view-cell (g .arity) (length w) empty bytes′ p d i′ i l) in
+          let start : f 0 ≡ c′ p d i′ i * argumentSum g w c′ p d i j = ap (λ (m : ℕ). c′ p d i′ m * argumentSum g w c′ p d m j) (add-zero i) in
+          let rest : sumBelow (j - i - 1) (λ k. f (suc k)) ≡ sumBelow (j - i - 1) old = sum-same (λ k. f (suc k)) old (j - i - 1)
+          (λ k h. let e : i + suc k ≡ i + 1 + k = omega arith in
+          ap (λ (m : ℕ). c′ p d i′ m * argumentSum g w c′ p d m j) e
+          ∙ ap₂ _*_ (cell-earlier p d i′ (i + 1 + k) lp (omega arith) l (omega arith) (omega arith)) (argument-later p d (i + 1 + k) (omega arith) (omega arith))) in
+          let e : j - i ≡ suc (j - i - 1) = omega arith in
+          let e′ : j - (i + 1) ≡ j - i - 1 = omega arith in
+          let before-it : getD sums (row * places + i′) 0 ≡ cap (sumBelow (j - i - 1) old) = summing .splits p d i′ lp ld (omega arith) ∙ ap (λ (m : ℕ). cap (sumBelow m old)) e′ in
+          added .added row i′ (row-in (g .arity) p d (g .count) lp (omega arith)) l
+          ∙ ap₂ (λ (u v : ℕ). cap (u + v)) before-it (ap₂ (λ (u v : ℕ). u * cap v) cell (argument-here p d lp ld))
+          ∙ cap-product (sumBelow (j - i - 1) old) (c′ p d i′ i) (argumentSum g w c′ p d i j)
+          ∙ sym (ap cap (ap (λ (m : ℕ). sumBelow m f) e ∙ sum-first f (j - i - 1) ∙ ap₂ _+_ start rest))
+
+      pub summing-next : Summing g w empty bytes′ sums′ live′ i j
+      summing-next =
+          record {
+            sumsLong = added .sumsLong ∙ summing .sumsLong;
+            liveLong = added .liveLong ∙ summing .liveLong;
+            cleared = λ r i′ lr l. other-cell g w empty bytes bytes′ x i j ij jw stored r i′ j (omega arith) jw (λ u v. omega arith) ∙ summing .cleared r i′ lr (omega arith);
+            splits = next-sums;
+            quiet = λ r i′ lr l e. added .quiet r i′ lr l e (summing .quiet r i′ lr (omega arith) (added .kept i′ e));
+          }
+
+-- ---- a span that nothing spells
+
+module _ (g : Grammar) (w empty back : List ℕ) (bottom : EmptyRight g empty back) (few : rowCount (g .arity) (g .count) ≤ rowLimit) (short : length w ≤ textLimit)
+    (before bytes sums live : List ℕ) (i j : ℕ) (ij : i < j) (jw : j ≤ length w) (apart : i + 1 ≡ j → ⊥)
+    (fill : Filling g w empty before bytes (i + 1) j) (summing : Summing g w empty bytes sums live (i + 1) j) (dead : getD live i 0 ≡ 0)
+    (small : SmallSums (rowCount (g .arity) (g .count)) j sums) (users : ℕ → ℕ → ℕ)
+    (takes : (p d q : ℕ) → p < g .count → d < g .arity p → q < g .count → users q (rowOf (g .arity) p d) ≡ bitOf (g .subs p d q)) where
+  abbrev none-bare : ℕ → ℕ
+  none-bare r = 0
+
+  abbrev no-sums : ℕ → ℕ
+  no-sums r = getD sums (r * places + i) 0
+
+  zeros : List ℕ
+  zeros = tabulate rowLimit zero-at
+
+  zeros-are : AllZero rowLimit zeros
+  unfolding zeros
+  zeros-are = record { long = length-tabulate rowLimit zero-at; zeros = tabulate-zero rowLimit }
+
+  abbrev dead-span : Span
+  dead-span = record { count = g .count; arity = g .arity; users = users; bare = none-bare; inner = no-sums; front = λ r. getD empty r 0; back = λ r. getD back r 0 }
+
+  no-argument : (r : ℕ) → argumentOf dead-span zeros r ≡ 0
+  unfolding argumentOf usedSum
+  no-argument r =
+      zero-add (sumBelow (g .count) (λ q. users q r * getD zeros (whole (g .arity) q) 0))
+      ∙ zero-sum (λ q. users q r * getD zeros (whole (g .arity) q) 0) (g .count) (λ q. ap (λ (n : ℕ). users q r * n) (zeros-are .zeros (whole (g .arity) q)) ∙ mul-zero (users q r))
+
+  dead-known : Knows g w empty back bottom few short before bytes sums live i j ij jw fill summing users none-bare no-sums
+  unfolding charEntry
+  dead-known =
+      record {
+        usersAre = takes;
+        bareAre = λ p d lp ld. rw (ne-eqb (i + 1) j apart) refl;
+        innerAre = λ p d lp ld. inner-sums g w empty back bottom few short before bytes sums live i j ij jw fill summing users none-bare no-sums p d lp ld;
+      }
+
+  dead-closed : (p : ℕ) → p < g .count → ClosedAt dead-span zeros p
+  unfolding stepOf
+  dead-closed p lp =
+      record {
+        closed = λ d ld. let row = rowOf (g .arity) p d in
+            let none-inside = summing .quiet row i (row-in (g .arity) p d (g .count) lp (omega arith)) (omega arith) dead in
+            let front : getD empty row 0 * argumentOf dead-span zeros row ≡ 0 = ap (λ (n : ℕ). getD empty row 0 * n) (no-argument row) ∙ mul-zero (getD empty row 0) in
+            let prefix : getD zeros row 0 * getD back row 0 ≡ 0 = ap (λ (n : ℕ). n * getD back row 0) (zeros-are .zeros row) ∙ zero-mul (getD back row 0) in
+            omega (arith, none-inside, front, prefix);
+      }
+
+  dead-exact : Exact dead-span zeros zeros
+  dead-exact = record { exact = λ r l. zeros-are .zeros r ∙ sym (no-argument r) }
+
+  dead-stored : Scattered (λ (r : ℕ). placeAt (length w) r i j) (λ (r : ℕ). getD zeros r 0) (rowCount (g .arity) (g .count)) bytes bytes
+  dead-stored = record { long = refl; here = λ r l. summing .cleared r i l (omega arith) ∙ sym (zeros-are .zeros r); others = λ k h. refl }
+
+  dead-added : SplitsAdded (length w) (rowCount (g .arity) (g .count)) i bytes zeros sums live sums live
+  dead-added =
+      record {
+        sumsLong = refl;
+        liveLong = refl;
+        added = λ r i′ lr l. let product : getD bytes (placeAt (length w) r i′ i) 0 * cap (getD zeros r 0) ≡ 0 =
+            ap (λ (n : ℕ). getD bytes (placeAt (length w) r i′ i) 0 * cap n) (zeros-are .zeros r) ∙ mul-zero (getD bytes (placeAt (length w) r i′ i) 0) in
+            omega (arith, product, small .smallSums r i′ lr (omega arith));
+        others = λ k h. refl;
+        kept = λ i′ e. e;
+        quiet = λ r i′ lr l e h. h;
+      }
+
+  pub filling-skip : Filling g w empty before bytes i j
+  filling-skip =
+      filling-next g w empty back bottom few short before bytes sums live i j ij jw fill summing users none-bare no-sums dead-known zeros zeros zeros zeros-are asBefore dead-closed dead-exact bytes dead-stored
+
+  pub summing-skip : Summing g w empty bytes sums live i j
+  summing-skip =
+      summing-next g w empty back bottom few short before bytes sums live i j ij jw fill summing users none-bare no-sums dead-known zeros zeros zeros zeros-are asBefore dead-closed dead-exact bytes dead-stored sums live dead-added
 
 -- ---- before the first column
 
-module _ (g : Grammar) (w empty back : List ℕ) (bottom : EmptyRight g empty back) (before column : List ℕ) where
+module _ (g : Grammar) (w empty back : List ℕ) (bottom : EmptyRight g empty back) (before : List ℕ) where
   abbrev first-view : Chart
   first-view = viewOf (g .arity) (length w) empty before
 
@@ -216,34 +354,31 @@ module _ (g : Grammar) (w empty back : List ℕ) (bottom : EmptyRight g empty ba
       subst (λ (n : ℕ). P i′ n (first-view p d i′ n)) (nothing-yet i′ j′ dn)
       (subst⁻¹ (λ (v : ℕ). P i′ i′ v) (view-empty (g .arity) (length w) empty before p d i′) (h i′ (omega (arith, dn .rises, dn .within))))
 
-  pub filling-start : length column ≡ rowLimit * places → Filling g w empty before before column 0 0
-  filling-start l =
+  pub filling-start : Filling g w empty before before 0 0
+  filling-start =
       record {
         long = refl;
-        columnLong = l;
         beyond = λ k h. refl;
-        small = λ p d i′ j′ lp ld dn. on-diagonal (λ (u v n : ℕ). n ≤ 2) p d (λ m h. bottom .small (rowOf (g .arity) p d)) i′ j′ dn;
         shown = λ p d i′ j′ lp ld dn. on-diagonal (λ (u v n : ℕ). Shown (λ (f : Forest). Spells g w p f d u v) n) p d (λ m h. bottom .shown w p d m lp ld h) i′ j′ dn;
         steps = λ p d i′ j′ lp ld dn. subst (λ (n : ℕ). cap (splitSum g w first-view p d i′ n) ≤ first-view p (d + 1) i′ n) (nothing-yet i′ j′ dn)
             (empty-step g w empty back bottom first-view (λ p d m. view-empty (g .arity) (length w) empty before p d m) p d i′ lp ld);
         diagonal = λ r j′ lr h. absurd (omega arith);
-        sums = λ p d m lp ld h o. absurd (omega arith);
       }
 
 -- ---- the end of a column: its empty span is stored
 
-module _ (g : Grammar) (w empty before bytes column bytes′ : List ℕ) (j : ℕ) (jw : j ≤ length w) (fill : Filling g w empty before bytes column 0 j)
-    (stored : Scattered (λ (r : ℕ). cellAt (length w) r j j) (λ (r : ℕ). getD empty r 0) (rowCount (g .arity) (g .count)) bytes bytes′) where
+module _ (g : Grammar) (w empty before bytes bytes′ : List ℕ) (j : ℕ) (jw : j ≤ length w) (fill : Filling g w empty before bytes 0 j)
+    (stored : Scattered (λ (r : ℕ). placeAt (length w) r j j) (λ (r : ℕ). getD empty r 0) (rowCount (g .arity) (g .count)) bytes bytes′) where
   abbrev old-view : Chart
   old-view = viewOf (g .arity) (length w) empty bytes
 
   abbrev new-view : Chart
   new-view = viewOf (g .arity) (length w) empty bytes′
 
-  apart-cell : (r i′ j′ : ℕ) → i′ ≤ j′ → j′ ≤ length w → (i′ ≡ j → j′ ≡ j → ⊥) → getD bytes′ (cellAt (length w) r i′ j′) 0 ≡ getD bytes (cellAt (length w) r i′ j′) 0
+  apart-cell : (r i′ j′ : ℕ) → i′ ≤ j′ → j′ ≤ length w → (i′ ≡ j → j′ ≡ j → ⊥) → getD bytes′ (placeAt (length w) r i′ j′) 0 ≡ getD bytes (placeAt (length w) r i′ j′) 0
   apart-cell r i′ j′ l h apart =
-      stored .others (cellAt (length w) r i′ j′)
-      (λ k o e. let (a, b, c) = cell-same (length w) r k i′ j j′ j l h (le-refl j) jw e in apart b c)
+      stored .others (placeAt (length w) r i′ j′)
+      (λ k o e. let (a, b, c) = place-same (length w) r k i′ j j′ j l h (le-refl j) jw e in apart b c)
 
   same-view : (p d i′ j′ : ℕ) → i′ ≤ j′ → j′ ≤ length w → new-view p d i′ j′ ≡ old-view p d i′ j′
   same-view p d i′ j′ rises within =
@@ -268,43 +403,113 @@ module _ (g : Grammar) (w empty before bytes column bytes′ : List ℕ) (j : �
         start = λ l e. omega arith;
       }
 
-  pub filling-column : Filling g w empty before bytes′ column (j + 1) (j + 1)
+  pub filling-column : Filling g w empty before bytes′ (j + 1) (j + 1)
   filling-column =
       record {
         long = stored .long ∙ fill .long;
-        columnLong = fill .columnLong;
-        beyond = λ k l. stored .others k (λ r o e. omega (arith, cell-below (length w) r (rowCount (g .arity) (g .count)) j j o (le-refl j) jw)) ∙ fill .beyond k l;
-        small = λ p d i′ j′ lp ld dn. subst⁻¹ (λ (v : ℕ). v ≤ 2) (same-view p d i′ j′ (dn .rises) (dn .within)) (fill .small p d i′ j′ lp ld (done-column i′ j′ dn));
+        beyond = λ k l. stored .others k (λ r o e. omega (arith, place-below (length w) r (rowCount (g .arity) (g .count)) j j o (le-refl j) jw)) ∙ fill .beyond k l;
         shown = λ p d i′ j′ lp ld dn. subst⁻¹ (λ (v : ℕ). Shown (λ (f : Forest). Spells g w p f d i′ j′) v) (same-view p d i′ j′ (dn .rises) (dn .within)) (fill .shown p d i′ j′ lp ld (done-column i′ j′ dn));
         steps = λ p d i′ j′ lp ld dn. subst₂ (λ (u v : ℕ). cap u ≤ v) (sym (same-split p d i′ j′ (dn .rises) (dn .within))) (sym (same-view p (d + 1) i′ j′ (dn .rises) (dn .within)))
             (fill .steps p d i′ j′ lp ld (done-column i′ j′ dn));
         diagonal = λ r j′ lr l. elim (ℕ-discrete j′ j) [
-          | yes e ↦ subst⁻¹ (λ (n : ℕ). getD bytes′ (cellAt (length w) r n n) 0 ≡ getD empty r 0) e (stored .here r lr)
+          | yes e ↦ subst⁻¹ (λ (n : ℕ). getD bytes′ (placeAt (length w) r n n) 0 ≡ getD empty r 0) e (stored .here r lr)
           | no e ↦ apart-cell r j′ j′ (le-refl j′) (omega arith) (λ u v. e u) ∙ fill .diagonal r j′ lr (by-cases (decLt j′ j) (λ h. h) (λ h. absurd (e (omega arith))))
         ];
-        sums = λ p d m lp ld h o. absurd (omega arith);
       }
 
--- ---- after the last column
+-- ---- the beginning of a column: zeros in it, and no sum yet
 
-module _ (g : Grammar) (w empty back : List ℕ) (bottom : EmptyRight g empty back) (before bytes column : List ℕ)
-    (fill : Filling g w empty before bytes column (length w + 1) (length w + 1)) where
+module _ (g : Grammar) (w empty before bytes bytes′ sums live : List ℕ) (j : ℕ) (jw : j ≤ length w) (fill : Filling g w empty before bytes j j)
+    (clear : ColumnCleared (length w) (rowCount (g .arity) (g .count)) j bytes bytes′) where
+  abbrev was : Chart
+  was = viewOf (g .arity) (length w) empty bytes
+
+  abbrev now : Chart
+  now = viewOf (g .arity) (length w) empty bytes′
+
+  -- a span done is none of the column
+  done-earlier : (i′ j′ : ℕ) → Done (length w) j j i′ j′ → i′ < j′ → j′ < j
+  done-earlier i′ j′ dn l = by-cases (decLt j′ j) (λ h. h) (λ h. absurd (omega (arith, dn .column l, dn .start l (omega (arith, dn .column l)))))
+
+  kept-place : (r i′ j′ : ℕ) → i′ ≤ j′ → j′ ≤ length w → (j′ ≡ j → i′ ≡ j′) → getD bytes′ (placeAt (length w) r i′ j′) 0 ≡ getD bytes (placeAt (length w) r i′ j′) 0
+  kept-place r i′ j′ l h apart =
+      clear .others (placeAt (length w) r i′ j′)
+      (λ r′ k lr lk e. let (a, b, c) = place-same (length w) r r′ i′ k j′ j l h (omega arith) jw e in omega (arith, apart c))
+
+  kept-view : (p d i′ j′ : ℕ) → i′ ≤ j′ → j′ ≤ length w → (j′ ≡ j → i′ ≡ j′) → now p d i′ j′ ≡ was p d i′ j′
+  kept-view p d i′ j′ l h apart =
+      by-cases (decLt i′ j′)
+      (λ o. view-cell (g .arity) (length w) empty bytes′ p d i′ j′ o ∙ kept-place (rowOf (g .arity) p d) i′ j′ l h apart ∙ sym (view-cell (g .arity) (length w) empty bytes p d i′ j′ o))
+      (λ o. let e : i′ ≡ j′ = omega arith in
+      subst (λ (n : ℕ). now p d i′ n ≡ was p d i′ n) e (view-empty (g .arity) (length w) empty bytes′ p d i′ ∙ sym (view-empty (g .arity) (length w) empty bytes p d i′)))
+
+  done-apart : (i′ j′ : ℕ) → Done (length w) j j i′ j′ → j′ ≡ j → i′ ≡ j′
+  done-apart i′ j′ dn e = by-cases (decLt i′ j′) (λ l. absurd (omega (arith, done-earlier i′ j′ dn l))) (λ l. omega (arith, dn .rises))
+
+  kept-split : (p d i′ j′ : ℕ) → Done (length w) j j i′ j′ → splitSum g w now p d i′ j′ ≡ splitSum g w was p d i′ j′
+  kept-split p d i′ j′ dn =
+      split-same g w now was p d i′ j′ (dn .rises)
+      (λ m a b. kept-view p d i′ m a (omega (arith, dn .within)) (λ e. by-cases (decLt i′ j′) (λ o. absurd (omega (arith, done-earlier i′ j′ dn o))) (λ o. omega arith)))
+      (λ q m l a b. kept-view q (g .arity q) m j′ b (dn .within) (λ e. let same = done-apart i′ j′ dn e in omega arith))
+
+  pub filling-begin : Filling g w empty before bytes′ j j
+  filling-begin =
+      record {
+        long = clear .long ∙ fill .long;
+        beyond = λ k l. clear .others k (λ r i′ lr li e. omega (arith, place-below (length w) r (rowCount (g .arity) (g .count)) i′ j lr (omega arith) jw)) ∙ fill .beyond k l;
+        shown = λ p d i′ j′ lp ld dn. subst⁻¹ (λ (v : ℕ). Shown (λ (f : Forest). Spells g w p f d i′ j′) v) (kept-view p d i′ j′ (dn .rises) (dn .within) (done-apart i′ j′ dn)) (fill .shown p d i′ j′ lp ld dn);
+        steps = λ p d i′ j′ lp ld dn. subst₂ (λ (u v : ℕ). cap u ≤ v) (sym (kept-split p d i′ j′ dn)) (sym (kept-view p (d + 1) i′ j′ (dn .rises) (dn .within) (done-apart i′ j′ dn)))
+            (fill .steps p d i′ j′ lp ld dn);
+        diagonal = λ r j′ lr l. kept-place r j′ j′ (le-refl j′) (omega arith) (λ e. refl) ∙ fill .diagonal r j′ lr l;
+      }
+
+  pub summing-begin : length sums ≡ rowLimit * places → length live ≡ places → ((r i′ : ℕ) → r < rowCount (g .arity) (g .count) → i′ < j → getD sums (r * places + i′) 0 ≡ 0)
+      → Summing g w empty bytes′ sums live j j
+  unfolding sumBelow
+  summing-begin long longLive zero-sums =
+      record {
+        sumsLong = long;
+        liveLong = longLive;
+        cleared = λ r i′ lr l. clear .zeros r i′ lr l;
+        splits = λ p d i′ lp ld l. let e : j - j ≡ 0 = omega arith in
+            zero-sums (rowOf (g .arity) p d) i′ (row-in (g .arity) p d (g .count) lp (omega arith)) l
+            ∙ ap (λ (m : ℕ). cap (sumBelow m (λ k. now p d i′ (j + k) * argumentSum g w now p d (j + k) j))) (sym e);
+        quiet = λ r i′ lr l e. zero-sums r i′ lr l;
+      }
+
+-- ---- after the last column: the rows are turned
+
+module _ (g : Grammar) (w empty back : List ℕ) (bottom : EmptyRight g empty back) (before bytes turned : List ℕ)
+    (fill : Filling g w empty before bytes (length w + 1) (length w + 1))
+    (small : SmallCells (length w) (rowCount (g .arity) (g .count)) (length w + 1) bytes)
+    (turn : Turned (length w) (rowCount (g .arity) (g .count)) bytes turned) where
   abbrev last-view : Chart
   last-view = viewOf (g .arity) (length w) empty bytes
 
   abbrev entry : Chart
-  entry p d i j = getD bytes (cellAt (length w) (rowOf (g .arity) p d) i j) 0
+  entry p d i j = getD turned (cellAt (length w) (rowOf (g .arity) p d) i j) 0
 
   all-done : (i j : ℕ) → i ≤ j → j ≤ length w → Done (length w) (length w + 1) (length w + 1) i j
   all-done i j l h = record { rises = l; within = h; column = λ o. omega arith; start = λ o e. absurd (omega arith) }
 
+  turned-entry : (p d i j : ℕ) → p < g .count → d ≤ g .arity p → i ≤ j → j ≤ length w → getD bytes (placeAt (length w) (rowOf (g .arity) p d) i j) 0 ≡ entry p d i j
+  turned-entry p d i j lp ld l h = sym (turn .cells (rowOf (g .arity) p d) i j (row-in (g .arity) p d (g .count) lp ld) l h)
+
   entry-view : (p d i j : ℕ) → p < g .count → d ≤ g .arity p → i ≤ j → j ≤ length w → last-view p d i j ≡ entry p d i j
   entry-view p d i j lp ld l h =
       by-cases (decLt i j)
-      (λ o. view-cell (g .arity) (length w) empty bytes p d i j o)
+      (λ o. view-cell (g .arity) (length w) empty bytes p d i j o ∙ turned-entry p d i j lp ld l h)
       (λ o. let e : i ≡ j = omega arith in
       subst (λ (n : ℕ). last-view p d i n ≡ entry p d i n) e
-      (view-empty (g .arity) (length w) empty bytes p d i ∙ sym (fill .diagonal (rowOf (g .arity) p d) i (row-in (g .arity) p d (g .count) lp ld) (omega arith))))
+      (view-empty (g .arity) (length w) empty bytes p d i ∙ sym (fill .diagonal (rowOf (g .arity) p d) i (row-in (g .arity) p d (g .count) lp ld) (omega arith))
+      ∙ turned-entry p d i i lp ld (le-refl i) (omega arith)))
+
+  small-entry : (p d i j : ℕ) → p < g .count → d ≤ g .arity p → i ≤ j → j ≤ length w → last-view p d i j ≤ 2
+  small-entry p d i j lp ld l h =
+      by-cases (decLt i j)
+      (λ o. omega (arith, view-cell (g .arity) (length w) empty bytes p d i j o, small .smallCells (rowOf (g .arity) p d) i j (row-in (g .arity) p d (g .count) lp ld) o (omega arith)))
+      (λ o. let e : i ≡ j = omega arith in
+      subst (λ (n : ℕ). last-view p d i n ≤ 2) e (omega (arith, view-empty (g .arity) (length w) empty bytes p d i, bottom .small (rowOf (g .arity) p d))))
 
   sound : Sound g w entry
   sound =
@@ -315,7 +520,7 @@ module _ (g : Grammar) (w empty back : List ℕ) (bottom : EmptyRight g empty ba
   closed : Closed g w entry
   closed =
       record {
-        empty = λ p i lp l. omega (arith, fill .diagonal (rowOf (g .arity) p 0) i (row-in (g .arity) p 0 (g .count) lp (omega arith)) (omega arith), bottom .begins p lp);
+        empty = λ p i lp l. omega (arith, entry-view p 0 i i lp (omega arith) (le-refl i) l, view-empty (g .arity) (length w) empty bytes p 0 i, bottom .begins p lp);
         step = λ p d i j lp ld l h. subst₂ (λ (u v : ℕ). cap u ≤ v)
             (split-same g w last-view entry p d i j l
             (λ m a b. entry-view p d i m lp (omega arith) a (omega arith))
@@ -324,9 +529,9 @@ module _ (g : Grammar) (w empty back : List ℕ) (bottom : EmptyRight g empty ba
       }
 
   -- the chart counts
-  pub filling-end : Counted g w bytes
+  pub filling-end : Counted g w turned
   filling-end =
       record {
         cells = λ p d i j lp ld l h. entry-counts g w entry sound closed p d i j lp ld l h
-            (subst (λ (v : ℕ). v ≤ 2) (entry-view p d i j lp ld l h) (fill .small p d i j lp ld (all-done i j l h)));
+            (subst (λ (v : ℕ). v ≤ 2) (entry-view p d i j lp ld l h) (small-entry p d i j lp ld l h));
       }

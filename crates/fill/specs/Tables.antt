@@ -7,7 +7,7 @@ use lib.ListN.{length, getD}
 use Rattle.ccg.specs.Tables.{slot, slotHas, charWords}
 use Rattle.chart.specs.Layout.{textLimit, places, rowLimit, arityIn, rowCount, spanCount}
 use Rattle.empty.specs.Empty.{EmptyRight}
-use Rattle.fill.specs.Filling.{Filling}
+use Rattle.fill.specs.Filling.{Filling, Summing}
 use Rattle.grammar.specs.Limits.{productionLimit}
 use Rattle.span.specs.Tables.{UsersAre}
 use Rattle.theory.specs.Grammar.{Grammar}
@@ -17,7 +17,7 @@ abbrev pub grammarBy : (counts chars : List ℕ) → (ℕ → ℕ → ℕ → Bo
 grammarBy counts chars subs = record { count = length counts; arity = arityIn counts; chars = λ p d c. slotHas chars (slot p d) c; subs = subs }
 
 -- The tables have the right lengths, the text is within its limit and the chart long enough, and every production is wanted.
-pub record Ready (counts chars wanted empty args column w chart : List ℕ) (rows : ℕ) : Type 0 where
+pub record Ready (counts chars wanted empty args sums live w chart : List ℕ) (rows : ℕ) : Type 0 where
   pub short : length w ≤ textLimit
   pub rowsAre : rows ≡ rowCount (arityIn counts) (length counts)
   pub longEnough : rows * spanCount (length w) ≤ length chart
@@ -26,9 +26,16 @@ pub record Ready (counts chars wanted empty args column w chart : List ℕ) (row
   pub wantedAll : (p : ℕ) → p < length counts → 1 ≤ getD wanted p 0
   pub emptyLong : length empty ≡ rowLimit
   pub argsLong : length args ≡ rowLimit
-  pub columnLong : length column ≡ rowLimit * places
+  pub sumsLong : length sums ≡ rowLimit * places
+  pub liveLong : length live ≡ places
 
--- From a chart filled up to start i of column j comes one filled up to start i′ of column j′.
-pub record Further (counts chars users empty args w chart column : List ℕ) (i j : ℕ) (chart′ column′ : List ℕ) (i′ j′ : ℕ) : Type 0 where
-  pub further : (subs : ℕ → ℕ → ℕ → Bool) → UsersAre counts users subs → EmptyRight (grammarBy counts chars subs) empty args
-      → (before : List ℕ) → Filling (grammarBy counts chars subs) w empty before chart column i j → Filling (grammarBy counts chars subs) w empty before chart′ column′ i′ j′
+-- From a chart filled up to start i of column j comes one filled up to start i′ of that column.
+pub record Further (counts chars users empty args w chart sums live : List ℕ) (i j : ℕ) (chart′ sums′ live′ : List ℕ) (i′ : ℕ) : Type 0 where
+  pub further : (subs : ℕ → ℕ → ℕ → Bool) → UsersAre counts users subs → EmptyRight (grammarBy counts chars subs) empty args → (before : List ℕ)
+      → Filling (grammarBy counts chars subs) w empty before chart i j → Summing (grammarBy counts chars subs) w empty chart sums live i j
+      → Filling (grammarBy counts chars subs) w empty before chart′ i′ j × Summing (grammarBy counts chars subs) w empty chart′ sums′ live′ i′ j
+
+-- From a chart whose columns before j are filled comes one whose columns before j′ are.
+pub record Onward (counts chars users empty args w chart : List ℕ) (j : ℕ) (chart′ : List ℕ) (j′ : ℕ) : Type 0 where
+  pub onward : (subs : ℕ → ℕ → ℕ → Bool) → UsersAre counts users subs → EmptyRight (grammarBy counts chars subs) empty args → (before : List ℕ)
+      → Filling (grammarBy counts chars subs) w empty before chart j j → Filling (grammarBy counts chars subs) w empty before chart′ j′ j′

@@ -1,11 +1,15 @@
 // Fills a chart: columns rising, in each the starts falling, so that every span inside one is done before it.
+use chart::layout::PLACES;
 use chart::layout::row_count;
 use chart::sums::zero_row;
-use column::COLUMN;
+use column::SUMS;
+use column::add_splits;
 use column::bare_args;
-use column::inner_sums;
-use column::store_args;
+use column::by_ends::clear;
+use column::clear_column;
 use column::store_cells;
+use column::sums_at;
+use column::turn_rows;
 use empty::settle_empty;
 use grammar::limits::PRODUCTION_LIMIT;
 use links::link;
@@ -13,7 +17,8 @@ use span::USERS;
 use span::USES;
 use span::settle;
 ghost use mathlib.Core.Path.{_≡_};
-ghost use mathlib.Core.Bool.{Bool};
+ghost use mathlib.Core.Bool.{Bool, not, _&&_};
+ghost use lib.Dec.{eqb};
 ghost use mathlib.Core.List.{List};
 ghost use Prim.Native.Nat.{ℕ, _+_, _*_, _<_, _≤_};
 ghost use lib.ListN.{length, getD};
@@ -22,9 +27,21 @@ ghost use Rattle.ccg.specs.Theory.{theoryOf, ParserTables};
 ghost use Rattle.chart.specs.Layout.{arityIn, rowCount, spanCount, textLimit, rowLimit, places};
 ghost use Rattle.chart.specs.Counted.{Counted};
 ghost use Rattle.span.specs.Tables.{Links, userBytes, useBytes};
-ghost use Rattle.fill.specs.Tables.{Ready, Further};
+ghost use Rattle.fill.specs.Filling.{SmallCells, SmallSums};
+ghost use Rattle.fill.specs.Tables.{Ready, Further, Onward};
 
-// One span: what is inside it is summed up, it is settled, and its cells and arguments are stored.
+// No split lies inside the span, and it is no character: nothing spells it.
+fn is_dead(live: &[u8], i: usize, j: usize) -> bool
+    requires { ⌜ (i < j) × (j < length (now live)) ⌝ }
+    ensures { λ r. ⌜ r ≡ (not (eqb (i + 1) j) && eqb (getD (now (live .entry)) i 0) 0) ⌝ }
+{
+    if i + 1 == j {
+        return false;
+    }
+    live[i] == 0
+}
+
+// One span: it is settled, its cells are stored, and its arguments are added to the sums of the starts before it.
 fn fill_span(
     chart: &mut [u8],
     text: &[u8],
@@ -36,17 +53,22 @@ fn fill_span(
     rows: usize,
     empty: &[u8],
     back: &[u8],
-    column: &mut [u8],
+    sums: &mut [u8],
+    live: &mut [u8],
     i: usize,
     j: usize,
 )
     requires { ⌜ Links (now counts) (now users) (now uses) ⌝ }
-    requires { ⌜ Ready (now counts) (now chars) (now wanted) (now empty) (now back) (now column) (now text) (now chart) rows ⌝ }
+    requires { ⌜ Ready (now counts) (now chars) (now wanted) (now empty) (now back) (now sums) (now live) (now text) (now chart) rows ⌝ }
     requires { ⌜ (i < j) × (j ≤ length (now text)) ⌝ }
-    ensures { λ _. ⌜ Further (now (counts .entry)) (now (chars .entry)) (now (users .entry)) (now (empty .entry)) (now (back .entry)) (now (text .entry)) (now (chart .entry)) (now (column .entry)) (i + 1) j (now (chart .exit)) (now (column .exit)) i j ⌝ }
+    requires { ⌜ SmallCells (length (now text)) rows (j + 1) (now chart) × SmallSums rows j (now sums) ⌝ }
+    ensures { λ _. ⌜ Further (now (counts .entry)) (now (chars .entry)) (now (users .entry)) (now (empty .entry)) (now (back .entry)) (now (text .entry)) (now (chart .entry)) (now (sums .entry)) (now (live .entry)) (i + 1) j (now (chart .exit)) (now (sums .exit)) (now (live .exit)) i ⌝ }
+    ensures { λ _. ⌜ SmallCells (length (now (text .entry))) rows (j + 1) (now (chart .exit)) × SmallSums rows j (now (sums .exit)) ⌝ }
 {
-    let mut inner = zero_row();
-    inner_sums(chart, text.len(), rows, i, j, column, &mut inner);
+    if is_dead(live, i, j) {
+        return;
+    }
+    let inner = sums_at(sums, rows, i);
     let mut cells = zero_row();
     let mut args = bare_args(text, counts, chars, i, j);
     settle(
@@ -61,11 +83,11 @@ fn fill_span(
         &mut cells,
     );
     store_cells(chart, text.len(), rows, i, j, &cells);
-    store_args(column, rows, i, &args);
+    add_splits(chart, text.len(), rows, i, &args, sums, live);
 }
 
-// One column: its spans from the shortest to the longest, and last the empty one.
-fn fill_column(
+// The spans of a column, from the shortest to the longest.
+fn fill_spans(
     chart: &mut [u8],
     text: &[u8],
     counts: &[u8],
@@ -76,13 +98,16 @@ fn fill_column(
     rows: usize,
     empty: &[u8],
     back: &[u8],
-    column: &mut [u8],
+    sums: &mut [u8],
+    live: &mut [u8],
     j: usize,
 )
     requires { ⌜ Links (now counts) (now users) (now uses) ⌝ }
-    requires { ⌜ Ready (now counts) (now chars) (now wanted) (now empty) (now back) (now column) (now text) (now chart) rows ⌝ }
+    requires { ⌜ Ready (now counts) (now chars) (now wanted) (now empty) (now back) (now sums) (now live) (now text) (now chart) rows ⌝ }
     requires { ⌜ j ≤ length (now text) ⌝ }
-    ensures { λ _. ⌜ Further (now (counts .entry)) (now (chars .entry)) (now (users .entry)) (now (empty .entry)) (now (back .entry)) (now (text .entry)) (now (chart .entry)) (now (column .entry)) j j (now (chart .exit)) (now (column .exit)) (j + 1) (j + 1) ⌝ }
+    requires { ⌜ SmallCells (length (now text)) rows (j + 1) (now chart) × SmallSums rows j (now sums) ⌝ }
+    ensures { λ _. ⌜ Further (now (counts .entry)) (now (chars .entry)) (now (users .entry)) (now (empty .entry)) (now (back .entry)) (now (text .entry)) (now (chart .entry)) (now (sums .entry)) (now (live .entry)) j j (now (chart .exit)) (now (sums .exit)) (now (live .exit)) 0 ⌝ }
+    ensures { λ _. ⌜ SmallCells (length (now (text .entry))) rows (j + 1) (now (chart .exit)) ⌝ }
 {
     let mut i = j;
     while 0 < i {
@@ -98,11 +123,55 @@ fn fill_column(
             rows,
             empty,
             back,
-            column,
+            sums,
+            live,
             i,
             j,
         );
     }
+}
+
+// One column: zeros first, then its spans, and last the empty one.
+fn fill_column(
+    chart: &mut [u8],
+    text: &[u8],
+    counts: &[u8],
+    chars: &[u64],
+    users: &[u8],
+    uses: &[u8],
+    wanted: &[u8],
+    rows: usize,
+    empty: &[u8],
+    back: &[u8],
+    sums: &mut [u8],
+    live: &mut [u8],
+    j: usize,
+)
+    requires { ⌜ Links (now counts) (now users) (now uses) ⌝ }
+    requires { ⌜ Ready (now counts) (now chars) (now wanted) (now empty) (now back) (now sums) (now live) (now text) (now chart) rows ⌝ }
+    requires { ⌜ j ≤ length (now text) ⌝ }
+    requires { ⌜ SmallCells (length (now text)) rows j (now chart) ⌝ }
+    ensures { λ _. ⌜ Onward (now (counts .entry)) (now (chars .entry)) (now (users .entry)) (now (empty .entry)) (now (back .entry)) (now (text .entry)) (now (chart .entry)) j (now (chart .exit)) (j + 1) ⌝ }
+    ensures { λ _. ⌜ SmallCells (length (now (text .entry))) rows (j + 1) (now (chart .exit)) ⌝ }
+{
+    clear_column(chart, text.len(), rows, j);
+    clear(sums, 0, rows * PLACES);
+    clear(live, 0, j);
+    fill_spans(
+        chart,
+        text,
+        counts,
+        chars,
+        users,
+        uses,
+        wanted,
+        rows,
+        empty,
+        back,
+        sums,
+        live,
+        j,
+    );
     store_cells(chart, text.len(), rows, j, j, empty);
 }
 
@@ -118,11 +187,13 @@ fn fill_columns(
     rows: usize,
     empty: &[u8],
     back: &[u8],
-    column: &mut [u8],
+    sums: &mut [u8],
+    live: &mut [u8],
 )
     requires { ⌜ Links (now counts) (now users) (now uses) ⌝ }
-    requires { ⌜ Ready (now counts) (now chars) (now wanted) (now empty) (now back) (now column) (now text) (now chart) rows ⌝ }
-    ensures { λ _. ⌜ Further (now (counts .entry)) (now (chars .entry)) (now (users .entry)) (now (empty .entry)) (now (back .entry)) (now (text .entry)) (now (chart .entry)) (now (column .entry)) 0 0 (now (chart .exit)) (now (column .exit)) (length (now (text .entry)) + 1) (length (now (text .entry)) + 1) ⌝ }
+    requires { ⌜ Ready (now counts) (now chars) (now wanted) (now empty) (now back) (now sums) (now live) (now text) (now chart) rows ⌝ }
+    ensures { λ _. ⌜ Onward (now (counts .entry)) (now (chars .entry)) (now (users .entry)) (now (empty .entry)) (now (back .entry)) (now (text .entry)) (now (chart .entry)) 0 (now (chart .exit)) (length (now (text .entry)) + 1) ⌝ }
+    ensures { λ _. ⌜ SmallCells (length (now (text .entry))) rows (length (now (text .entry)) + 1) (now (chart .exit)) ⌝ }
 {
     let mut j = 0;
     while j <= text.len() {
@@ -137,7 +208,8 @@ fn fill_columns(
             rows,
             empty,
             back,
-            column,
+            sums,
+            live,
             j,
         );
         j += 1;
@@ -156,10 +228,10 @@ fn zero_uses() -> [u8; USES]
     [0; USES]
 }
 
-fn zero_column() -> [u8; COLUMN]
+fn zero_sums() -> [u8; SUMS]
     ensures { λ r. ⌜ AllZero (rowLimit * places) r ⌝ }
 {
-    [0; COLUMN]
+    [0; SUMS]
 }
 
 // Fills the chart of a text by the flat tables. Bytes beyond the chart stay.
@@ -178,7 +250,8 @@ pub fn fill(chart: &mut [u8], text: &[u8], counts: &[u8], chars: &[u64], subs: &
     let mut back = zero_row();
     settle_empty(counts, &users, &uses, &wanted, &mut back, &mut empty);
     let rows = row_count(counts);
-    let mut column = zero_column();
+    let mut sums = zero_sums();
+    let mut live = [0; PLACES];
     fill_columns(
         chart,
         text,
@@ -190,6 +263,8 @@ pub fn fill(chart: &mut [u8], text: &[u8], counts: &[u8], chars: &[u64], subs: &
         rows,
         &empty,
         &back,
-        &mut column,
+        &mut sums,
+        &mut live,
     );
+    turn_rows(chart, text.len(), rows);
 }

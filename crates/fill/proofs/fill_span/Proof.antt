@@ -1,34 +1,46 @@
--- `fill_span` meets its contract: summed up, settled and stored, the span is filled.
+-- `fill_span` meets its contract: dead, or settled, stored and added, the span is filled.
 use Prim.Native.Nat.{ℕ, _+_}
-use mathlib.Core.Path.{_∙_}
-use mathlib.Core.Bool.{_&&_}
+use mathlib.Core.Path.{_≡_, sym, _∙_}
+use mathlib.Core.Bool.{true, not, _&&_}
 use native.Mathlib.Omega.{arith}
 use lib.Dec.{eqb}
 use lib.ListN.{length, getD}
+use borrow.Author.Tests.{eqb-true, eqb-false, not-true}
 use borrow.Author.Needs.{needs}
 use Rattle.ccg.specs.Tables.{slot, slotHas}
 use Rattle.chart.proofs.LayoutLaws.{rows-few}
 use Rattle.chart.specs.Layout.{arityIn}
+use Rattle.common.proofs.BoolLaws.{and-first-true, and-second-true}
 use Rattle.common.specs.Below.{bitOf}
-use Rattle.fill.proofs.FillSpanLaws.{zero-exact, zero-founded, span-further}
+use Rattle.fill.proofs.FillSpanLaws.{zero-exact, zero-founded, span-further, span-skipped}
+use Rattle.fill.proofs.SmallLaws.{settled-small, small-stored, small-added}
+use Rattle.span.specs.Tables.{spanOf}
 use Rattle.fill.proofs.fill_span.Statement.{statement}
 use Rattle.fill.proofs.fill_span.Tie as tie
 
+is-dead-requires : tie.Need-is-dead-requires
+is-dead-requires c κs = let ready = c .before .before .before .before .before .before .before .before .before .before .before .before .pre .1 .0 in ((c .before .before .before .before .before .before .before .before .before .before .before .before .pre .1 .1 .0 .0), omega (arith, c .before .before .before .before .before .before .before .before .before .before .before .before .pre .1 .1 .0 .1, ready .short, ready .liveLong))
+
+same-length : tie.Need-same-length
+same-length c = search needs
+
+returns : tie.Need-returns
+returns c =
+    let a = (c .before .before .before .before .before .before .before .before .before .before .before .before .before .before .args) in
+    let e : (not (eqb (a .i + 1) (a .j)) && eqb (getD (a .live .now) (a .i) 0) 0) ≡ true = sym (c .before .is-dead .ensures) ∙ c .if1 .taken in
+    let apart = eqb-false (a .i + 1) (a .j) (not-true (eqb (a .i + 1) (a .j)) (and-first-true (not (eqb (a .i + 1) (a .j))) (eqb (getD (a .live .now) (a .i) 0) 0) e)) in
+    let dead = eqb-true (getD (a .live .now) (a .i) 0) 0 (and-second-true (not (eqb (a .i + 1) (a .j))) (eqb (getD (a .live .now) (a .i) 0) 0) e) in
+    (span-skipped (a .counts .now) (a .chars .now) (a .users .now) (a .uses .now) (a .wanted .now) (a .empty .now) (a .back .now) (a .text .now) (a .chart .now) (a .sums .now) (a .live .now) (a .rows) (a .i) (a .j) (c .before .before .before .before .before .before .before .before .before .before .before .before .before .before .pre .0) (c .before .before .before .before .before .before .before .before .before .before .before .before .before .before .pre .1 .0) (c .before .before .before .before .before .before .before .before .before .before .before .before .before .before .pre .1 .1 .0 .0) (c .before .before .before .before .before .before .before .before .before .before .before .before .before .before .pre .1 .1 .0 .1) apart dead (c .before .before .before .before .before .before .before .before .before .before .before .before .before .before .pre .1 .1 .1 .1), c .before .before .before .before .before .before .before .before .before .before .before .before .before .before .pre .1 .1 .1)
+
+sums-at-requires : tie.Need-sums-at-requires
+sums-at-requires c κs =
+    let ready = c .before .before .before .before .before .before .before .before .before .before .before .before .before .before .before .pre .1 .0 in
+    let a = (c .before .before .before .before .before .before .before .before .before .before .before .before .before .before .before .args) in
+    let few = rows-few (arityIn (a .counts .now)) (length (a .counts .now)) (c .before .before .before .before .before .before .before .before .before .before .before .before .before .before .before .pre .0 .fewProductions) (c .before .before .before .before .before .before .before .before .before .before .before .before .before .before .before .pre .0 .fewArguments) in
+    (ready .sumsLong, omega (arith, ready .rowsAre), omega (arith, ready .short, c .before .before .before .before .before .before .before .before .before .before .before .before .before .before .before .pre .1 .1 .0 .0, c .before .before .before .before .before .before .before .before .before .before .before .before .before .before .before .pre .1 .1 .0 .1))
+
 zero-row-requires : tie.Need-zero-row-requires
 zero-row-requires c κs = search needs
-
-slice-aggregate-inner-sums : tie.Need-slice-aggregate-inner-sums
-slice-aggregate-inner-sums c = search needs
-
-inner-sums-requires : tie.Need-inner-sums-requires
-inner-sums-requires c κs =
-    let ready = c .before .before .before .before .before .before .before .before .before .before .before .before .before .before .pre .1 .0 in
-    let a = (c .before .before .before .before .before .before .before .before .before .before .before .before .before .before .args) in
-    let few = rows-few (arityIn (a .counts .now)) (length (a .counts .now)) (c .before .before .before .before .before .before .before .before .before .before .before .before .before .before .pre .0 .fewProductions) (c .before .before .before .before .before .before .before .before .before .before .before .before .before .before .pre .0 .fewArguments) in
-    ((ready .short, omega (arith, ready .rowsAre), c .before .before .before .before .before .before .before .before .before .before .before .before .before .before .pre .1 .1 .0, c .before .before .before .before .before .before .before .before .before .before .before .before .before .before .pre .1 .1 .1), (ready .longEnough, ready .columnLong, c .before .before .before .zero-row .ensures .long))
-
-zero-row-requires-2 : tie.Need-zero-row-requires-2
-zero-row-requires-2 c κs = search needs
 
 bare-args-requires : tie.Need-bare-args-requires
 bare-args-requires c κs = search needs
@@ -48,9 +60,9 @@ settle-requires c κs =
     let a = (c .before .before .before .before .before .before .before .before .before .before .before .before .before .before .before .before .before .before .before .before .before .args) in (
       c .before .before .before .before .before .before .before .before .before .before .before .before .before .before .before .before .before .before .before .before .before .pre .0,
       (
-        record { innerLong = c .before .before .before .before .before .before .inner-sums .kept .1 .1 .1 .1 .1 .1 .0 ∙ c .before .before .before .before .before .before .before .before .before .before .zero-row .ensures .long; frontLong = ready .emptyLong; backLong = ready .argsLong; argsLong = c .before .before .before .bare-args .ensures .long; cellsLong = c .before .before .before .before .zero-row2 .ensures .long },
+        record { innerLong = c .before .before .before .before .before .sums-at .ensures .0; frontLong = ready .emptyLong; backLong = ready .argsLong; argsLong = c .before .before .before .bare-args .ensures .long; cellsLong = c .before .before .before .before .zero-row .ensures .long },
         (
-          zero-founded (λ (p d : ℕ). bitOf (eqb (a .i + 1) (a .j) && slotHas (a .chars .now) (slot p d) (getD (a .text .now) (a .i) 0))) (a .counts .now) (a .users .now) (c .before .before .before .before .before .before .inner-sums .last .1 .1 .1 .1 .1 .1 .0) (a .empty .now) (a .back .now) (c .before .before .before .bare-args .result) (c .before .before .before .before .zero-row2 .result) (c .before .before .before .bare-args .ensures) (c .before .before .before .before .zero-row2 .ensures),
+          zero-founded (λ (p d : ℕ). bitOf (eqb (a .i + 1) (a .j) && slotHas (a .chars .now) (slot p d) (getD (a .text .now) (a .i) 0))) (a .counts .now) (a .users .now) (c .before .before .before .before .before .sums-at .result) (a .empty .now) (a .back .now) (c .before .before .before .bare-args .result) (c .before .before .before .before .zero-row .result) (c .before .before .before .bare-args .ensures) (c .before .before .before .before .zero-row .ensures),
           ready .wantedLong,
         ),
       ),
@@ -64,43 +76,64 @@ store-cells-requires c κs =
     let ready = c .before .before .before .before .before .before .before .before .before .before .before .before .before .before .before .before .before .before .before .before .before .before .before .before .before .before .pre .1 .0 in
     let a = (c .before .before .before .before .before .before .before .before .before .before .before .before .before .before .before .before .before .before .before .before .before .before .before .before .before .before .args) in
     let few = rows-few (arityIn (a .counts .now)) (length (a .counts .now)) (c .before .before .before .before .before .before .before .before .before .before .before .before .before .before .before .before .before .before .before .before .before .before .before .before .before .before .pre .0 .fewProductions) (c .before .before .before .before .before .before .before .before .before .before .before .before .before .before .before .before .before .before .before .before .before .before .before .before .before .before .pre .0 .fewArguments) in
-    ((ready .short, omega (arith, ready .rowsAre), omega (arith, c .before .before .before .before .before .before .before .before .before .before .before .before .before .before .before .before .before .before .before .before .before .before .before .before .before .before .pre .1 .1 .0), c .before .before .before .before .before .before .before .before .before .before .before .before .before .before .before .before .before .before .before .before .before .before .before .before .before .before .pre .1 .1 .1), (ready .longEnough, c .before .before .before .before .settle .kept .1 .1 .1 .1 .1 .1 .1 .1 .0 ∙ c .before .before .before .before .before .before .before .before .before .zero-row2 .ensures .long))
+    ((ready .short, omega (arith, ready .rowsAre), omega (arith, c .before .before .before .before .before .before .before .before .before .before .before .before .before .before .before .before .before .before .before .before .before .before .before .before .before .before .pre .1 .1 .0 .0), c .before .before .before .before .before .before .before .before .before .before .before .before .before .before .before .before .before .before .before .before .before .before .before .before .before .before .pre .1 .1 .0 .1), (ready .longEnough, c .before .before .before .before .settle .kept .1 .1 .1 .1 .1 .1 .1 .1 .0 ∙ c .before .before .before .before .before .before .before .before .before .zero-row .ensures .long))
 
-slice-aggregate-store-args : tie.Need-slice-aggregate-store-args
-slice-aggregate-store-args c = search needs
+slice-aggregate-add-splits : tie.Need-slice-aggregate-add-splits
+slice-aggregate-add-splits c = search needs
 
-store-args-requires : tie.Need-store-args-requires
-store-args-requires c κs =
-    let ready = c .before .before .before .before .before .before .before .before .before .before .before .before .before .before .before .before .before .before .before .before .before .before .before .before .before .before .before .before .before .before .before .pre .1 .0 in
-    let a = (c .before .before .before .before .before .before .before .before .before .before .before .before .before .before .before .before .before .before .before .before .before .before .before .before .before .before .before .before .before .before .before .args) in
-    let few = rows-few (arityIn (a .counts .now)) (length (a .counts .now)) (c .before .before .before .before .before .before .before .before .before .before .before .before .before .before .before .before .before .before .before .before .before .before .before .before .before .before .before .before .before .before .before .pre .0 .fewProductions) (c .before .before .before .before .before .before .before .before .before .before .before .before .before .before .before .before .before .before .before .before .before .before .before .before .before .before .before .before .before .before .before .pre .0 .fewArguments) in
-    (ready .columnLong, omega (arith, ready .rowsAre), omega (arith, ready .short, c .before .before .before .before .before .before .before .before .before .before .before .before .before .before .before .before .before .before .before .before .before .before .before .before .before .before .before .before .before .before .before .pre .1 .1 .0, c .before .before .before .before .before .before .before .before .before .before .before .before .before .before .before .before .before .before .before .before .before .before .before .before .before .before .before .before .before .before .before .pre .1 .1 .1), c .before .before .before .before .before .before .before .before .before .settle .kept .1 .1 .1 .1 .1 .1 .1 .0 ∙ c .before .before .before .before .before .before .before .before .before .before .before .before .before .bare-args .ensures .long)
-
-same-length : tie.Need-same-length
-same-length c = search needs
+add-splits-requires : tie.Need-add-splits-requires
+add-splits-requires c κs =
+    let ready = c .before .before .before .before .before .before .before .before .before .before .before .before .before .before .before .before .before .before .before .before .before .before .before .before .before .before .before .before .before .before .before .before .before .pre .1 .0 in
+    let a = (c .before .before .before .before .before .before .before .before .before .before .before .before .before .before .before .before .before .before .before .before .before .before .before .before .before .before .before .before .before .before .before .before .before .args) in
+    let few = rows-few (arityIn (a .counts .now)) (length (a .counts .now)) (c .before .before .before .before .before .before .before .before .before .before .before .before .before .before .before .before .before .before .before .before .before .before .before .before .before .before .before .before .before .before .before .before .before .pre .0 .fewProductions) (c .before .before .before .before .before .before .before .before .before .before .before .before .before .before .before .before .before .before .before .before .before .before .before .before .before .before .before .before .before .before .before .before .before .pre .0 .fewArguments) in
+    let args₀ = c .before .before .before .before .before .before .before .before .before .before .before .before .before .before .before .bare-args .result in
+    let x = c .before .before .before .before .before .before .before .before .before .before .before .settle .last .1 .1 .1 .1 .1 .1 .1 .1 .0 in
+    let settled = c .before .before .before .before .before .before .before .before .before .before .before .settle .ensures (λ k. getD args₀ k 0) (zero-exact (a .counts .now) (a .users .now) (c .before .before .before .before .before .before .before .before .before .before .before .before .before .before .before .before .before .sums-at .result) (a .empty .now) (a .back .now) args₀ (c .before .before .before .before .before .before .before .before .before .before .before .before .before .before .before .before .zero-row .result) (c .before .before .before .before .before .before .before .before .before .before .before .before .before .before .before .before .zero-row .ensures)) in
+    let small = settled-small (spanOf (a .counts .now) (a .users .now) (c .before .before .before .before .before .before .before .before .before .before .before .before .before .before .before .before .before .sums-at .result) (a .empty .now) (a .back .now) (λ k. getD args₀ k 0)) (a .wanted .now) (c .before .before .before .before .before .before .before .before .before .before .before .before .before .before .before .before .zero-row .result) (c .before .before .before .before .before .before .before .before .before .before .before .settle .last .1 .1 .1 .1 .1 .1 .1 .0) x (c .before .before .before .before .before .before .before .before .before .before .before .before .before .before .before .before .zero-row .ensures) settled in
+    let cells = small-stored (length (a .text .now)) (a .rows) (a .j) (c .before .before .before .before .before .before .before .before .before .before .before .before .before .before .before .before .before .before .before .before .before .before .before .before .before .before .before .before .before .before .before .before .before .pre .1 .1 .0 .1) (a .i) x (a .chart .now) (c .before .before .before .before .before .before .store-cells .last .0) (omega (arith, c .before .before .before .before .before .before .before .before .before .before .before .before .before .before .before .before .before .before .before .before .before .before .before .before .before .before .before .before .before .before .before .before .before .pre .1 .1 .0 .0)) small (c .before .before .before .before .before .before .store-cells .ensures) (c .before .before .before .before .before .before .before .before .before .before .before .before .before .before .before .before .before .before .before .before .before .before .before .before .before .before .before .before .before .before .before .before .before .pre .1 .1 .1 .0) in (
+      (ready .short, omega (arith, ready .rowsAre), omega (arith, c .before .before .before .before .before .before .before .before .before .before .before .before .before .before .before .before .before .before .before .before .before .before .before .before .before .before .before .before .before .before .before .before .before .pre .1 .1 .0 .0, c .before .before .before .before .before .before .before .before .before .before .before .before .before .before .before .before .before .before .before .before .before .before .before .before .before .before .before .before .before .before .before .before .before .pre .1 .1 .0 .1), c .before .before .before .before .before .before .before .before .before .before .before .settle .kept .1 .1 .1 .1 .1 .1 .1 .0 ∙ c .before .before .before .before .before .before .before .before .before .before .before .before .before .before .before .bare-args .ensures .long),
+      (
+        (omega (arith, ready .longEnough, c .before .before .before .before .before .before .store-cells .kept .0), ready .sumsLong, ready .liveLong),
+        ((λ r k lr lk. c .before .before .before .before .before .before .before .before .before .before .before .before .before .before .before .before .before .before .before .before .before .before .before .before .before .before .before .before .before .before .before .before .before .pre .1 .1 .1 .1 .smallSums r k lr (omega (arith, c .before .before .before .before .before .before .before .before .before .before .before .before .before .before .before .before .before .before .before .before .before .before .before .before .before .before .before .before .before .before .before .before .before .pre .1 .1 .0 .0))), (λ r k lr lk. cells .smallCells r k (a .i) lr lk (omega (arith, c .before .before .before .before .before .before .before .before .before .before .before .before .before .before .before .before .before .before .before .before .before .before .before .before .before .before .before .before .before .before .before .before .before .pre .1 .1 .0 .0)))),
+      ),
+    )
 
 same-length-2 : tie.Need-same-length-2
 same-length-2 c = search needs
 
-returns : tie.Need-returns
-returns c =
-    let ready = c .before .before .before .before .before .before .before .before .before .before .before .before .before .before .before .before .before .before .before .before .before .before .before .before .before .before .before .before .before .before .before .before .before .before .pre .1 .0 in
-    let a = (c .before .before .before .before .before .before .before .before .before .before .before .before .before .before .before .before .before .before .before .before .before .before .before .before .before .before .before .before .before .before .before .before .before .before .args) in
-    let args₀ = c .before .before .before .before .before .before .before .before .before .before .before .before .before .before .before .before .bare-args .result in
-    let inner = c .before .before .before .before .before .before .before .before .before .before .before .before .before .before .before .before .before .before .before .inner-sums .last .1 .1 .1 .1 .1 .1 .0 in
-    span-further (a .counts .now) (a .chars .now) (a .users .now) (a .uses .now) (a .wanted .now) (a .empty .now) (a .back .now) (a .text .now) (a .chart .now) (a .column .now) (a .rows) (a .i) (a .j) (c .before .before .before .before .before .before .before .before .before .before .before .before .before .before .before .before .before .before .before .before .before .before .before .before .before .before .before .before .before .before .before .before .before .before .pre .0)
-    ready (c .before .before .before .before .before .before .before .before .before .before .before .before .before .before .before .before .before .before .before .before .before .before .before .before .before .before .before .before .before .before .before .before .before .before .pre .1 .1 .0) (c .before .before .before .before .before .before .before .before .before .before .before .before .before .before .before .before .before .before .before .before .before .before .before .before .before .before .before .before .before .before .before .before .before .before .pre .1 .1 .1) inner args₀ (c .before .before .before .before .before .before .before .before .before .before .before .before .before .before .before .before .before .zero-row2 .result) (c .before .before .before .before .before .before .before .before .before .before .before .before .settle .last .1 .1 .1 .1 .1 .1 .1 .1 .0) (c .before .before .before .before .before .before .before .before .before .before .before .before .settle .last .1 .1 .1 .1 .1 .1 .1 .0) (c .before .before .before .before .before .before .before .store-cells .last .0) (c .before .before .store-args .last .0)
-    (c .before .before .before .before .before .before .before .before .before .before .before .before .before .before .before .before .before .before .before .inner-sums .ensures) (c .before .before .before .before .before .before .before .before .before .before .before .before .before .before .before .before .bare-args .ensures) (c .before .before .before .before .before .before .before .before .before .before .before .before .before .before .before .before .before .zero-row2 .ensures)
-    (c .before .before .before .before .before .before .before .before .before .before .before .before .settle .ensures (λ k. getD args₀ k 0) (zero-exact (a .counts .now) (a .users .now) inner (a .empty .now) (a .back .now) args₀ (c .before .before .before .before .before .before .before .before .before .before .before .before .before .before .before .before .before .zero-row2 .result) (c .before .before .before .before .before .before .before .before .before .before .before .before .before .before .before .before .before .zero-row2 .ensures))) (c .before .before .before .before .before .before .before .store-cells .ensures) (c .before .before .store-args .ensures)
+same-length-3 : tie.Need-same-length-3
+same-length-3 c = search needs
+
+same-length-4 : tie.Need-same-length-4
+same-length-4 c = search needs
+
+returns-2 : tie.Need-returns-2
+returns-2 c =
+    let ready = c .before .before .before .before .before .before .before .before .before .before .before .before .before .before .before .before .before .before .before .before .before .before .before .before .before .before .before .before .before .before .before .before .before .before .before .before .before .before .pre .1 .0 in
+    let a = (c .before .before .before .before .before .before .before .before .before .before .before .before .before .before .before .before .before .before .before .before .before .before .before .before .before .before .before .before .before .before .before .before .before .before .before .before .before .before .args) in
+    let args₀ = c .before .before .before .before .before .before .before .before .before .before .before .before .before .before .before .before .before .before .before .before .bare-args .result in
+    let inner = c .before .before .before .before .before .before .before .before .before .before .before .before .before .before .before .before .before .before .before .before .before .before .sums-at .result in
+    let x = c .before .before .before .before .before .before .before .before .before .before .before .before .before .before .before .before .settle .last .1 .1 .1 .1 .1 .1 .1 .1 .0 in
+    let args = c .before .before .before .before .before .before .before .before .before .before .before .before .before .before .before .before .settle .last .1 .1 .1 .1 .1 .1 .1 .0 in
+    let settled = c .before .before .before .before .before .before .before .before .before .before .before .before .before .before .before .before .settle .ensures (λ k. getD args₀ k 0) (zero-exact (a .counts .now) (a .users .now) inner (a .empty .now) (a .back .now) args₀ (c .before .before .before .before .before .before .before .before .before .before .before .before .before .before .before .before .before .before .before .before .before .zero-row .result) (c .before .before .before .before .before .before .before .before .before .before .before .before .before .before .before .before .before .before .before .before .before .zero-row .ensures)) in
+    let small = settled-small (spanOf (a .counts .now) (a .users .now) inner (a .empty .now) (a .back .now) (λ k. getD args₀ k 0)) (a .wanted .now) (c .before .before .before .before .before .before .before .before .before .before .before .before .before .before .before .before .before .before .before .before .before .zero-row .result) args x (c .before .before .before .before .before .before .before .before .before .before .before .before .before .before .before .before .before .before .before .before .before .zero-row .ensures) settled in (
+      span-further (a .counts .now) (a .chars .now) (a .users .now) (a .uses .now) (a .wanted .now) (a .empty .now) (a .back .now) (a .text .now) (a .chart .now) (a .sums .now) (a .live .now) (a .rows) (a .i) (a .j) (c .before .before .before .before .before .before .before .before .before .before .before .before .before .before .before .before .before .before .before .before .before .before .before .before .before .before .before .before .before .before .before .before .before .before .before .before .before .before .pre .0) ready (c .before .before .before .before .before .before .before .before .before .before .before .before .before .before .before .before .before .before .before .before .before .before .before .before .before .before .before .before .before .before .before .before .before .before .before .before .before .before .pre .1 .1 .0 .0) (c .before .before .before .before .before .before .before .before .before .before .before .before .before .before .before .before .before .before .before .before .before .before .before .before .before .before .before .before .before .before .before .before .before .before .before .before .before .before .pre .1 .1 .0 .1)
+          inner args₀ (c .before .before .before .before .before .before .before .before .before .before .before .before .before .before .before .before .before .before .before .before .before .zero-row .result) x args (c .before .before .before .before .before .before .before .before .before .before .before .store-cells .last .0) (c .before .before .before .before .add-splits .last .1 .1 .1 .1 .1 .0) (c .before .before .before .before .add-splits .last .1 .1 .1 .1 .1 .1 .0) (c .before .before .before .before .before .before .before .before .before .before .before .before .before .before .before .before .before .before .before .before .before .before .sums-at .ensures .1) (c .before .before .before .before .before .before .before .before .before .before .before .before .before .before .before .before .before .before .before .before .bare-args .ensures) (c .before .before .before .before .before .before .before .before .before .before .before .before .before .before .before .before .before .before .before .before .before .zero-row .ensures) settled (c .before .before .before .before .before .before .before .before .before .before .before .store-cells .ensures) (c .before .before .before .before .add-splits .ensures),
+      (
+        small-stored (length (a .text .now)) (a .rows) (a .j) (c .before .before .before .before .before .before .before .before .before .before .before .before .before .before .before .before .before .before .before .before .before .before .before .before .before .before .before .before .before .before .before .before .before .before .before .before .before .before .pre .1 .1 .0 .1) (a .i) x (a .chart .now) (c .before .before .before .before .before .before .before .before .before .before .before .store-cells .last .0) (omega (arith, c .before .before .before .before .before .before .before .before .before .before .before .before .before .before .before .before .before .before .before .before .before .before .before .before .before .before .before .before .before .before .before .before .before .before .before .before .before .before .pre .1 .1 .0 .0)) small (c .before .before .before .before .before .before .before .before .before .before .before .store-cells .ensures) (c .before .before .before .before .before .before .before .before .before .before .before .before .before .before .before .before .before .before .before .before .before .before .before .before .before .before .before .before .before .before .before .before .before .before .before .before .before .before .pre .1 .1 .1 .0),
+        small-added (length (a .text .now)) (a .rows) (a .i) (a .j) (c .before .before .before .before .before .before .before .before .before .before .before .store-cells .last .0) args (a .sums .now) (a .live .now) (c .before .before .before .before .add-splits .last .1 .1 .1 .1 .1 .0) (c .before .before .before .before .add-splits .last .1 .1 .1 .1 .1 .1 .0) (omega (arith, ready .short, c .before .before .before .before .before .before .before .before .before .before .before .before .before .before .before .before .before .before .before .before .before .before .before .before .before .before .before .before .before .before .before .before .before .before .before .before .before .before .pre .1 .1 .0 .0, c .before .before .before .before .before .before .before .before .before .before .before .before .before .before .before .before .before .before .before .before .before .before .before .before .before .before .before .before .before .before .before .before .before .before .before .before .before .before .pre .1 .1 .0 .1)) (omega (arith, ready .short, c .before .before .before .before .before .before .before .before .before .before .before .before .before .before .before .before .before .before .before .before .before .before .before .before .before .before .before .before .before .before .before .before .before .before .before .before .before .before .pre .1 .1 .0 .1)) (c .before .before .before .before .add-splits .ensures) (c .before .before .before .before .before .before .before .before .before .before .before .before .before .before .before .before .before .before .before .before .before .before .before .before .before .before .before .before .before .before .before .before .before .before .before .before .before .before .pre .1 .1 .1 .1),
+      ),
+    )
 
 pub fill-span-spec : {M : Type 1} → statement M
 fill-span-spec =
     tie.close
     (tie.spec
+    is-dead-requires
+    same-length
+    returns
+    sums-at-requires
     zero-row-requires
-    slice-aggregate-inner-sums
-    inner-sums-requires
-    zero-row-requires-2
     bare-args-requires
     slice-aggregate-settle
     slice-aggregate-settle-2
@@ -108,8 +141,9 @@ fill-span-spec =
     settle-requires
     slice-aggregate-store-cells
     store-cells-requires
-    slice-aggregate-store-args
-    store-args-requires
-    same-length
+    slice-aggregate-add-splits
+    add-splits-requires
     same-length-2
-    returns)
+    same-length-3
+    same-length-4
+    returns-2)

@@ -1,0 +1,25 @@
+-- `column_at` meets its contract: a small product.
+use Prim.Native.Nat.{_+_, _≤_}
+use mathlib.Core.Path.{sym}
+use native.Mathlib.Omega.{arith}
+use native.Mathlib.Nat.{mul-le-mul}
+use borrow.Author.Needs.{needs}
+use Rattle.chart.specs.Layout.{places}
+use Rattle.column.proofs.PlaceLaws.{column-closed}
+use Rattle.column.proofs.by_ends.column_at.Statement.{statement}
+use Rattle.column.proofs.by_ends.column_at.Tie as tie
+
+add-result : tie.Need-add-result
+add-result c = search needs
+
+mul-result : tie.Need-mul-result
+mul-result c =
+    let h : c .args .j ≤ places = omega arith in
+    let k : c .args .j + 1 ≤ places + 1 = omega arith in
+    omega (arith, mul-le-mul h k)
+
+returns : tie.Need-returns
+returns c = sym (column-closed (c .args .j))
+
+pub column-at-spec : {M : Type 1} → statement M
+column-at-spec = tie.close (tie.spec add-result mul-result returns)

@@ -1,0 +1,51 @@
+-- `turn_rows` meets its contract: the rows below r are turned, and the rest is as it was.
+use Prim.Native.Nat.{ℕ, _+_, _-_, _≤_}
+use mathlib.Core.Path.{_≡_, subst}
+use native.Mathlib.Omega.{arith}
+use native.Mathlib.Nat.{mul-le-mul-right}
+use Rattle.chart.specs.Layout.{spanCount}
+use Rattle.column.proofs.TurnLaws.{turned-none, turned-more}
+use Rattle.column.specs.ByEnds.{Turned}
+use Rattle.column.proofs.turn_rows.Statement.{statement}
+use Rattle.column.proofs.turn_rows.Tie as tie
+
+abbrev Inv-loop : tie.InvT-loop
+Inv-loop chart₀ n rows r₀ chart r = Turned n r chart₀ chart × (r ≤ rows)
+
+abbrev μ-loop : tie.MeasureT-loop
+μ-loop chart₀ n rows r₀ chart r = rows - r
+
+loop-holds : tie.Need-loop-holds Inv-loop μ-loop
+loop-holds c = (turned-none (c .before .args .n) (c .before .args .chart .now), omega arith)
+
+turn-row-requires : tie.Need-turn-row-requires Inv-loop μ-loop
+turn-row-requires c κs = ((omega arith, omega arith), omega (arith, c .before .before .loop .inv .0 .long, mul-le-mul-right {m = c .before .before .loop .r + 1} {n = c .before .before .before .before .args .rows} (spanCount (c .before .before .before .before .args .n)) (omega arith)))
+
+add-r : tie.Need-add-r Inv-loop μ-loop
+add-r c = omega arith
+
+loop-less : tie.Need-loop-less Inv-loop μ-loop
+loop-less c = omega arith
+
+loop-again : tie.Need-loop-again Inv-loop μ-loop
+loop-again c = (turned-more (c .before .before .before .before .before .before .before .args .n) (c .before .before .before .before .before .before .before .args .chart .now) (c .before .before .before .before .before .loop .r) (c .before .before .before .before .before .loop .chart) (c .before .before .turn-row .last .0) (c .before .before .before .before .before .loop .inv .0) (c .before .before .turn-row .ensures), omega arith)
+
+same-length : tie.Need-same-length Inv-loop μ-loop
+same-length c = c .before .loop .inv .0 .long
+
+returns : tie.Need-returns Inv-loop μ-loop
+returns c = let e : c .before .loop .r ≡ c .before .before .before .args .rows = omega arith in subst (λ (r : ℕ). Turned (c .before .before .before .args .n) r (c .before .before .before .args .chart .now) (c .before .loop .chart)) e (c .before .loop .inv .0)
+
+pub turn-rows-spec : {M : Type 1} → statement M
+turn-rows-spec =
+    tie.close
+    (tie.spec
+    Inv-loop
+    μ-loop
+    loop-holds
+    turn-row-requires
+    add-r
+    loop-less
+    loop-again
+    same-length
+    returns)
