@@ -60,7 +60,7 @@ pub fn priorities(book: &[u8]) -> [[bool; PRODUCTION_LIMIT]; PRODUCTION_LIMIT]
     requires { ⌜ WellFormed (now book) ⌝ }
     ensures { λ r. ⌜ ((x y : ℕ) → (entry r x y ≡ true) ↔ Higher (now (book .entry)) x y) ⌝ }
 {
-    closed(declared_higher(book))
+    closed(declared_higher(book), production_count(book))
 }
 
 // 9: the lowest production higher than itself.
@@ -116,15 +116,17 @@ pub fn both(a: bool, b: bool) -> bool
     a && b
 }
 
-// The closure of a table: an entry is true exactly if a chain of true entries leads there.
+// The closure of a table whose true entries stand in its first `count` rows: an entry is true exactly if a chain of true entries leads there.
 pub fn closed(
     table: [[bool; PRODUCTION_LIMIT]; PRODUCTION_LIMIT],
+    count: usize,
 ) -> [[bool; PRODUCTION_LIMIT]; PRODUCTION_LIMIT]
+    requires { ⌜ (count ≤ productionLimit) × ((x y : ℕ) → entry table x y ≡ true → x < count) ⌝ }
     ensures { λ r. ⌜ ((x y : ℕ) → (entry r x y ≡ true) ↔ Chain (entry table) x y) ⌝ }
 {
     let mut closure = table;
     let mut middle = 0;
-    while middle < PRODUCTION_LIMIT {
+    while middle < count {
         let wider = with_middle(closure, middle);
         closure = wider;
         middle += 1;

@@ -1,29 +1,17 @@
 -- `closed` meets its contract: after the turn for a middle, entries are chains through all middles so far.
-use Prim.Native.Nat.{ℕ, _-_, _≤_, _<_}
+use Prim.Native.Nat.{ℕ, _-_, _≤_}
 use mathlib.Core.Path.{_≡_, refl, sym, _∙_, subst}
-use mathlib.Core.Bool.{Bool, true}
-use mathlib.Core.List.{List}
-use mathlib.Core.Logic.{by-cases}
 use native.Mathlib.Omega.{arith}
-use native.Mathlib.Decide.{decLt}
-use lib.ListN.{length}
-use borrow.Author.Needs.{needs}
-use Rattle.common.proofs.BoolLaws.{not-both}
-use Rattle.grammar.specs.Limits.{productionLimit}
 use Rattle.priority.proofs.ChainLaws.{through-next, through-chain, chain-through}
-use Rattle.priority.proofs.TableLaws.{entry-out}
 use Rattle.priority.specs.Chain.{through, entry}
 use Rattle.priority.proofs.closed.Statement.{statement}
 use Rattle.priority.proofs.closed.Tie as tie
 
-in-table : (t : List (List Bool)) → length t ≡ productionLimit → (x y : ℕ) → entry t x y ≡ true → x < productionLimit
-in-table t e x y h = by-cases (decLt x productionLimit) (λ l. l) (λ n. not-both (entry t x y) h (entry-out t x y (omega arith)))
-
 abbrev Inv-loop : tie.InvT-loop
-Inv-loop closure₀ middle₀ closure middle = ((x y : ℕ) → entry closure x y ≡ through (entry closure₀) middle x y) × (middle ≤ productionLimit)
+Inv-loop count closure₀ middle₀ closure middle = ((x y : ℕ) → entry closure x y ≡ through (entry closure₀) middle x y) × (middle ≤ count)
 
 abbrev μ-loop : tie.MeasureT-loop
-μ-loop closure₀ middle₀ closure middle = productionLimit - middle
+μ-loop count closure₀ middle₀ closure middle = count - middle
 
 loop-holds : tie.Need-loop-holds Inv-loop μ-loop
 unfolding through
@@ -48,10 +36,10 @@ loop-again c =
 returns : tie.Need-returns Inv-loop μ-loop
 returns c x y =
     let t = c .before .before .args .table in
-    let n : length t ≡ productionLimit = search needs in
-    let e : c .before .loop .middle ≡ productionLimit = omega arith in
+    let n = c .before .before .args .count in
+    let e : c .before .loop .middle ≡ n = omega arith in
     let i = subst (λ (k : ℕ). entry (c .before .loop .closure) x y ≡ through (entry t) k x y) e (c .before .loop .inv .0 x y) in
-    ((λ h. through-chain (entry t) productionLimit x y (sym i ∙ h)), (λ h. i ∙ chain-through (entry t) productionLimit (in-table t n) h))
+    ((λ h. through-chain (entry t) n x y (sym i ∙ h)), (λ h. i ∙ chain-through (entry t) n (c .before .before .pre .1) h))
 
 pub closed-spec : {M : Type 1} → statement M
 closed-spec =
