@@ -70,26 +70,3 @@ pub fn put(chart: &mut [u8], n: usize, row: usize, i: usize, j: usize, value: u8
 {
     chart[cell_at(n, row, i, j)] = value;
 }
-
-// Copies `count` cells of a row that start at i: those that end at `from` and later.
-pub fn copy_row(
-    chart: &[u8],
-    n: usize,
-    row: usize,
-    i: usize,
-    from: usize,
-    count: usize,
-    out: &mut [u8],
-)
-    requires { ⌜ (n ≤ textLimit) × (row < rowLimit) × (i ≤ from) × (from ≤ n) × (from + count ≤ n + 1) ⌝ }
-    requires { ⌜ ((row + 1) * spanCount n ≤ length (now chart)) × (count ≤ length (now out)) ⌝ }
-    ensures { λ _. ⌜ ((k : ℕ) → k < count → getD (now (out .exit)) k 0 ≡ getD (now (chart .entry)) (cellAt n row i (from + k)) 0) ⌝ }
-    ensures { λ _. ⌜ ((k : ℕ) → count ≤ k → getD (now (out .exit)) k 0 ≡ getD (now (out .entry)) k 0) ⌝ }
-{
-    let at = cell_at(n, row, i, from);
-    let mut k = 0;
-    while k < count {
-        out[k] = chart[at + k];
-        k += 1;
-    }
-}

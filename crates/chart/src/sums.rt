@@ -1,26 +1,10 @@
-// The one inner loop of filling a chart, the cap, and an empty row table.
+// The cap, the larger of two, and an empty row table.
 use crate::layout::ROW_LIMIT;
 ghost use mathlib.Core.Path.{_≡_};
-ghost use Prim.Native.Nat.{ℕ, _+_, _*_, _≤_, max};
-ghost use lib.ListN.{length, getD};
-ghost use Rattle.common.specs.Below.{sumBelow};
+ghost use Prim.Native.Nat.{max};
 ghost use Rattle.theory.specs.Steps.{cap};
 ghost use Rattle.common.specs.Zeros.{AllZero};
-ghost use Rattle.chart.specs.Layout.{textLimit, rowLimit};
-
-// The sum of the products of two rows, place by place: the first `count` of a with those of b from `at` on.
-pub fn row_sum(a: &[u8], b: &[u8], at: usize, count: usize) -> usize
-    requires { ⌜ (count ≤ length (now a)) × (at + count ≤ length (now b)) × (count ≤ textLimit) ⌝ }
-    ensures { λ r. ⌜ r ≡ sumBelow count (λ k. getD (now (a .entry)) k 0 * getD (now (b .entry)) (at + k) 0) ⌝ }
-{
-    let mut sum: u32 = 0;
-    let mut k = 0;
-    while k < count {
-        sum += (a[k] as u32) * (b[at + k] as u32);
-        k += 1;
-    }
-    sum as usize
-}
+ghost use Rattle.chart.specs.Layout.{rowLimit};
 
 // 0, 1, or 2 for more.
 pub fn capped(n: usize) -> u8
