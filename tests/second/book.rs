@@ -1,0 +1,204 @@
+//! Reading a book's bytes by document 01, with the number and place of the first refusal in 01's order.
+
+use crate::ranks::Ranks;
+use std::collections::HashSet;
+
+/// Rule r has the number 258 + r.
+pub const FIRST_RULE: u16 = 258;
+
+#[derive(Clone, Copy, PartialEq, Eq, Debug)]
+pub struct Refusal {
+    pub number: u64,
+    pub place: u64,
+}
+
+#[derive(Clone, Copy, PartialEq, Eq, Debug)]
+pub enum Argument {
+    Sort(usize),
+    Class(usize),
+}
+
+pub struct Rule {
+    pub result: usize,
+    pub arguments: Vec<Argument>,
+}
+
+#[derive(Clone, Copy)]
+pub struct Declaration {
+    pub kind: u8,
+    pub first: usize,
+    pub second: usize,
+}
+
+pub struct Book {
+    pub start: usize,
+    pub rules: Vec<Rule>,
+    /// For each class, which bytes are in it.
+    pub classes: Vec<[bool; 256]>,
+    pub ranks: Ranks,
+}
+
+fn refuse<T>(number: u64, place: usize) -> Result<T, Refusal> {
+    Err(Refusal { number, place: place as u64 })
+}
+
+/// The four sizes and the start sort, from the first six bytes.
+struct Header {
+    sorts: usize,
+    rules: usize,
+    classes: usize,
+    declarations: usize,
+    start: usize,
+}
+
+fn header(bytes: &[u8]) -> Result<Header, Refusal> {
+    if bytes.len() < 6 {
+        return refuse(1, bytes.len());
+    }
+    let good = [
+        (1..=32).contains(&bytes[0]),
+        (1..=64).contains(&bytes[1]),
+        bytes[2] <= 64,
+        true,
+        bytes[4] < bytes[0],
+        bytes[5] == 0,
+    ];
+    if let Some(place) = good.iter().position(|g| !g) {
+        return refuse(2, place);
+    }
+    let found = Header {
+        sorts: bytes[0] as usize,
+        rules: bytes[1] as usize,
+        classes: bytes[2] as usize,
+        declarations: bytes[3] as usize,
+        start: bytes[4] as usize,
+    };
+    if bytes.len() < 6 + found.rules + found.classes {
+        return refuse(1, bytes.len());
+    }
+    Ok(found)
+}
+
+/// The contents: each rule's argument count and each class's range count, and the length they call for.
+fn contents<'a>(bytes: &'a [u8], head: &Header) -> Result<(&'a [u8], &'a [u8]), Refusal> {
+    let middle = 6 + head.rules;
+    let end = middle + head.classes;
+    let (arguments, ranges) = (&bytes[6..middle], &bytes[middle..end]);
+    if let Some(r) = arguments.iter().position(|&c| c > 8) {
+        return refuse(3, 6 + r);
+    }
+    if let Some(k) = ranges.iter().position(|&c| c > 16) {
+        return refuse(3, middle + k);
+    }
+    let rule_bytes: usize = arguments.iter().map(|&c| 1 + c as usize).sum();
+    let range_bytes: usize = ranges.iter().map(|&c| 2 * c as usize).sum();
+    let formula = end + rule_bytes + range_bytes + 3 * head.declarations;
+    if formula != bytes.len() {
+        return refuse(4, formula.min(bytes.len()));
+    }
+    Ok((arguments, ranges))
+}
+
+fn argument(byte: u8, head: &Header) -> Option<Argument> {
+    let value = byte as usize;
+    if value < head.sorts {
+        Some(Argument::Sort(value))
+    } else if value >= 64 && value - 64 < head.classes {
+        Some(Argument::Class(value - 64))
+    } else {
+        None
+    }
+}
+
+/// One rule's body from `at` on. The result must be a sort; 64 + k is no result.
+fn rule(bytes: &[u8], at: usize, count: usize, head: &Header) -> Result<Rule, Refusal> {
+    let Some(Argument::Sort(result)) = argument(bytes[at], head) else {
+        return refuse(5, at);
+    };
+    let mut arguments = Vec::new();
+    for place in at + 1..at + 1 + count {
+        match argument(bytes[place], head) {
+            Some(a) => arguments.push(a),
+            None => return refuse(5, place),
+        }
+    }
+    Ok(Rule { result, arguments })
+}
+
+fn class(bytes: &[u8], at: usize, count: usize) -> Result<[bool; 256], Refusal> {
+    let mut set = [false; 256];
+    for place in (at..at + 2 * count).step_by(2) {
+        let (low, high) = (bytes[place] as usize, bytes[place + 1] as usize);
+        if low > high {
+            return refuse(6, place);
+        }
+        set[low..=high].fill(true);
+    }
+    Ok(set)
+}
+
+fn declaration(bytes: &[u8], at: usize, head: &Header) -> Result<Declaration, Refusal> {
+    if !(1..=4).contains(&bytes[at]) {
+        return refuse(7, at);
+    }
+    for place in [at + 1, at + 2] {
+        if bytes[place] as usize >= head.rules {
+            return refuse(7, place);
+        }
+    }
+    Ok(Declaration { kind: bytes[at], first: bytes[at + 1] as usize, second: bytes[at + 2] as usize })
+}
+
+/// Refusal 8: the first rule whose bytes an earlier rule has already.
+fn unlike(bodies: &[(usize, &[u8])]) -> Result<(), Refusal> {
+    let mut seen = HashSet::new();
+    for &(at, body) in bodies {
+        if !seen.insert(body) {
+            return refuse(8, at);
+        }
+    }
+    Ok(())
+}
+
+/// The book in these bytes, or its first refusal.
+pub fn read_book(bytes: &[u8]) -> Result<Book, Refusal> {
+    let head = header(bytes)?;
+    let (argument_counts, range_counts) = contents(bytes, &head)?;
+    let mut at = 6 + head.rules + head.classes;
+    let (mut rules, mut bodies, mut classes, mut declarations) = (vec![], vec![], vec![], vec![]);
+    for &count in argument_counts {
+        rules.push(rule(bytes, at, count as usize, &head)?);
+        bodies.push((at, &bytes[at..at + 1 + count as usize]));
+        at += 1 + count as usize;
+    }
+    for &count in range_counts {
+        classes.push(class(bytes, at, count as usize)?);
+        at += 2 * count as usize;
+    }
+    for _ in 0..head.declarations {
+        declarations.push(declaration(bytes, at, &head)?);
+        at += 3;
+    }
+    unlike(&bodies)?;
+    let ranks = Ranks::new(rules.len(), &declarations);
+    if let Some(lowest) = ranks.circle() {
+        return refuse(9, lowest);
+    }
+    Ok(Book { start: head.start, rules, classes, ranks })
+}
+
+impl Book {
+    pub fn count(&self, rule: usize) -> usize {
+        self.rules[rule].arguments.len()
+    }
+
+    /// The rules that may stand at a sort argument, lowest first; none at a class argument.
+    pub fn allowed(&self, rule: usize, at: usize) -> Vec<usize> {
+        let Argument::Sort(sort) = self.rules[rule].arguments[at] else {
+            return vec![];
+        };
+        (0..self.rules.len())
+            .filter(|&q| self.rules[q].result == sort && !self.clashes(rule, at, q))
+            .collect()
+    }
+}

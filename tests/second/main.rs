@@ -1,0 +1,118 @@
+//! A second parser, compared with the proved library.
+//!
+//! What is compared, for each case: the answer's kind and value, the refusal's number and place, every byte of the chart
+//! and of the listing buffer (those that must be written and those that must stay), that book and text and the bytes
+//! around every lent area are untouched; and so for the book check, clash questions, the flat
+//! book with its buffer, and checks of right, cut, changed and random listings.
+//!
+//! The proved parser fills a chart by columns with counts that stop at 2. This program has neither a column nor a chart
+//! that is filled in order. It has two other methods, checked against each other on all small cases:
+//!   trees.rs    keeps all trees as data, blind to priorities, and filters whole trees by the patterns of Definition 2.6;
+//!   counter.rs  finds which items derive anything with an agenda, finds loops as strongly connected components
+//!               (endlessly many), and counts the rest exactly.
+//! Ranks are closed by depth-first search, clashes come in two forms, listings are checked with a stack.
+//!
+//! It was written from the papers alone, without reading the library's sources.
+//!
+//! Usage: second [cases] [seed] [trace]     (30000 cases from seed 1 if not given)
+//! Case k has the seed `seed + k`, so `second 1 S` runs the one case of seed S after the fixed cases. With `trace` each
+//! seed is printed before its case, for a case that crashes. Exit 1 at a mismatch, or if a run of 10,000 cases or more
+//! never met some kind of answer.
+//!
+//! Build: rustc -O --edition 2021 main.rs -o second -L DIRECTORY -l static=meadowsink
+#![allow(unexpected_cfgs)]
+
+mod book;
+mod cases;
+mod compare;
+mod counter;
+mod crosscheck;
+mod fixed;
+mod flat;
+mod library;
+mod listing;
+mod loops;
+mod others;
+mod plans;
+mod prng;
+mod ranks;
+mod reading;
+mod tally;
+mod texts;
+mod trees;
+mod tries;
+mod unfold;
+
+use cases::Case;
+use compare::Mismatch;
+use prng::Dice;
+use reading::Study;
+use std::process::exit;
+use tally::Tally;
+
+/// One case through both methods and through every call that is linked.
+pub fn all_calls(case: &Case, dice: &mut Dice, tally: &mut Tally) -> Result<(), Mismatch> {
+    let study = Study::new(&case.book, &case.text);
+    tally.note_sizes(case, &study);
+    crosscheck::both_methods(&study, tally)?;
+    compare::reading(&case.book, &study, dice, tally)?;
+    others::check(&case.book, &study.book, dice, tally)?;
+    others::conflicts(&case.book, &study.book, dice, tally)?;
+    others::flat(&case.book, &study.book, dice, tally)?;
+    tries::listings(case, &study, dice, tally)
+}
+
+fn decimals(bytes: &[u8]) -> String {
+    if bytes.len() > 3000 {
+        return format!("{} bytes, from the seed", bytes.len());
+    }
+    format!("{} bytes: {}", bytes.len(), bytes.iter().map(|b| b.to_string()).collect::<Vec<_>>().join(" "))
+}
+
+/// Prints what is needed to meet the mismatch again, and ends.
+fn report(wrong: &Mismatch, seed: Option<u64>, case: Option<&Case>) -> ! {
+    println!("MISMATCH in {}", wrong.call);
+    match seed {
+        Some(seed) => println!("  seed      {seed} (run: second 1 {seed})"),
+        None => println!("  seed      a fixed case"),
+    }
+    if let Some(case) = case {
+        println!("  book      {}", decimals(&case.book));
+        println!("  text      {}", decimals(&case.text));
+    }
+    for (name, bytes) in &wrong.lent {
+        println!("  {name:<9} {}", decimals(bytes));
+    }
+    let short = |words: &str| words.chars().take(2000).collect::<String>();
+    println!("  expected  {}\n  found     {}", short(&wrong.expected), short(&wrong.found));
+    exit(1)
+}
+
+fn main() {
+    let words: Vec<String> = std::env::args().skip(1).collect();
+    let number = |k: usize, other: u64| words.get(k).map_or(other, |w| w.parse().expect("a number"));
+    let (cases, seed) = (number(0, 30_000), number(1, 1));
+    let trace = words.len() > 2;
+    let mut tally = Tally::new();
+    if trace {
+        println!("fixed cases");
+    }
+    if let Err(wrong) = fixed::run(&mut tally) {
+        report(&wrong, None, None);
+    }
+    for k in 0..cases {
+        let own_seed = seed.wrapping_add(k);
+        if trace {
+            println!("seed {own_seed}");
+        }
+        let mut dice = Dice::new(own_seed);
+        let case = cases::make(&mut dice);
+        if let Err(wrong) = all_calls(&case, &mut dice, &mut tally) {
+            report(&wrong, Some(own_seed), Some(&case));
+        }
+    }
+    tally.print();
+    let short = cases >= 10_000 && !tally.missing().is_empty();
+    println!("{cases} random cases from seed {seed}, no mismatch{}", if short { ", but a kind was never met" } else { "" });
+    exit(short as i32)
+}

@@ -1,0 +1,88 @@
+//! How often each kind of answer was met, so that a reader sees that none was left out.
+
+use crate::cases::Case;
+use crate::reading::Study;
+use std::collections::BTreeMap;
+
+pub struct Tally {
+    met: BTreeMap<(&'static str, String), u64>,
+}
+
+impl Tally {
+    pub fn new() -> Tally {
+        Tally { met: BTreeMap::new() }
+    }
+
+    pub fn add(&mut self, call: &'static str, kind: impl Into<String>) {
+        *self.met.entry((call, kind.into())).or_insert(0) += 1;
+    }
+
+    /// How long the text is, and which limits an accepted book just keeps.
+    pub fn note_sizes(&mut self, case: &Case, study: &Study) {
+        if study.book.is_err() {
+            return;
+        }
+        let lengths = match case.text.len() {
+            0 => "0 bytes",
+            1..=12 => "1 to 12 bytes",
+            13..=40 => "13 to 40 bytes",
+            41..=199 => "41 to 199 bytes",
+            200 => "200 bytes",
+            _ => "over 200 bytes",
+        };
+        self.add("text", lengths);
+        let (rules, classes) = (case.book[1] as usize, case.book[2] as usize);
+        let arguments = &case.book[6..6 + rules];
+        let ranges = &case.book[6 + rules..6 + rules + classes];
+        let limits = [
+            (case.book[0] == 32, "32 sorts"),
+            (rules == 64, "64 rules"),
+            (classes == 64, "64 classes"),
+            (case.book[3] == 255, "255 declarations"),
+            (arguments.contains(&8), "8 arguments"),
+            (ranges.contains(&16), "16 ranges"),
+        ];
+        for (met, name) in limits {
+            if met {
+                self.add("accepted book", name);
+            }
+        }
+    }
+
+    /// Every kind of answer that a long run must meet.
+    fn wanted() -> Vec<(&'static str, String)> {
+        let refusals = |numbers: &[u64]| numbers.iter().map(|n| format!("refused {n}")).collect::<Vec<_>>();
+        let words = |list: &[&str]| list.iter().map(|w| w.to_string()).collect::<Vec<_>>();
+        let groups = vec![
+            ("read", words(&["none", "one", "several"])),
+            ("read", refusals(&[1, 2, 3, 4, 5, 6, 7, 8, 9, 10, 20, 22])),
+            ("text", words(&["0 bytes", "1 to 12 bytes", "13 to 40 bytes", "41 to 199 bytes", "200 bytes", "over 200 bytes"])),
+            ("accepted book", words(&["32 sorts", "64 rules", "64 classes", "255 declarations", "8 arguments", "16 ranges"])),
+            ("trees", words(&["none", "one", "one, looped", "none, looped", "several", "at least 0", "at least 1"])),
+            ("check", words(&["accepted"])),
+            ("check", refusals(&[1, 2, 3, 4, 5, 6, 7, 8, 9])),
+            ("conflict", words(&["no", "yes"])),
+            ("conflict", refusals(&[1, 2, 3, 4, 5, 6, 7, 8, 9])),
+            ("flat", words(&["written"])),
+            ("flat", refusals(&[1, 2, 3, 4, 5, 6, 7, 8, 9, 21])),
+            ("check_listing", words(&["right", "wrong"])),
+            ("check_listing", refusals(&[1, 2, 3, 4, 5, 6, 7, 8, 9, 10, 11])),
+        ];
+        groups.into_iter().flat_map(|(call, kinds)| kinds.into_iter().map(move |k| (call, k))).collect()
+    }
+
+    /// The kinds that were never met.
+    pub fn missing(&self) -> Vec<(&'static str, String)> {
+        Tally::wanted().into_iter().filter(|key| !self.met.contains_key(key)).collect()
+    }
+
+    pub fn print(&self) {
+        println!("{:<16} {:<28} {:>10}", "call", "answer", "times");
+        for ((call, kind), times) in &self.met {
+            println!("{call:<16} {kind:<28} {times:>10}");
+        }
+        for (call, kind) in self.missing() {
+            println!("{call:<16} {kind:<28} {:>10}", "never");
+        }
+    }
+}

@@ -1,0 +1,100 @@
+//! Which listings are given to the listing check: the right one, it cut at each place, with one number changed, with
+//! something after it, against a text with more or less in it, random numbers, and lengths at the limits.
+
+use crate::book::FIRST_RULE;
+use crate::cases::Case;
+use crate::compare::Mismatch;
+use crate::others;
+use crate::prng::Dice;
+use crate::reading::Study;
+use crate::tally::Tally;
+
+fn to_bytes(numbers: &[u16]) -> Vec<u8> {
+    numbers.iter().flat_map(|n| n.to_le_bytes()).collect()
+}
+
+/// A number that might be taken for the right one.
+fn other_number(dice: &mut Dice, rules: usize, old: u16) -> u16 {
+    let rule = FIRST_RULE + dice.below(rules + 1) as u16;
+    let letter = dice.byte() as u16;
+    dice.pick(&[rule, rule, rule, letter, old ^ 1, old.wrapping_add(256), old.wrapping_sub(FIRST_RULE), 256, 257, 65_535, 97])
+}
+
+/// Variants of one listing for the same text.
+fn variants(dice: &mut Dice, base: &[u16], rules: usize) -> Vec<Vec<u16>> {
+    let mut out = vec![base.to_vec()];
+    if base.len() <= 24 && dice.chance(30) {
+        out.extend((0..base.len()).map(|cut| base[..cut].to_vec()));
+    } else {
+        for _ in 0..3 {
+            out.push(base[..dice.below(base.len() + 1)].to_vec());
+        }
+    }
+    for _ in 0..4 {
+        let mut changed = base.to_vec();
+        let at = dice.below(base.len());
+        if let Some(number) = changed.get_mut(at) {
+            *number = other_number(dice, rules, *number);
+        }
+        out.push(changed);
+    }
+    let mut longer = base.to_vec();
+    longer.push(other_number(dice, rules, FIRST_RULE));
+    out.push(longer);
+    let length = dice.below(8);
+    out.push((0..length).map(|_| other_number(dice, rules, 97)).collect());
+    out
+}
+
+/// Lengths at the limit: 8,190 to 8,194 bytes, the listing first and zeros after it.
+fn at_limit(dice: &mut Dice, base: &[u16]) -> Vec<u8> {
+    let mut bytes = to_bytes(base);
+    bytes.resize(dice.between(8190, 8195), 0);
+    bytes
+}
+
+/// The text with a byte more, a byte less, or another last byte.
+fn other_text(dice: &mut Dice, text: &[u8]) -> Vec<u8> {
+    let mut out = text.to_vec();
+    match dice.below(3) {
+        0 => out.push(dice.pick(&[b'8', b'a', 0])),
+        1 => drop(out.pop()),
+        _ => {
+            if let Some(last) = out.last_mut() {
+                *last ^= 1;
+            }
+        }
+    }
+    out
+}
+
+pub fn listings(case: &Case, study: &Study, dice: &mut Dice, tally: &mut Tally) -> Result<(), Mismatch> {
+    let rules = study.book.as_ref().map_or(3, |b| b.rules.len());
+    let base = match &study.listing {
+        Some(only) => only.numbers.clone(),
+        None => case.listing.clone(),
+    };
+    let mut tries: Vec<(Vec<u8>, Vec<u8>)> = vec![];
+    if study.book.is_err() {
+        let length = dice.below(9);
+        tries.push((case.text.clone(), dice.garbage(length)));
+    } else {
+        for numbers in variants(dice, &base, rules) {
+            tries.push((case.text.clone(), to_bytes(&numbers)));
+        }
+        tries.push((other_text(dice, &case.text), to_bytes(&base)));
+        let mut odd = to_bytes(&base);
+        odd.push(dice.byte());
+        tries.push((case.text.clone(), odd));
+    }
+    if dice.chance(3) {
+        tries.push((case.text.clone(), at_limit(dice, &base)));
+        let length = dice.pick(&[200, 201, 202, 300]);
+        let extra = dice.below(2);
+        tries.push((vec![b'8'; length], vec![2; 2 + extra]));
+    }
+    for (text, numbers) in tries {
+        others::listing(&case.book, &study.book, &text, &numbers, dice, tally)?;
+    }
+    Ok(())
+}
