@@ -1,6 +1,7 @@
 // The empty span, settled once for all places. At it the split at the start and the split at the end are one: a cell is the product of the cell before it and
 // the next argument. The arguments are held fixed while the cells are settled, and taken up again until they stay.
 use chart::layout::ROW_LIMIT;
+use chart::layout::row_count;
 use chart::sums::zero_row;
 use grammar::layout::wide;
 use span::either;
@@ -13,16 +14,16 @@ ghost use Prim.Native.Nat.{ℕ, _<_, _≤_};
 ghost use lib.ListN.{length, getD};
 ghost use Rattle.common.specs.Zeros.{AllZero};
 ghost use Rattle.grammar.specs.Limits.{productionLimit};
-ghost use Rattle.chart.specs.Layout.{rowLimit};
+ghost use Rattle.chart.specs.Layout.{arityIn, rowCount, rowLimit};
 ghost use Rattle.chart.specs.Tests.{grammarOf};
 ghost use Rattle.span.specs.Tables.{Links, UsersAre};
 ghost use Rattle.empty.specs.Empty.{EmptyRight};
 ghost use Rattle.empty.specs.Turns.{Begun, Followed};
 
 // With no argument there is one list of trees, the empty one; a production without arguments has a tree by it.
-fn begin(counts: &[u8], users: &[u8], args: &mut [u8], cells: &mut [u8])
+fn begin(counts: &[u8], rows: usize, users: &[u8], args: &mut [u8], cells: &mut [u8])
     requires { ⌜ ((uses : List ℕ) × Links (now counts) (now users) uses) ⌝ }
-    requires { ⌜ AllZero rowLimit (now args) × AllZero rowLimit (now cells) ⌝ }
+    requires { ⌜ AllZero rowLimit (now args) × AllZero rowLimit (now cells) × (rows ≡ rowCount (arityIn (now counts)) (length (now counts))) ⌝ }
     ensures { λ _. ⌜ Begun (now (counts .entry)) (now (users .entry)) (length (now (counts .entry))) (now (args .exit)) (now (cells .exit)) ⌝ }
 {
     let mut base = 0;
@@ -32,6 +33,7 @@ fn begin(counts: &[u8], users: &[u8], args: &mut [u8], cells: &mut [u8])
         spread(
             args,
             &users[p * ROW_LIMIT..(p + 1) * ROW_LIMIT],
+            rows,
             (counts[p] == 0) as u8,
         );
         base += wide(counts[p]) + 1;
@@ -68,13 +70,15 @@ pub fn settle_empty(
     requires { ⌜ AllZero rowLimit (now args) × AllZero rowLimit (now cells) ⌝ }
     ensures { λ _. ⌜ ((chars subs : ℕ → ℕ → ℕ → Bool) → UsersAre (now (counts .entry)) (now (users .entry)) subs → EmptyRight (grammarOf (now (counts .entry)) chars subs) (now (cells .exit)) (now (args .exit))) ⌝ }
 {
+    let rows = row_count(counts);
     let zeros = zero_row();
     let mut back = zero_row();
-    begin(counts, users, args, cells);
+    begin(counts, rows, users, args, cells);
     let mut changed = follow(&mut back, args);
     while changed {
         settle(
             counts,
+            rows,
             users,
             uses,
             wanted,

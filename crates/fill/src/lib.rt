@@ -73,6 +73,7 @@ fn fill_span(
     let mut args = bare_args(text, counts, chars, i, j);
     settle(
         counts,
+        rows,
         users,
         uses,
         wanted,

@@ -12,6 +12,7 @@ use Rattle.chart.proofs.LayoutLaws.{row-in, row-next, row-same, row-shift, rows
 use Rattle.chart.specs.Layout.{rowLimit, arityIn, rowOf, rowCount}
 use Rattle.common.specs.Below.{sumBelow, bitOf}
 use Rattle.common.specs.Zeros.{AllZero}
+use Rattle.grammar.specs.Check.{outside}
 use Rattle.grammar.specs.Limits.{productionLimit, argumentLimit}
 use Rattle.links.specs.Linked.{RowLinked, LinkedTo}
 use Rattle.span.specs.Tables.{userAt, useAt, userBytes, useBytes, Links, UsersAre}
@@ -39,6 +40,7 @@ module _ (counts subs : List ℕ) where
         bits = λ k. omega (arith, z .zeros k);
         takes = λ p d q l h m b. absurd (omega arith);
         used = λ p d q l h m b. absurd (omega arith);
+        later = λ q r l h. z .zeros (userAt q r);
       }
 
   -- the row after the last argument of a production takes nothing
@@ -50,6 +52,7 @@ module _ (counts subs : List ℕ) where
         bits = t .bits;
         takes = λ p′ d q l h m b. t .takes p′ d q l h m (sooner p′ d h b);
         used = λ p′ d q l h m b. t .used p′ d q l h m (sooner p′ d h b);
+        later = λ q r l h. t .later q r (omega (arith, row-next (arityIn counts) p)) h;
       }
     where
       sooner : (p′ d : ℕ) → d < arityIn counts p′ → rowOf (arityIn counts) p′ d < rowOf (arityIn counts) (p + 1) 0 → rowOf (arityIn counts) p′ d < rowOf (arityIn counts) p (arityIn counts p)
@@ -90,6 +93,11 @@ module _ (counts subs : List ℕ) where
           (λ k. let same = this-row p′ d′ h′ b k in
           rw (same .0, same .1) (omega (arith, r .takes q m, r .used q m)))
 
+      later-too : (q k : ℕ) → rowOf (arityIn counts) p (d + 1) ≤ k → k < rowLimit → getD users′ (userAt q k) 0 ≡ 0
+      later-too q k b m =
+          let after : rowOf (arityIn counts) p d < k = omega (arith, row-shift (arityIn counts) p d) in
+          r .others q k m (λ e. omega arith) ∙ t .later q k (omega arith) m
+
       pub linked-row : LinkedTo counts subs (rowOf (arityIn counts) p (d + 1)) users′ uses′
       linked-row =
           record {
@@ -98,6 +106,7 @@ module _ (counts subs : List ℕ) where
             bits = λ k. omega (arith, r .bits k, t .bits k);
             takes = takes-too;
             used = used-too;
+            later = later-too;
           }
 
     -- all rows
@@ -105,6 +114,10 @@ module _ (counts subs : List ℕ) where
       inside : (p d : ℕ) → p < length counts → d < arityIn counts p → rowOf (arityIn counts) p d < rowOf (arityIn counts) (length counts) 0
       unfolding rowOf rowCount
       inside p d l h = omega (arith, row-in (arityIn counts) p d (length counts) l (omega arith))
+
+      beyond : (q r : ℕ) → rowCount (arityIn counts) (length counts) ≤ r → r < rowLimit → getD users (userAt q r) 0 ≡ 0
+      unfolding rowOf rowCount
+      beyond q r b l = t .later q r (omega arith) l
 
       pub linked-links : Links counts users uses
       linked-links =
@@ -115,6 +128,7 @@ module _ (counts subs : List ℕ) where
             usesLong = t .usesLong;
             bits = t .bits;
             unused = λ q p d m l h z. omega (arith, t .used p d q l h m (inside p d l h));
+            outside = λ q r m b l. beyond q r b l;
           }
 
       pub linked-users : UsersAre counts users (λ p d q. eqb (getD subs (subAt (slot p d) q) 0) 1)

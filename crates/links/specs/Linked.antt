@@ -17,7 +17,7 @@ pub record RowLinked (subs : List ℕ) (s row p n : ℕ) (users₀ uses₀ users
   pub used : (q : ℕ) → q < n → getD subs (subAt s q) 0 ≤ getD uses (useAt q p) 0
   pub grows : (k : ℕ) → getD uses₀ k 0 ≤ getD uses k 0
 
--- The rows before row n are linked.
+-- The rows before row n are linked, the others take nothing yet.
 pub record LinkedTo (counts subs : List ℕ) (n : ℕ) (users uses : List ℕ) : Type 0 where
   pub usersLong : length users ≡ userBytes
   pub usesLong : length uses ≡ useBytes
@@ -26,3 +26,4 @@ pub record LinkedTo (counts subs : List ℕ) (n : ℕ) (users uses : List ℕ) :
       → getD users (userAt q (rowOf (arityIn counts) p d)) 0 ≡ getD subs (subAt (slot p d) q) 0
   pub used : (p d q : ℕ) → p < length counts → d < arityIn counts p → q < length counts → rowOf (arityIn counts) p d < n
       → getD users (userAt q (rowOf (arityIn counts) p d)) 0 ≤ getD uses (useAt q p) 0
+  pub later : (q r : ℕ) → n ≤ r → r < rowLimit → getD users (userAt q r) 0 ≡ 0

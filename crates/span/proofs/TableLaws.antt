@@ -9,7 +9,7 @@ use native.Mathlib.Nat.{le-refl, mul-le-mul}
 use lib.ListN.{length, getD, take, drop, set}
 use lib.Seq.{getD-take, getD-drop}
 use Rattle.chart.proofs.LayoutLaws.{row-in, rows-few}
-use Rattle.chart.specs.Layout.{rowLimit, arityIn, rowOf}
+use Rattle.chart.specs.Layout.{rowLimit, arityIn, rowOf, rowCount}
 use Rattle.common.proofs.BelowLaws.{sum-bound}
 use Rattle.grammar.specs.Limits.{productionLimit}
 use Rattle.span.proofs.AdvanceLaws.{advanced-within}
@@ -20,6 +20,15 @@ use Rattle.span.specs.Tables.{userAt, useAt, spanOf, Links, Loads, Exact
 -- an entry of a table's row
 pub part-at : (l : List ℕ) (a n k : ℕ) → k < n → getD (take ((a + 1) * n - a * n) (drop (a * n) l)) k 0 ≡ getD l (a * n + k) 0
 part-at l a n k h = getD-take ((a + 1) * n - a * n) (drop (a * n) l) k 0 (omega arith) ∙ getD-drop (a * n) l k 0
+
+-- the rows are few, and beyond them nothing takes production q
+pub part-outside : {counts users uses : List ℕ} → Links counts users uses → (q rows : ℕ) → q < length counts → rows ≡ rowCount (arityIn counts) (length counts)
+    → (rows ≤ rowLimit) × ((r : ℕ) → rows ≤ r → r < rowLimit → getD (take ((q + 1) * rowLimit - q * rowLimit) (drop (q * rowLimit) users)) r 0 ≡ 0)
+unfolding userAt
+part-outside {counts} {users} links q rows l e = (
+  omega (arith, rows-few (arityIn counts) (length counts) (links .fewProductions) (links .fewArguments)),
+  λ r h k. part-at users q rowLimit r k ∙ links .outside q r l (omega arith) k,
+)
 
 -- production q is to be visited, whose rows begin at `base`
 module _ {counts users uses inner front back args x : List ℕ} (q base : ℕ)

@@ -4,7 +4,7 @@ use mathlib.Core.Path.{_≡_}
 use mathlib.Core.Bool.{Bool, false}
 use mathlib.Core.List.{List}
 use lib.ListN.{length, getD, set}
-use Rattle.chart.specs.Layout.{rowLimit, arityIn, rowOf}
+use Rattle.chart.specs.Layout.{rowLimit, arityIn, rowOf, rowCount}
 use Rattle.common.specs.Below.{bitOf}
 use Rattle.grammar.specs.Limits.{productionLimit, argumentLimit}
 use Rattle.span.specs.Span.{Span, argumentOf, ClosedAt, Raised, spare}
@@ -46,6 +46,8 @@ pub record Links (counts users uses : List ℕ) : Type 0 where
   pub bits : (k : ℕ) → getD users k 0 ≤ 1
   -- a production that is not said to use q has no row that takes it
   pub unused : (q p d : ℕ) → q < length counts → p < length counts → d < arityIn counts p → getD uses (useAt q p) 0 ≡ 0 → getD users (userAt q (rowOf (arityIn counts) p d)) 0 ≡ 0
+  -- beyond the rows nothing takes a production
+  pub outside : (q r : ℕ) → q < length counts → rowCount (arityIn counts) (length counts) ≤ r → r < rowLimit → getD users (userAt q r) 0 ≡ 0
 
 -- `users` has a 1 for each production that may stand as the next argument of a row, by the test `subs`.
 pub record UsersAre (counts users : List ℕ) (subs : ℕ → ℕ → ℕ → Bool) : Type 0 where

@@ -1,6 +1,6 @@
 // One span of the chart: the cells of all rows for it, raised until none is below what its equation says.
 //
-// `cells` has the cell of each row. `args` has for each row how many trees may stand there as the next argument, over the whole span;
+// `cells` has the cell of each row; there are `rows` of them. `args` has for each row how many trees may stand there as the next argument, over the whole span;
 // `users` says which rows take production q as their next argument, `uses` which productions have such a row.
 // `inner` counts, for each row, the splits within the span; `front` the cells of the empty span at its start; `back` the arguments of the empty span at its end.
 use chart::layout::ROW_LIMIT;
@@ -15,7 +15,7 @@ ghost use Prim.Native.Nat.{ℕ, _+_, _*_, _<_, _≤_, min, max};
 ghost use lib.ListN.{length, getD};
 ghost use Rattle.theory.specs.Steps.{cap};
 ghost use Rattle.grammar.specs.Limits.{productionLimit};
-ghost use Rattle.chart.specs.Layout.{arityIn, rowLimit, rowOf};
+ghost use Rattle.chart.specs.Layout.{arityIn, rowCount, rowLimit, rowOf};
 ghost use Rattle.span.specs.Tables.{spanOf, advanced, Exact, Founded, Links, Loads, Visited, Settled};
 
 // The length of the table of users.
@@ -75,14 +75,15 @@ fn advance(
     }
 }
 
-// A production's count rose: so do the arguments of the rows that take it.
-pub fn spread(args: &mut [u8], users: &[u8], by: u8)
+// A production's count rose: so do the arguments of the rows that take it, which are all among the first `rows`.
+pub fn spread(args: &mut [u8], users: &[u8], rows: usize, by: u8)
     requires { ⌜ (length (now args) ≡ rowLimit) × (length (now users) ≡ rowLimit) ⌝ }
+    requires { ⌜ (rows ≤ rowLimit) × ((r : ℕ) → rows ≤ r → r < rowLimit → getD (now users) r 0 ≡ 0) ⌝ }
     requires { ⌜ ((r : ℕ) → r < rowLimit → getD (now args) r 0 + by * getD (now users) r 0 < 256) ⌝ }
     ensures { λ _. ⌜ ((r : ℕ) → r < rowLimit → getD (now (args .exit)) r 0 ≡ getD (now (args .entry)) r 0 + by * getD (now (users .entry)) r 0) ⌝ }
 {
     let mut r = 0;
-    while r < ROW_LIMIT {
+    while r < rows {
         args[r] = args[r] + by * users[r];
         r += 1;
     }
@@ -103,6 +104,7 @@ fn mark(pending: &mut [u8], uses: &[u8], wanted: &[u8])
 // Looks at production q, whose rows begin at `base`, if it is pending: true if its count rose.
 fn visit(
     counts: &[u8],
+    rows: usize,
     users: &[u8],
     uses: &[u8],
     wanted: &[u8],
@@ -118,7 +120,7 @@ fn visit(
     requires { ⌜ Links (now counts) (now users) (now uses) ⌝ }
     requires { ⌜ Loads (now inner) (now front) (now back) (now args) (now cells) ⌝ }
     requires { ⌜ Founded (now counts) (now users) (now inner) (now front) (now back) (now args) (now cells) ⌝ }
-    requires { ⌜ (length (now pending) ≡ productionLimit) × (length (now wanted) ≡ productionLimit) ⌝ }
+    requires { ⌜ (length (now pending) ≡ productionLimit) × (length (now wanted) ≡ productionLimit) × (rows ≡ rowCount (arityIn (now counts)) (length (now counts))) ⌝ }
     requires { ⌜ (q < length (now counts)) × (base ≡ rowOf (arityIn (now counts)) q 0) ⌝ }
     ensures { λ r. ⌜ ((bare : ℕ → ℕ) → Exact (spanOf (now (counts .entry)) (now (users .entry)) (now (inner .entry)) (now (front .entry)) (now (back .entry)) bare) (now (cells .entry)) (now (args .entry)) → Visited (spanOf (now (counts .entry)) (now (users .entry)) (now (inner .entry)) (now (front .entry)) (now (back .entry)) bare) (now (wanted .entry)) q (q + 1) (now (pending .entry)) (now (args .entry)) (now (cells .entry)) (now (pending .exit)) (now (args .exit)) (now (cells .exit)) r) ⌝ }
 {
@@ -135,6 +137,7 @@ fn visit(
     spread(
         args,
         &users[q * ROW_LIMIT..(q + 1) * ROW_LIMIT],
+        rows,
         cells[whole] - before,
     );
     mark(
@@ -148,6 +151,7 @@ fn visit(
 // Looks at every pending production once: true if a count rose.
 fn round(
     counts: &[u8],
+    rows: usize,
     users: &[u8],
     uses: &[u8],
     wanted: &[u8],
@@ -161,7 +165,7 @@ fn round(
     requires { ⌜ Links (now counts) (now users) (now uses) ⌝ }
     requires { ⌜ Loads (now inner) (now front) (now back) (now args) (now cells) ⌝ }
     requires { ⌜ Founded (now counts) (now users) (now inner) (now front) (now back) (now args) (now cells) ⌝ }
-    requires { ⌜ (length (now pending) ≡ productionLimit) × (length (now wanted) ≡ productionLimit) ⌝ }
+    requires { ⌜ (length (now pending) ≡ productionLimit) × (length (now wanted) ≡ productionLimit) × (rows ≡ rowCount (arityIn (now counts)) (length (now counts))) ⌝ }
     ensures { λ r. ⌜ ((bare : ℕ → ℕ) → Exact (spanOf (now (counts .entry)) (now (users .entry)) (now (inner .entry)) (now (front .entry)) (now (back .entry)) bare) (now (cells .entry)) (now (args .entry)) → Visited (spanOf (now (counts .entry)) (now (users .entry)) (now (inner .entry)) (now (front .entry)) (now (back .entry)) bare) (now (wanted .entry)) 0 (length (now (counts .entry))) (now (pending .entry)) (now (args .entry)) (now (cells .entry)) (now (pending .exit)) (now (args .exit)) (now (cells .exit)) r) ⌝ }
 {
     let mut rose = false;
@@ -170,6 +174,7 @@ fn round(
     while q < counts.len() {
         let here = visit(
             counts,
+            rows,
             users,
             uses,
             wanted,
@@ -192,6 +197,7 @@ fn round(
 // Raises the cells until each wanted production is closed.
 pub fn settle(
     counts: &[u8],
+    rows: usize,
     users: &[u8],
     uses: &[u8],
     wanted: &[u8],
@@ -204,7 +210,7 @@ pub fn settle(
     requires { ⌜ Links (now counts) (now users) (now uses) ⌝ }
     requires { ⌜ Loads (now inner) (now front) (now back) (now args) (now cells) ⌝ }
     requires { ⌜ Founded (now counts) (now users) (now inner) (now front) (now back) (now args) (now cells) ⌝ }
-    requires { ⌜ length (now wanted) ≡ productionLimit ⌝ }
+    requires { ⌜ (length (now wanted) ≡ productionLimit) × (rows ≡ rowCount (arityIn (now counts)) (length (now counts))) ⌝ }
     ensures { λ _. ⌜ ((bare : ℕ → ℕ) → Exact (spanOf (now (counts .entry)) (now (users .entry)) (now (inner .entry)) (now (front .entry)) (now (back .entry)) bare) (now (cells .entry)) (now (args .entry)) → Settled (spanOf (now (counts .entry)) (now (users .entry)) (now (inner .entry)) (now (front .entry)) (now (back .entry)) bare) (now (wanted .entry)) (now (cells .entry)) (now (args .exit)) (now (cells .exit))) ⌝ }
 {
     let mut pending = [1; PRODUCTION_LIMIT];
@@ -212,6 +218,7 @@ pub fn settle(
     while rose {
         rose = round(
             counts,
+            rows,
             users,
             uses,
             wanted,

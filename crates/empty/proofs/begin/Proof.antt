@@ -10,14 +10,15 @@ use Rattle.empty.proofs.BeginLaws.{begun-none, begun-fits, begun-more}
 use Rattle.empty.proofs.RowLaws.{row-room}
 use Rattle.empty.specs.Turns.{firstRow, Begun}
 use Rattle.span.proofs.RoundLaws.{base-first, base-next}
+use Rattle.span.proofs.TableLaws.{part-outside}
 use Rattle.empty.proofs.begin.Statement.{statement}
 use Rattle.empty.proofs.begin.Tie as tie
 
 abbrev Inv-loop : tie.InvT-loop
-Inv-loop counts users args₀ cells₀ base₀ p₀ args cells base p = Begun counts users p args cells × (base ≡ firstRow counts p) × (p ≤ length counts)
+Inv-loop counts rows users args₀ cells₀ base₀ p₀ args cells base p = Begun counts users p args cells × (base ≡ firstRow counts p) × (p ≤ length counts)
 
 abbrev μ-loop : tie.MeasureT-loop
-μ-loop counts users args₀ cells₀ base₀ p₀ args cells base p = length counts - p
+μ-loop counts rows users args₀ cells₀ base₀ p₀ args cells base p = length counts - p
 
 loop-holds : tie.Need-loop-holds Inv-loop μ-loop
 loop-holds c = (begun-none (c .before .before .before .before .args .counts .now) (c .before .before .before .before .args .users .now) (c .before .before .before .before .args .args .now) (c .before .before .before .before .args .cells .now) (c .before .before .before .before .pre .1 .0) (c .before .before .before .before .pre .1 .1), base-first (arityIn (c .before .before .before .before .args .counts .now)), omega arith)
@@ -50,7 +51,7 @@ cast-spread : tie.Need-cast-spread Inv-loop μ-loop
 cast-spread c = tt
 
 spread-requires : tie.Need-spread-requires Inv-loop μ-loop
-spread-requires c κs = ((c .before .before .before .before .loop .inv .0 .argsLong, omega (arith, c .before .spread-arg2 .given .2)), begun-fits (c .before .before .before .before .before .before .before .before .before .pre .0 .1) (c .before .before .before .loop-test .taken) (c .before .before .before .before .loop .inv .0))
+spread-requires c κs = ((c .before .before .before .before .loop .inv .0 .argsLong, omega (arith, c .before .spread-arg2 .given .2)), (part-outside (c .before .before .before .before .before .before .before .before .before .pre .0 .1) (c .before .before .before .before .loop .p) (c .before .before .before .before .before .before .before .before .before .args .rows) (c .before .before .before .loop-test .taken) (c .before .before .before .before .before .before .before .before .before .pre .1 .2), begun-fits (c .before .before .before .before .before .before .before .before .before .pre .0 .1) (c .before .before .before .loop-test .taken) (c .before .before .before .before .loop .inv .0)))
 
 shared-slice-read-wide : tie.Need-shared-slice-read-wide Inv-loop μ-loop
 shared-slice-read-wide c = omega arith

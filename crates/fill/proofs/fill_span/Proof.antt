@@ -63,7 +63,7 @@ settle-requires c κs =
         record { innerLong = c .before .before .before .before .before .sums-at .ensures .0; frontLong = ready .emptyLong; backLong = ready .argsLong; argsLong = c .before .before .before .bare-args .ensures .long; cellsLong = c .before .before .before .before .zero-row .ensures .long },
         (
           zero-founded (λ (p d : ℕ). bitOf (eqb (a .i + 1) (a .j) && slotHas (a .chars .now) (slot p d) (getD (a .text .now) (a .i) 0))) (a .counts .now) (a .users .now) (c .before .before .before .before .before .sums-at .result) (a .empty .now) (a .back .now) (c .before .before .before .bare-args .result) (c .before .before .before .before .zero-row .result) (c .before .before .before .bare-args .ensures) (c .before .before .before .before .zero-row .ensures),
-          ready .wantedLong,
+          (ready .wantedLong, ready .rowsAre),
         ),
       ),
     )
@@ -76,7 +76,7 @@ store-cells-requires c κs =
     let ready = c .before .before .before .before .before .before .before .before .before .before .before .before .before .before .before .before .before .before .before .before .before .before .before .before .before .before .pre .1 .0 in
     let a = (c .before .before .before .before .before .before .before .before .before .before .before .before .before .before .before .before .before .before .before .before .before .before .before .before .before .before .args) in
     let few = rows-few (arityIn (a .counts .now)) (length (a .counts .now)) (c .before .before .before .before .before .before .before .before .before .before .before .before .before .before .before .before .before .before .before .before .before .before .before .before .before .before .pre .0 .fewProductions) (c .before .before .before .before .before .before .before .before .before .before .before .before .before .before .before .before .before .before .before .before .before .before .before .before .before .before .pre .0 .fewArguments) in
-    ((ready .short, omega (arith, ready .rowsAre), omega (arith, c .before .before .before .before .before .before .before .before .before .before .before .before .before .before .before .before .before .before .before .before .before .before .before .before .before .before .pre .1 .1 .0 .0), c .before .before .before .before .before .before .before .before .before .before .before .before .before .before .before .before .before .before .before .before .before .before .before .before .before .before .pre .1 .1 .0 .1), (ready .longEnough, c .before .before .before .before .settle .kept .1 .1 .1 .1 .1 .1 .1 .1 .0 ∙ c .before .before .before .before .before .before .before .before .before .zero-row .ensures .long))
+    ((ready .short, omega (arith, ready .rowsAre), omega (arith, c .before .before .before .before .before .before .before .before .before .before .before .before .before .before .before .before .before .before .before .before .before .before .before .before .before .before .pre .1 .1 .0 .0), c .before .before .before .before .before .before .before .before .before .before .before .before .before .before .before .before .before .before .before .before .before .before .before .before .before .before .pre .1 .1 .0 .1), (ready .longEnough, c .before .before .before .before .settle .kept .1 .1 .1 .1 .1 .1 .1 .1 .1 .0 ∙ c .before .before .before .before .before .before .before .before .before .zero-row .ensures .long))
 
 slice-aggregate-add-splits : tie.Need-slice-aggregate-add-splits
 slice-aggregate-add-splits c = search needs
@@ -87,11 +87,11 @@ add-splits-requires c κs =
     let a = (c .before .before .before .before .before .before .before .before .before .before .before .before .before .before .before .before .before .before .before .before .before .before .before .before .before .before .before .before .before .before .before .before .before .args) in
     let few = rows-few (arityIn (a .counts .now)) (length (a .counts .now)) (c .before .before .before .before .before .before .before .before .before .before .before .before .before .before .before .before .before .before .before .before .before .before .before .before .before .before .before .before .before .before .before .before .before .pre .0 .fewProductions) (c .before .before .before .before .before .before .before .before .before .before .before .before .before .before .before .before .before .before .before .before .before .before .before .before .before .before .before .before .before .before .before .before .before .pre .0 .fewArguments) in
     let args₀ = c .before .before .before .before .before .before .before .before .before .before .before .before .before .before .before .bare-args .result in
-    let x = c .before .before .before .before .before .before .before .before .before .before .before .settle .last .1 .1 .1 .1 .1 .1 .1 .1 .0 in
+    let x = c .before .before .before .before .before .before .before .before .before .before .before .settle .last .1 .1 .1 .1 .1 .1 .1 .1 .1 .0 in
     let settled = c .before .before .before .before .before .before .before .before .before .before .before .settle .ensures (λ k. getD args₀ k 0) (zero-exact (a .counts .now) (a .users .now) (c .before .before .before .before .before .before .before .before .before .before .before .before .before .before .before .before .before .sums-at .result) (a .empty .now) (a .back .now) args₀ (c .before .before .before .before .before .before .before .before .before .before .before .before .before .before .before .before .zero-row .result) (c .before .before .before .before .before .before .before .before .before .before .before .before .before .before .before .before .zero-row .ensures)) in
-    let small = settled-small (spanOf (a .counts .now) (a .users .now) (c .before .before .before .before .before .before .before .before .before .before .before .before .before .before .before .before .before .sums-at .result) (a .empty .now) (a .back .now) (λ k. getD args₀ k 0)) (a .wanted .now) (c .before .before .before .before .before .before .before .before .before .before .before .before .before .before .before .before .zero-row .result) (c .before .before .before .before .before .before .before .before .before .before .before .settle .last .1 .1 .1 .1 .1 .1 .1 .0) x (c .before .before .before .before .before .before .before .before .before .before .before .before .before .before .before .before .zero-row .ensures) settled in
+    let small = settled-small (spanOf (a .counts .now) (a .users .now) (c .before .before .before .before .before .before .before .before .before .before .before .before .before .before .before .before .before .sums-at .result) (a .empty .now) (a .back .now) (λ k. getD args₀ k 0)) (a .wanted .now) (c .before .before .before .before .before .before .before .before .before .before .before .before .before .before .before .before .zero-row .result) (c .before .before .before .before .before .before .before .before .before .before .before .settle .last .1 .1 .1 .1 .1 .1 .1 .1 .0) x (c .before .before .before .before .before .before .before .before .before .before .before .before .before .before .before .before .zero-row .ensures) settled in
     let cells = small-stored (length (a .text .now)) (a .rows) (a .j) (c .before .before .before .before .before .before .before .before .before .before .before .before .before .before .before .before .before .before .before .before .before .before .before .before .before .before .before .before .before .before .before .before .before .pre .1 .1 .0 .1) (a .i) x (a .chart .now) (c .before .before .before .before .before .before .store-cells .last .0) (omega (arith, c .before .before .before .before .before .before .before .before .before .before .before .before .before .before .before .before .before .before .before .before .before .before .before .before .before .before .before .before .before .before .before .before .before .pre .1 .1 .0 .0)) small (c .before .before .before .before .before .before .store-cells .ensures) (c .before .before .before .before .before .before .before .before .before .before .before .before .before .before .before .before .before .before .before .before .before .before .before .before .before .before .before .before .before .before .before .before .before .pre .1 .1 .1 .0) in (
-      (ready .short, omega (arith, ready .rowsAre), omega (arith, c .before .before .before .before .before .before .before .before .before .before .before .before .before .before .before .before .before .before .before .before .before .before .before .before .before .before .before .before .before .before .before .before .before .pre .1 .1 .0 .0, c .before .before .before .before .before .before .before .before .before .before .before .before .before .before .before .before .before .before .before .before .before .before .before .before .before .before .before .before .before .before .before .before .before .pre .1 .1 .0 .1), c .before .before .before .before .before .before .before .before .before .before .before .settle .kept .1 .1 .1 .1 .1 .1 .1 .0 ∙ c .before .before .before .before .before .before .before .before .before .before .before .before .before .before .before .bare-args .ensures .long),
+      (ready .short, omega (arith, ready .rowsAre), omega (arith, c .before .before .before .before .before .before .before .before .before .before .before .before .before .before .before .before .before .before .before .before .before .before .before .before .before .before .before .before .before .before .before .before .before .pre .1 .1 .0 .0, c .before .before .before .before .before .before .before .before .before .before .before .before .before .before .before .before .before .before .before .before .before .before .before .before .before .before .before .before .before .before .before .before .before .pre .1 .1 .0 .1), c .before .before .before .before .before .before .before .before .before .before .before .settle .kept .1 .1 .1 .1 .1 .1 .1 .1 .0 ∙ c .before .before .before .before .before .before .before .before .before .before .before .before .before .before .before .bare-args .ensures .long),
       (
         (omega (arith, ready .longEnough, c .before .before .before .before .before .before .store-cells .kept .0), ready .sumsLong, ready .liveLong),
         ((λ r k lr lk. c .before .before .before .before .before .before .before .before .before .before .before .before .before .before .before .before .before .before .before .before .before .before .before .before .before .before .before .before .before .before .before .before .before .pre .1 .1 .1 .1 .smallSums r k lr (omega (arith, c .before .before .before .before .before .before .before .before .before .before .before .before .before .before .before .before .before .before .before .before .before .before .before .before .before .before .before .before .before .before .before .before .before .pre .1 .1 .0 .0))), (λ r k lr lk. cells .smallCells r k (a .i) lr lk (omega (arith, c .before .before .before .before .before .before .before .before .before .before .before .before .before .before .before .before .before .before .before .before .before .before .before .before .before .before .before .before .before .before .before .before .before .pre .1 .1 .0 .0)))),
@@ -113,8 +113,8 @@ returns-2 c =
     let a = (c .before .before .before .before .before .before .before .before .before .before .before .before .before .before .before .before .before .before .before .before .before .before .before .before .before .before .before .before .before .before .before .before .before .before .before .before .before .before .args) in
     let args₀ = c .before .before .before .before .before .before .before .before .before .before .before .before .before .before .before .before .before .before .before .before .bare-args .result in
     let inner = c .before .before .before .before .before .before .before .before .before .before .before .before .before .before .before .before .before .before .before .before .before .before .sums-at .result in
-    let x = c .before .before .before .before .before .before .before .before .before .before .before .before .before .before .before .before .settle .last .1 .1 .1 .1 .1 .1 .1 .1 .0 in
-    let args = c .before .before .before .before .before .before .before .before .before .before .before .before .before .before .before .before .settle .last .1 .1 .1 .1 .1 .1 .1 .0 in
+    let x = c .before .before .before .before .before .before .before .before .before .before .before .before .before .before .before .before .settle .last .1 .1 .1 .1 .1 .1 .1 .1 .1 .0 in
+    let args = c .before .before .before .before .before .before .before .before .before .before .before .before .before .before .before .before .settle .last .1 .1 .1 .1 .1 .1 .1 .1 .0 in
     let settled = c .before .before .before .before .before .before .before .before .before .before .before .before .before .before .before .before .settle .ensures (λ k. getD args₀ k 0) (zero-exact (a .counts .now) (a .users .now) inner (a .empty .now) (a .back .now) args₀ (c .before .before .before .before .before .before .before .before .before .before .before .before .before .before .before .before .before .before .before .before .before .zero-row .result) (c .before .before .before .before .before .before .before .before .before .before .before .before .before .before .before .before .before .before .before .before .before .zero-row .ensures)) in
     let small = settled-small (spanOf (a .counts .now) (a .users .now) inner (a .empty .now) (a .back .now) (λ k. getD args₀ k 0)) (a .wanted .now) (c .before .before .before .before .before .before .before .before .before .before .before .before .before .before .before .before .before .before .before .before .before .zero-row .result) args x (c .before .before .before .before .before .before .before .before .before .before .before .before .before .before .before .before .before .before .before .before .before .zero-row .ensures) settled in (
       span-further (a .counts .now) (a .chars .now) (a .users .now) (a .uses .now) (a .wanted .now) (a .empty .now) (a .back .now) (a .text .now) (a .chart .now) (a .sums .now) (a .live .now) (a .rows) (a .i) (a .j) (c .before .before .before .before .before .before .before .before .before .before .before .before .before .before .before .before .before .before .before .before .before .before .before .before .before .before .before .before .before .before .before .before .before .before .before .before .before .before .pre .0) ready (c .before .before .before .before .before .before .before .before .before .before .before .before .before .before .before .before .before .before .before .before .before .before .before .before .before .before .before .before .before .before .before .before .before .before .before .before .before .before .pre .1 .1 .0 .0) (c .before .before .before .before .before .before .before .before .before .before .before .before .before .before .before .before .before .before .before .before .before .before .before .before .before .before .before .before .before .before .before .before .before .before .before .before .before .before .pre .1 .1 .0 .1)

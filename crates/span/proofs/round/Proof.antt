@@ -12,7 +12,7 @@ use Rattle.span.proofs.round.Statement.{statement}
 use Rattle.span.proofs.round.Tie as tie
 
 abbrev Inv-loop : tie.InvT-loop
-Inv-loop counts users uses wanted inner front back pending₀ args₀ cells₀ rose₀ base₀ q₀ pending args cells rose base q =
+Inv-loop counts rows users uses wanted inner front back pending₀ args₀ cells₀ rose₀ base₀ q₀ pending args cells rose base q =
     ((bare : ℕ → ℕ) → Exact (spanOf counts users inner front back bare) cells₀ args₀ → Visited (spanOf counts users inner front back bare) wanted 0 q pending₀ args₀ cells₀ pending args cells rose)
     × (length pending ≡ length pending₀)
     × (length args ≡ length args₀)
@@ -21,7 +21,7 @@ Inv-loop counts users uses wanted inner front back pending₀ args₀ cells₀ r
     × (q ≤ length counts)
 
 abbrev μ-loop : tie.MeasureT-loop
-μ-loop counts users uses wanted inner front back pending₀ args₀ cells₀ rose₀ base₀ q₀ pending args cells rose base q = length counts - q
+μ-loop counts rows users uses wanted inner front back pending₀ args₀ cells₀ rose₀ base₀ q₀ pending args cells rose base q = length counts - q
 
 loop-holds : tie.Need-loop-holds Inv-loop μ-loop
 loop-holds c =
@@ -32,7 +32,7 @@ visit-requires : tie.Need-visit-requires Inv-loop μ-loop
 visit-requires c κs =
     let h = c .before .before .before .before .loop in
     let p = c .before .before .before .before .before .before .before .before .before .before .before .before .before .before .before .pre in
-    (p .0, (loads-kept (h .args) (h .cells) (p .1 .0) (h .inv .2) (h .inv .3), (founded-kept (p .1 .1 .0) (λ bare agree. let v = h .inv .0 bare agree in (v .small, v .agree)), ((h .inv .1 ∙ p .1 .1 .1 .0, p .1 .1 .1 .1), (c .before .before .before .loop-test .taken, h .inv .4)))))
+    (p .0, (loads-kept (h .args) (h .cells) (p .1 .0) (h .inv .2) (h .inv .3), (founded-kept (p .1 .1 .0) (λ bare agree. let v = h .inv .0 bare agree in (v .small, v .agree)), ((h .inv .1 ∙ p .1 .1 .1 .0, p .1 .1 .1 .1, p .1 .1 .1 .2), (c .before .before .before .loop-test .taken, h .inv .4)))))
 
 either-requires : tie.Need-either-requires Inv-loop μ-loop
 either-requires c κs = tt

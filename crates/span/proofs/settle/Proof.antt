@@ -11,14 +11,14 @@ use Rattle.span.proofs.settle.Statement.{statement}
 use Rattle.span.proofs.settle.Tie as tie
 
 abbrev Inv-loop : tie.InvT-loop
-Inv-loop counts users uses wanted inner front back args₀ cells₀ pending₀ rose₀ args cells pending rose =
+Inv-loop counts rows users uses wanted inner front back args₀ cells₀ pending₀ rose₀ args cells pending rose =
     ((bare : ℕ → ℕ) → Exact (spanOf counts users inner front back bare) cells₀ args₀ → Settling (spanOf counts users inner front back bare) wanted cells₀ pending args cells rose)
     × (length pending ≡ productionLimit)
     × (length args ≡ length args₀)
     × (length cells ≡ length cells₀)
 
 abbrev μ-loop : tie.MeasureT-loop
-μ-loop counts users uses wanted inner front back args₀ cells₀ pending₀ rose₀ args cells pending rose = 2 * spare (spanOf counts users inner front back (λ r. 0)) cells + bitOf rose
+μ-loop counts rows users uses wanted inner front back args₀ cells₀ pending₀ rose₀ args cells pending rose = 2 * spare (spanOf counts users inner front back (λ r. 0)) cells + bitOf rose
 
 loop-holds : tie.Need-loop-holds Inv-loop μ-loop
 unfolding spanOf
@@ -33,7 +33,7 @@ round-requires : tie.Need-round-requires Inv-loop μ-loop
 round-requires c κs =
     let h = c .before .before .before .before .loop in
     let p = c .before .before .before .before .before .before .before .before .before .before .before .before .before .before .pre in
-    (p .0, (loads-kept (h .args) (h .cells) (p .1 .0) (h .inv .2) (h .inv .3), (founded-kept (p .1 .1 .0) (λ bare agree. let v = h .inv .0 bare agree in (v .small, v .agree)), (h .inv .1, p .1 .1 .1))))
+    (p .0, (loads-kept (h .args) (h .cells) (p .1 .0) (h .inv .2) (h .inv .3), (founded-kept (p .1 .1 .0) (λ bare agree. let v = h .inv .0 bare agree in (v .small, v .agree)), (h .inv .1, p .1 .1 .1 .0, p .1 .1 .1 .1))))
 
 loop-less : tie.Need-loop-less Inv-loop μ-loop
 loop-less c =

@@ -4,7 +4,7 @@ use mathlib.Core.Path.{_∙_}
 use native.Mathlib.Omega.{arith}
 use lib.ListN.{length-set}
 use borrow.Author.Needs.{needs}
-use Rattle.span.proofs.TableLaws.{table-room, table-within, table-fits, table-idle, table-same, table-rose}
+use Rattle.span.proofs.TableLaws.{part-outside, table-room, table-within, table-fits, table-idle, table-same, table-rose}
 use Rattle.span.proofs.visit.Statement.{statement}
 use Rattle.span.proofs.visit.Tie as tie
 
@@ -105,7 +105,7 @@ spread-requires : tie.Need-spread-requires
 spread-requires c κs =
     let a = c .before .before .before .before .before .before .before .before .before .before .before .before .before .before .before .before .before .before .before .before .before .before .before .before .before .before .before .args in
     let p = c .before .before .before .before .before .before .before .before .before .before .before .before .before .before .before .before .before .before .before .before .before .before .before .before .before .before .before .pre in
-    ((p .1 .0 .argsLong, omega (arith, c .before .spread-arg2 .given .2)), table-fits (a .q) (a .base) (p .0) (p .1 .0) (p .1 .1 .0) (p .1 .1 .1 .1) (c .before .before .before .before .before .before .before .before .wide2 .result) _ (c .before .before .before .before .before .before .before .before .wide2 .ensures) (c .before .before .before .before .before .before .before .advance .ensures) (a .base + c .before .before .before .before .before .before .before .before .before .before .before .before .before .wide .result))
+    ((p .1 .0 .argsLong, omega (arith, c .before .spread-arg2 .given .2)), (part-outside (p .0) (a .q) (a .rows) (p .1 .1 .1 .1 .0) (p .1 .1 .1 .0 .2), table-fits (a .q) (a .base) (p .0) (p .1 .0) (p .1 .1 .0) (p .1 .1 .1 .1) (c .before .before .before .before .before .before .before .before .wide2 .result) _ (c .before .before .before .before .before .before .before .before .wide2 .ensures) (c .before .before .before .before .before .before .before .advance .ensures) (a .base + c .before .before .before .before .before .before .before .before .before .before .before .before .before .wide .result)))
 
 mul-mark : tie.Need-mul-mark
 mul-mark c =
