@@ -2,9 +2,15 @@
 # The tests that need rustc or gcc come first: rt ci removes target/.
 
 BUILD := build
+LIBRARY := target/staticlib/libmeadowsink.a
+RUSTC := rustc --edition 2021 -O
+LINK := -L target/staticlib -l static=meadowsink
 CASE_CRATES := grammar_cases conflict_cases flat_cases listing_cases
+# how many random cases the second parser compares
+CASES := 100000
+MANY_CASES := 1000000
 
-.PHONY: run test lib viewer bench books cases store-cases check clean
+.PHONY: run test lib viewer second second-long faults examples check-examples bench books check-books cases store-cases check clean
 
 # the line 8/4*2 read by book T
 run:
@@ -12,31 +18,86 @@ run:
 	@rt check reading > $(BUILD)/run.log 2>&1 || { cat $(BUILD)/run.log; exit 1; }
 	@cd crates/reading/data && ../../../target/bin/reading < ../stdin
 
-# the library for C, target/staticlib/libmeadowsink.a
+# the library for C
 lib:
 	rt staticlib meadowsink
 
-test: cases viewer
+test: cases check-books lib viewer check-examples second
 	rt fmt --check
 	rt ci
 
-# the C program that uses the viewer's call
-viewer: lib
+# the C program that uses every call
+viewer: $(LIBRARY)
 	mkdir -p $(BUILD)
-	gcc -std=c11 -Wall -Wextra -Werror -O2 -o $(BUILD)/viewer tests/viewer_call.c target/staticlib/libmeadowsink.a
+	gcc -std=c11 -Wall -Wextra -Werror -O2 -o $(BUILD)/viewer tests/viewer_call.c $(LIBRARY)
 	$(BUILD)/viewer
 
-# how long the library takes on the books of books/
-bench: lib $(BUILD)/bench
-	$(BUILD)/bench run books
+$(LIBRARY):
+	$(MAKE) lib
 
-# write the books anew
-books: $(BUILD)/bench
-	$(BUILD)/bench make books
+# ---- independent evidence
 
-$(BUILD)/bench: tools/bench.rs lib
+# every call against the second parser, on random cases
+second: $(BUILD)/second
+	$(BUILD)/second $(CASES)
+
+second-long: $(BUILD)/second
+	$(BUILD)/second $(MANY_CASES)
+
+$(BUILD)/second: tests/second/*.rs $(LIBRARY)
 	mkdir -p $(BUILD)
-	rustc --edition 2021 -O -o $@ $< -L target/staticlib -l static=meadowsink
+	$(RUSTC) -o $@ tests/second/main.rs $(LINK)
+
+# each fault of the list is refused by the prover or caught by the second parser; docs/FAULTS.md has a recorded run
+faults: $(BUILD)/faults
+	$(BUILD)/faults tests/faults.txt $${TMPDIR:-/tmp}/meadowsink-faults
+
+$(BUILD)/faults: tools/faults.rs
+	mkdir -p $(BUILD)
+	$(RUSTC) -o $@ $<
+
+# ---- examples
+
+# the sheet viewer, the wrapper for Rust, and the tool that makes books; with the library as it stands: make lib makes it anew
+examples: $(BUILD)/examples/viewer $(BUILD)/examples/wrapper $(BUILD)/book
+
+$(BUILD)/examples/viewer: examples/viewer.c include/meadowsink.h $(LIBRARY)
+	mkdir -p $(@D)
+	gcc -std=c11 -Wall -Wextra -Werror -O2 -o $@ $< $(LIBRARY)
+
+$(BUILD)/examples/wrapper: examples/rust/main.rs examples/rust/meadowsink.rs books/T.book $(LIBRARY)
+	mkdir -p $(@D)
+	$(RUSTC) -o $@ $< $(LINK)
+
+# what the examples print is what is stored
+check-examples: examples
+	sh tests/examples.sh $(BUILD)/examples $(BUILD)/book
+
+# ---- books
+
+# write the books anew, after an edit of their texts
+books: $(BUILD)/book
+	for t in books/*.txt; do $(BUILD)/book $$t $${t%.txt}.book || exit 1; done
+
+# the books are those of their texts
+check-books: $(BUILD)/book
+	sh tests/books.sh $(BUILD)/book
+
+$(BUILD)/book: tools/book.rs
+	mkdir -p $(BUILD)
+	$(RUSTC) -o $@ $<
+
+# ---- speed
+
+# how long the library takes on the books of books/, and how long an ordinary Rust program takes
+bench: $(BUILD)/bench
+	$(BUILD)/bench books
+
+$(BUILD)/bench: tools/bench/*.rs $(LIBRARY)
+	mkdir -p $(BUILD)
+	$(RUSTC) -o $@ tools/bench/main.rs $(LINK)
+
+# ---- stored cases
 
 # the stored input and output of the case programs are those of their readable lists
 cases: $(BUILD)/cases
@@ -51,7 +112,7 @@ store-cases: $(BUILD)/cases
 
 $(BUILD)/cases: tools/cases.rs
 	mkdir -p $(BUILD)
-	rustc --edition 2021 -O -o $@ $<
+	$(RUSTC) -o $@ $<
 
 check:
 	rt check

@@ -13,6 +13,9 @@ extern "C" {
  * Areas. Each area is a pointer and a length in bytes. The areas of a call must not overlap. An area of length 0 may have any pointer that is not NULL.
  * A `const` area is only read. What the others hold before a call doesn't matter.
  *
+ * Stack. The two calls that read a text need about 450 bytes of stack for each level of an only parse, of which there can be 12,864: let a thread that makes
+ * them have 6 MB. The other calls need less than 2 MB.
+ *
  * Two calls to an operation. The first gives its answer, 4 * value + kind, where kind 3 is a refusal and the value its number; meadowsink_check alone gives
  * the number as it is. The second, whose name ends in `_place`, takes the same areas, does the same to them, and gives the place of the refusal; it is 0 if
  * nothing is refused, but 0 may also be a place.

@@ -1,0 +1,64 @@
+// Each call of the wrapper once: checks a book, writes its flat book, reads a line, and checks the listing.
+//
+//     wrapper [BOOK [LINE]]    book T and the line 8/4*2 if nothing is said
+mod meadowsink;
+
+use meadowsink::{Answer, Conflict, Flat, Judgement, Verdict};
+use std::ffi::OsString;
+use std::os::unix::ffi::OsStrExt;
+use std::{env, fs, process};
+
+const BOOK_T: &[u8] = include_bytes!("../../books/T.book");
+const LINE: &str = "8/4*2";
+
+fn print_book(book: &[u8]) {
+    match meadowsink::check(book) {
+        Verdict::Accepted => println!("book: accepted"),
+        Verdict::Refused { number, place } => println!("book: refused {number} {place}"),
+    }
+    match meadowsink::flat(book) {
+        Flat::Written(text) => print!("flat book:\n{text}"),
+        Flat::Refused { number, place } => println!("flat book: refused {number} {place}"),
+    }
+    match meadowsink::conflict(book, 1, 2, 1) {
+        Conflict::No => println!("rule 1 as argument 2 of rule 1: no clash"),
+        Conflict::Yes => println!("rule 1 as argument 2 of rule 1: a clash"),
+        Conflict::Refused { number, place } => println!("rule 1 as argument 2 of rule 1: refused {number} {place}"),
+    }
+}
+
+fn print_reading(book: &[u8], line: &[u8]) {
+    let mut chart = Vec::new();
+    match meadowsink::read(book, line, &mut chart) {
+        Answer::None => println!("readings: none"),
+        Answer::Several => println!("readings: several"),
+        Answer::Refused { number, place } => println!("readings: refused {number} {place}"),
+        Answer::One(listing) => {
+            let words: Vec<String> = listing.iter().map(u16::to_string).collect();
+            println!("readings: one {}", words.join(" "));
+            print_judgement(meadowsink::check_listing(book, line, &listing));
+        }
+    }
+}
+
+fn print_judgement(judgement: Judgement) {
+    match judgement {
+        Judgement::Right => println!("listing: right"),
+        Judgement::Wrong { index } => println!("listing: wrong {index}"),
+        Judgement::Refused { number, place } => println!("listing: refused {number} {place}"),
+    }
+}
+
+fn main() {
+    // A line may hold any bytes, not only those of UTF-8.
+    let words: Vec<OsString> = env::args_os().skip(1).collect();
+    let book = match words.first() {
+        None => BOOK_T.to_vec(),
+        Some(path) => fs::read(path).unwrap_or_else(|error| {
+            eprintln!("wrapper: {} can't be read: {error}", path.to_string_lossy());
+            process::exit(2)
+        }),
+    };
+    print_book(&book);
+    print_reading(&book, words.get(1).map_or(LINE.as_bytes(), |line| line.as_bytes()));
+}

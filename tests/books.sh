@@ -1,0 +1,152 @@
+#!/bin/sh
+# Tests tools/book.rs.
+#
+#     books.sh BOOK-TOOL [--print]    --print: only prints what is to be stored as books.out, to be looked at and kept
+#
+# Each book in books/ is made from its text; it is the same after being shown and made again; where a script made the text (the lines behind #$), it makes it
+# still. What the tool says to the texts below is in books.out.
+tool=$(cd "$(dirname "$1")" && pwd)/$(basename "$1")
+cd "$(dirname "$0")/.." || exit 1
+LC_ALL=C
+export LC_ALL
+dir=$(mktemp -d) || exit 1
+trap 'rm -rf "$dir"' EXIT
+failures=0
+
+fail() {
+    echo "failed: $*"
+    failures=$((failures + 1))
+}
+
+check_book() {
+    "$tool" "$1.txt" "$dir/made" || fail "$1.txt is no text of a book"
+    cmp "$dir/made" "$1.book" || fail "$1.book is not the book of $1.txt"
+    "$tool" --show "$1.book" > "$dir/shown" && "$tool" "$dir/shown" "$dir/again" && cmp "$dir/again" "$1.book" || fail "$1.book is another after being shown"
+    sed -n 's/^#\$ //p' "$1.txt" > "$dir/script"
+    [ -s "$dir/script" ] || return
+    sed '/^#/d; /^$/d' "$1.txt" > "$dir/body"
+    sh "$dir/script" | sed '/^$/d' | cmp - "$dir/body" || fail "$1.txt is not what its script makes"
+}
+
+# A text, a line an argument, and what becomes of it: numbers, or words.
+try() {
+    printf '%s\n' "$@" | sed 's/^/| /'
+    printf '%s\n' "$@" > "$dir/text"
+    outcome
+}
+
+outcome() {
+    if "$tool" - - < "$dir/text" > "$dir/bytes" 2> "$dir/words"; then
+        echo $(od -An -v -tu1 "$dir/bytes")
+        "$tool" --show "$dir/bytes" | "$tool" | cmp - "$dir/bytes"
+    else
+        cat "$dir/words"
+    fi
+}
+
+# A text with N lines that differ by their number, too long to print: FORMAT with each number.
+try_many() {
+    printf '| %s times %s\n' "$1" "$2" | cut -c 1-60
+    { printf 'start s\na: s =\n'; awk -v n="$1" -v f="$2" 'BEGIN { for (i = 1; i <= n; i++) printf f "\n", i }'; } > "$dir/text"
+    outcome | cut -c 1-110
+}
+
+repeat() {
+    awk -v n="$1" -v word="$2" 'BEGIN { while (n-- > 0) printf "%s", word }'
+}
+
+# A book of these bytes, shown.
+show() {
+    echo '| bytes:' "$@"
+    for byte; do printf "\\$(printf %03o "$byte")"; done | "$tool" --show 2>&1
+}
+
+transcript() {
+    echo '# book T'
+    echo $("$tool" books/T.txt | od -An -v -tu1)
+    "$tool" --show books/T.book
+    "$tool" --names "$dir/names" books/T.txt "$dir/bytes" && cat "$dir/names"
+
+    echo '# characters, classes, sorts'
+    try "start s" "class c '\\'' '\\\"' '\"' '\\\\' '\\n' '#' 0-31 127 '0'-'9' # a comment" "s = c"
+    try "start s" "class none" "s = none" "s ="
+    try "start s" "s = 'a' t \"ab\" 98" "t = 10"
+    try "start b" "sorts a b c" "b = b a" "b ="
+    try "start b" "a = 'x' b" "b = a"
+    try "start s" "left: s = 'a'" "start: s = 'b'" "left left start, start left" "not-together left left" "higher left start" "right start start"
+    try "start s" "s = 'a' 'b'" "class late 'b'"
+    try "start s" "s = 'b' c" "class c 'z'-'a'"
+
+    echo '# wrong texts'
+    try "s = 'a'"
+    try "start s" "start s" "s ="
+    try "start t" "s ="
+    try "start s" "s = tt"
+    try "start s" "sorts s s" "s ="
+    try "start s" "sorts s" "s = t"
+    try "start s" "sorts" "s ="
+    try "start s" "class s 'a'" "s ="
+    try "start s" "class c 'a'" "class c 'b'" "s = c"
+    try "start s" "a: s =" "a: s = s"
+    try "start s" "a: s =" "left a b"
+    try "start s" "a: s =" "left a"
+    try "start s" "a: s =" "left a a a a"
+    try "start s" "a: s =" "left a a,"
+    try "start s" "a: s"
+    try "start s" "a:"
+    try "start s" "s = = s"
+    try "start s" "class c 'a'-" "s = c"
+    try "start s" "class c 256" "s = c"
+    try "start s" "s = 'ab'"
+    try "start s" "s = ''"
+    try "start s" "s = 'a"
+    try "start s" "s = '\\"
+    try "start s" "s = '\\t'"
+    try "start s" "s = \"a$(printf '\303\251')\""
+    try "start s" "s = *"
+    try "start s" "s -> s"
+    try "'a' = s"
+    try "start s" "rule s"
+
+    echo '# what no byte holds'
+    try_many 254 "s = s"
+    try_many 255 "s = s"
+    try_many 192 "class c%s"
+    try_many 193 "class c%s"
+    try_many 192 "s = %s"
+    try_many 193 "s = %s"
+    try_many 63 "s%s ="
+    try_many 64 "s%s ="
+    try_many 1 "s = \"$(repeat 255 x)\""
+    try_many 1 "s = \"$(repeat 256 x)\""
+    try_many 1 "class c $(repeat 255 ' 7')"
+    try_many 1 "class c $(repeat 256 ' 7')"
+    try_many 1 "left $(repeat 254 'a a, ') a a"
+    try_many 1 "left $(repeat 255 'a a, ') a a"
+
+    echo '# books that cannot be shown'
+    show
+    show 1 1 0 0 0
+    show 1 1 0 0 0 0
+    show 1 1 0 0 0 0 1 0
+    show 1 1 0 0 0 0 0 0 0
+    show 1 1 0 0 1 0 0 0
+    show 1 1 0 0 0 1 0 0
+    show 1 1 0 0 0 0 0 1
+    show 1 1 0 0 0 0 1 0 64
+    show 1 1 0 1 0 0 0 0 5 0 0
+    show 1 1 0 1 0 0 0 0 1 0 1
+    show 65 1 0 0 0 0 0 0
+    "$tool" --show "$dir/missing" 2>&1 | sed "s|$dir/||"
+    "$tool" --what 2>&1
+}
+
+if [ "$2" = --print ]; then
+    transcript
+    exit 0
+fi
+for text in books/*.txt; do check_book "${text%.txt}"; done
+for book in books/*.book; do [ -f "${book%.book}.txt" ] || fail "$book has no text"; done
+transcript > "$dir/out"
+diff tests/books.out "$dir/out" || fail "the tool says something else than tests/books.out"
+[ $failures = 0 ] && echo 'books: all as it should be'

@@ -1,0 +1,179 @@
+#!/bin/sh
+# Tests the examples: runs the viewer and the wrapper, and compares what they print with examples.out.
+#
+#     examples.sh EXAMPLES-DIRECTORY BOOK-TOOL [--print]    --print: only prints what is to be stored as examples.out, to be looked at and kept
+examples=$(cd "$1" && pwd)
+tool=$(cd "$(dirname "$2")" && pwd)/$(basename "$2")
+cd "$(dirname "$0")/.." || exit 1
+here=$(pwd)
+LC_ALL=C
+export LC_ALL
+dir=$(mktemp -d) || exit 1
+trap 'rm -rf "$dir"' EXIT
+
+repeat() {
+    awk -v n="$1" -v word="$2" 'BEGIN { while (n-- > 0) printf "%s", word }'
+}
+
+# Writes the bytes, given in base ten, to standard output.
+bytes() {
+    for byte; do printf "\\$(printf %03o "$byte")"; done
+}
+
+# Runs an example and prints how it was called, what it said, and its exit status if that isn't 0.
+run() {
+    for word; do printf ' %s' "${word:-''}"; done | sed '1s/^/$/' | cut -c 1-100
+    program=$1
+    shift
+    "$examples/$program" "$@" 2>&1
+    status=$?
+    [ $status = 0 ] || echo "exit status $status"
+}
+
+# The answer alone.
+answer() {
+    printf '%s, %s: ' "$1" "$(printf '%s' "$2" | cut -c 1-60)"
+    "$examples/viewer" "$here/books/$1.book" "$2" 2>&1 | head -n 1
+}
+
+# The viewer on a book of these bytes.
+refused() {
+    bytes "$@" > b
+    run viewer b 8
+}
+
+trees() {
+    echo '# trees'
+    run viewer --names T.names T.book '8/4*2'
+    run viewer T.book '8/4*2'
+    run viewer --names empty T.book 8
+    run viewer T.book ''
+    printf '8*2\n' | run viewer T.book
+    printf '8*2' | run viewer T.book
+    printf '' | run viewer T.book
+    printf '8\n2\n' | run viewer T.book
+    "$tool" --names loops.names "$here/books/loops.txt" loops.book
+    run viewer --names loops.names loops.book ''
+    run viewer --names loops.names loops.book '-1.5m'
+    run viewer loops.book '~k'
+    bytes 1 1 0 0 0 0 0 0 > i.book
+    run viewer i.book ''
+    bytes 1 2 1 0 0 0 2 0 1 0 64 0 0 0 255 > any.book
+    run viewer any.book "a'\\\"$(printf '\t\n\303\251')."
+    bytes 1 2 1 0 0 0 1 1 1 0 64 0 0 56 56 > j.book
+    run viewer j.book 8
+    bytes 1 3 3 0 0 0 1 3 3 1 1 1 0 64 0 0 65 0 0 0 66 0 48 57 42 42 47 47 > d.book
+    run viewer d.book '8/4*2'
+    run viewer --flat T.book
+}
+
+lengths() {
+    echo '# long lines'
+    answer arithmetic "12+(3*4-5)/6*$(repeat 187 7)"
+    answer arithmetic "12+(3*4-5)/6*$(repeat 188 7)"
+    answer T "$(repeat 65536 8)"
+    run viewer T.book "$(repeat 65537 8)"
+    echo 'ladder, 200 a: its lines, and the deepest'
+    "$examples/viewer" "$here/books/ladder.book" "$(repeat 200 a)" > ladder
+    wc -l < ladder | tr -d ' '
+    awk '/level/ && $2 + 0 > depth { depth = $2 + 0; deepest = $0 } END { print deepest }' ladder | sed 's/^ *//'
+    echo 'ladder, 200 a, with a smaller stack, which the viewer raises'
+    (ulimit -S -s 1024; "$examples/viewer" "$here/books/ladder.book" "$(repeat 200 a)") | cmp - ladder
+    run viewer "$here/books/power.book" '' | sed "s|$here/||"
+}
+
+# A refused book for each number and kind of place, made from T.
+refusals() {
+    echo '# refused books'
+    run viewer empty 8
+    refused 1 3 3 3 0
+    refused 1 3 3 3 0 0 1 3 3 1 1
+    refused 0 3 3 3 0 0 1 3 3 1 1 1
+    refused 33 3 3 3 0 0 1 3 3 1 1 1
+    refused 1 65 0 0 0 0
+    refused 1 1 65 0 0 0 0
+    refused 1 3 3 3 1 0 1 3 3 1 1 1
+    refused 1 3 3 3 0 7 1 3 3 1 1 1
+    refused 1 3 3 3 0 0 1 9 3 1 1 1
+    refused 1 3 3 3 0 0 1 3 3 1 1 17
+    refused 1 3 3 3 0 0 1 3 3 1 1 1 0 64 0
+    refused 1 3 3 3 0 0 1 3 3 1 1 1 0 64 0 0 65 0 0 0 66 0 48 57 42 42 47 47 2 1 1 2 2 2 2 1
+    refused 1 3 3 3 0 0 1 3 3 1 1 1 0 64 0 0 65 0 0 0 66 0 48 57 42 42 47 47 2 1 1 2 2 2 2 1 2 0 0
+    refused 1 3 3 3 0 0 1 3 3 1 1 1 0 64 9 0 65 0 0 0 66 0 48 57 42 42 47 47 2 1 1 2 2 2 2 1 2
+    refused 1 3 3 3 0 0 1 3 3 1 1 1 0 64 0 0 65 5 0 0 66 0 48 57 42 42 47 47 2 1 1 2 2 2 2 1 2
+    refused 1 3 3 3 0 0 1 3 3 1 1 1 0 64 0 0 67 0 0 0 66 0 48 57 42 42 47 47 2 1 1 2 2 2 2 1 2
+    refused 1 3 3 3 0 0 1 3 3 1 1 1 0 64 0 0 65 0 0 0 66 0 48 57 42 42 48 47 2 1 1 2 2 2 2 1 2
+    refused 1 3 3 3 0 0 1 3 3 1 1 1 0 64 0 0 65 0 0 0 66 0 48 57 42 42 47 47 5 1 1 2 2 2 2 1 2
+    refused 1 3 3 3 0 0 1 3 3 1 1 1 0 64 0 0 65 0 0 0 66 0 48 57 42 42 47 47 2 1 1 2 3 2 2 1 2
+    refused 1 3 3 3 0 0 1 3 3 1 1 1 0 64 0 0 65 0 0 0 66 0 48 57 42 42 47 47 2 1 1 2 2 2 2 1 255
+    refused 1 3 3 3 0 0 1 3 3 1 1 1 0 64 0 0 65 0 0 0 65 0 48 57 42 42 47 47 2 1 1 2 2 2 2 1 2
+    refused 1 3 3 2 0 0 1 3 3 1 1 1 0 64 0 0 65 0 0 0 66 0 48 57 42 42 47 47 1 1 2 1 2 1
+    run viewer --names T.names b 8
+    run viewer --flat b
+}
+
+misuse() {
+    echo '# wrong calls'
+    run viewer
+    run viewer --names T.names
+    run viewer T.book 8 8
+    run viewer missing 8
+    run viewer . 8
+    run viewer --names missing T.book 8
+    repeat 65537 a > large
+    run viewer large 8
+}
+
+# The lines that the texts in books/ give as examples.
+books() {
+    echo '# the books'
+    for line in '8/4*2' 88 8/; do answer T "$line"; done
+    for line in '12+(3*4-5)/6*7' 12+ ')3('; do answer arithmetic "$line"; done
+    for line in '64:8*60:8/2' '(96:12*(60:10))/30' 64: 08:8; do answer gears "$line"; done
+    for line in '[]' '[arbor]' '[arbor,[pin,[]],wheel]' '[arbor,]' arbor; do answer lists "$line"; done
+    for line in 3 -12.5m +7s .5 '' '~k' '12!' '!' 1.2.3 '~'; do answer loops "$line"; done
+    for line in a aa aaa '' b; do answer pairs "$line"; done
+    for line in x=1 'if a<2 then x=y+1 else {x=0;y=x*3}' 'if a then {if b then x=1} else x=2' '{}' 'if a then if b then x=1 else x=2' 'x=a<b<c'; do
+        answer statements "$line"
+    done
+    for line in 'wheel pinion arbor turn' strike wheels 'wheel  pinion'; do answer words "$line"; done
+    for line in abba abbba '' ab; do answer palindromes "$line"; done
+    for line in 1a2b3 1z2a3 1a ab; do answer priorities "$line"; done
+    for book in ladder dense dense_unique chain power power_loop; do
+        for line in '' aaa; do answer $book "$line"; done
+    done
+}
+
+wrapper() {
+    echo '# the wrapper'
+    run wrapper
+    run wrapper T.book ''
+    run wrapper T.book "$(repeat 201 8)"
+    run wrapper d.book '8/4*2'
+    run wrapper b 8
+    run wrapper empty 8
+    run wrapper i.book ''
+    run wrapper missing
+    run wrapper "$here/books/ladder.book" "$(repeat 200 a)" | tail -n 2 | cut -c 1-80
+    run wrapper "$here/books/power.book" '' | tail -n 1
+}
+
+transcript() {
+    cd "$dir" || exit 1
+    : > empty
+    "$tool" --names T.names "$here/books/T.txt" T.book
+    trees
+    lengths
+    refusals
+    misuse
+    books
+    wrapper
+}
+
+if [ "$3" = --print ]; then
+    transcript
+    exit 0
+fi
+(transcript) > "$dir/out"
+diff tests/examples.out "$dir/out" || exit 1
+echo 'examples: all as it should be'
