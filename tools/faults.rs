@@ -45,9 +45,9 @@ fn said(output: &Output) -> String {
 }
 
 // The first function that the prover could not prove.
-fn refused(log: &str) -> Option<String> {
-    let line = log.lines().find(|line| line.starts_with("fn ") && line.contains("not proved") || line.contains(": no proof"))?;
-    Some(line.split(':').take(3).collect::<Vec<_>>().join(":").trim_start_matches("fn ").to_string())
+fn refused(log: &str) -> Option<&str> {
+    let mut functions = log.lines().filter_map(|line| line.strip_prefix("fn ")?.split_once(": "));
+    functions.find(|(_, end)| end.starts_with("not proved") || end.starts_with("no proof")).map(|(name, _)| name)
 }
 
 // The library of the changed code against the second parser.
@@ -71,7 +71,7 @@ fn attempt(copy: &str, fault: &Fault) -> Option<String> {
     }
     fs::write(&path, source.replace(&fault.old, &fault.new)).unwrap_or_else(|_| fail(&fault.file));
     let log = said(&run(copy, "rt", &["dev", &fault.name]));
-    let end = if log.contains("logic=proved") { caught(copy) } else { Some(format!("refused: {}", refused(&log).unwrap_or_default())) };
+    let end = if log.contains("logic=proved") { caught(copy) } else { Some(format!("refused: `{}`", refused(&log).unwrap_or("the crate"))) };
     fs::write(&path, source).unwrap_or_else(|_| fail(&fault.file));
     end
 }

@@ -14,9 +14,10 @@ production-count-requires : tie.Need-production-count-requires
 production-count-requires c κs = search needs
 
 closed-requires : tie.Need-closed-requires
-closed-requires c κs =
-    (omega (arith, c .production-count .ensures, c .before .before .before .pre .framed .fewProductions),
-      λ x y e. let l = declared-first (c .before .before .before .args .book .now) (c .before .before .before .pre) x y (sym (c .before .declared-higher .ensures x y) ∙ e) in omega (arith, c .production-count .ensures))
+closed-requires c κs = (
+  omega (arith, c .production-count .ensures, c .before .before .before .pre .framed .fewProductions),
+  λ x y e. let l = declared-first (c .before .before .before .args .book .now) (c .before .before .before .pre) x y (sym (c .before .declared-higher .ensures x y) ∙ e) in omega (arith, c .production-count .ensures),
+)
 
 returns : tie.Need-returns
 returns c x y =
