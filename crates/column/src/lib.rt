@@ -9,7 +9,6 @@ use ccg::tables::slot_has;
 use chart::layout::PLACES;
 use chart::layout::ROW_LIMIT;
 use chart::sums::capped;
-use chart::sums::zero_row;
 use grammar::layout::wide;
 use grammar::limits::ARGUMENT_LIMIT;
 ghost use mathlib.Core.Path.{_≡_};
@@ -20,6 +19,7 @@ ghost use lib.Dec.{eqb};
 ghost use lib.ListN.{length, getD};
 ghost use Rattle.common.specs.Below.{bitOf};
 ghost use Rattle.common.specs.Region.{Region};
+ghost use Rattle.common.specs.Zeros.{AllZero};
 ghost use Rattle.grammar.specs.Limits.{productionLimit, argumentLimit};
 ghost use Rattle.ccg.specs.Tables.{slot, slotHas, charWords};
 ghost use Rattle.chart.specs.Layout.{textLimit, places, rowLimit, spanCount};
@@ -46,18 +46,16 @@ pub fn clear_column(chart: &mut [u8], n: usize, rows: usize, j: usize)
     }
 }
 
-// The sums of all rows for start i.
-pub fn sums_at(sums: &[u8], rows: usize, i: usize) -> [u8; ROW_LIMIT]
-    requires { ⌜ (length (now sums) ≡ rowLimit * places) × (rows ≤ rowLimit) × (i < places) ⌝ }
-    ensures { λ out. ⌜ (length out ≡ rowLimit) × ((r : ℕ) → r < rows → getD out r 0 ≡ getD (now (sums .entry)) (r * places + i) 0) × ((r : ℕ) → rows ≤ r → getD out r 0 ≡ 0) ⌝ }
+// Writes the sums of all rows for start i.
+pub fn sums_at(sums: &[u8], rows: usize, i: usize, out: &mut [u8])
+    requires { ⌜ (length (now sums) ≡ rowLimit * places) × (rows ≤ rowLimit) × (i < places) × (length (now out) ≡ rowLimit) ⌝ }
+    ensures { λ _. ⌜ ((r : ℕ) → r < rows → getD (now (out .exit)) r 0 ≡ getD (now (sums .entry)) (r * places + i) 0) × ((r : ℕ) → rows ≤ r → getD (now (out .exit)) r 0 ≡ getD (now (out .entry)) r 0) ⌝ }
 {
-    let mut out = zero_row();
     let mut r = 0;
     while r < rows {
         out[r] = sums[r * PLACES + i];
         r += 1;
     }
-    out
 }
 
 // Adds the splits of one row at m, unless nothing may stand behind them.
@@ -134,32 +132,32 @@ fn char_production(
     }
 }
 
-// For each row, 1 if the character may stand as its next argument.
-fn char_row(counts: &[u8], chars: &[u64], character: u8) -> [u8; ROW_LIMIT]
+// Writes for each row, over zeros, 1 if the character may stand as its next argument.
+fn char_row(counts: &[u8], chars: &[u64], character: u8, out: &mut [u8])
     requires { ⌜ (length (now counts) ≤ productionLimit) × ((p : ℕ) → getD (now counts) p 0 ≤ argumentLimit) × (length (now chars) ≡ charWords) ⌝ }
-    ensures { λ r. ⌜ RowsFilled (λ p d. bitOf (slotHas (now (chars .entry)) (slot p d) character)) (now (counts .entry)) (length (now (counts .entry))) r ⌝ }
+    requires { ⌜ AllZero rowLimit (now out) ⌝ }
+    ensures { λ _. ⌜ RowsFilled (λ p d. bitOf (slotHas (now (chars .entry)) (slot p d) character)) (now (counts .entry)) (length (now (counts .entry))) (now (out .exit)) ⌝ }
 {
-    let mut out = zero_row();
     let mut base = 0;
     let mut p = 0;
     while p < counts.len() {
-        char_production(&mut out, chars, p, base, wide(counts[p]), character);
+        char_production(out, chars, p, base, wide(counts[p]), character);
         base += wide(counts[p]) + 1;
         p += 1;
     }
-    out
 }
 
-// For each row, 1 if the text from i to j is a character that may stand as its next argument.
-pub fn bare_args(text: &[u8], counts: &[u8], chars: &[u64], i: usize, j: usize) -> [u8; ROW_LIMIT]
+// Writes for each row, over zeros, 1 if the text from i to j is a character that may stand as its next argument.
+pub fn bare_args(text: &[u8], counts: &[u8], chars: &[u64], i: usize, j: usize, out: &mut [u8])
     requires { ⌜ (length (now counts) ≤ productionLimit) × ((p : ℕ) → getD (now counts) p 0 ≤ argumentLimit) × (length (now chars) ≡ charWords) ⌝ }
     requires { ⌜ (i < j) × (j ≤ length (now text)) ⌝ }
-    ensures { λ r. ⌜ RowsFilled (λ p d. bitOf (eqb (i + 1) j && slotHas (now (chars .entry)) (slot p d) (getD (now (text .entry)) i 0))) (now (counts .entry)) (length (now (counts .entry))) r ⌝ }
+    requires { ⌜ AllZero rowLimit (now out) ⌝ }
+    ensures { λ _. ⌜ RowsFilled (λ p d. bitOf (eqb (i + 1) j && slotHas (now (chars .entry)) (slot p d) (getD (now (text .entry)) i 0))) (now (counts .entry)) (length (now (counts .entry))) (now (out .exit)) ⌝ }
 {
     if i + 1 != j {
-        return zero_row();
+        return;
     }
-    char_row(counts, chars, text[i])
+    char_row(counts, chars, text[i], out);
 }
 
 // ---- cells

@@ -68,9 +68,11 @@ fn fill_span(
     if is_dead(live, i, j) {
         return;
     }
-    let inner = sums_at(sums, rows, i);
+    let mut inner = zero_row();
+    sums_at(sums, rows, i, &mut inner);
     let mut cells = zero_row();
-    let mut args = bare_args(text, counts, chars, i, j);
+    let mut args = zero_row();
+    bare_args(text, counts, chars, i, j, &mut args);
     settle(
         counts,
         rows,

@@ -15,14 +15,11 @@ use Rattle.column.proofs.bare_args.Tie as tie
 add-if1 : tie.Need-add-if1
 add-if1 c = search needs
 
-zero-row-requires : tie.Need-zero-row-requires
-zero-row-requires c κs = search needs
-
 returns : tie.Need-returns
 returns c =
     let a = (c .before .before .before .before .before .args) in
-    rows-zero (λ (p d : ℕ). bitOf (eqb (a .i + 1) (a .j) && slotHas (a .chars .now) (slot p d) (getD (a .text .now) (a .i) 0))) (a .counts .now) (length (a .counts .now)) (c .zero-row .result) (c .zero-row .ensures)
-    (λ p d. rw (ne-eqb (a .i + 1) (a .j) (c .before .if1 .taken)) refl)
+    rows-zero (λ (p d : ℕ). bitOf (eqb (a .i + 1) (a .j) && slotHas (a .chars .now) (slot p d) (getD (a .text .now) (a .i) 0))) (a .counts .now) (length (a .counts .now)) (a .out .now) (c .before .before .before .before .before .pre .1 .1)
+    (λ p d. rw (ne-eqb (a .i + 1) (a .j) (c .if1 .taken)) refl)
 
 shared-slice-read-char-row : tie.Need-shared-slice-read-char-row
 shared-slice-read-char-row c = search needs
@@ -30,20 +27,17 @@ shared-slice-read-char-row c = search needs
 char-row-requires : tie.Need-char-row-requires
 char-row-requires c κs = search needs
 
+same-length : tie.Need-same-length
+same-length c = search needs
+
 returns-2 : tie.Need-returns-2
 returns-2 c =
-    let a = (c .before .before .before .before .before .before .args) in
+    let a = (c .before .before .before .before .before .before .before .before .before .before .args) in
     rows-same (λ (p d : ℕ). bitOf (slotHas (a .chars .now) (slot p d) (getD (a .text .now) (a .i) 0)))
-    (λ (p d : ℕ). bitOf (eqb (a .i + 1) (a .j) && slotHas (a .chars .now) (slot p d) (getD (a .text .now) (a .i) 0))) (a .counts .now) (length (a .counts .now)) (c .char-row .result)
-    (λ p d. sym (rw (eq-eqb (a .i + 1) (a .j) (c .before .before .if1 .left)) refl)) (c .char-row .ensures)
+    (λ (p d : ℕ). bitOf (eqb (a .i + 1) (a .j) && slotHas (a .chars .now) (slot p d) (getD (a .text .now) (a .i) 0))) (a .counts .now) (length (a .counts .now)) (c .before .before .char-row .last .1 .1 .1 .0)
+    (λ p d. sym (rw (eq-eqb (a .i + 1) (a .j) (c .before .before .before .before .before .if1 .left)) refl)) (c .before .before .char-row .ensures)
 
 pub bare-args-spec : {M : Type 1} → statement M
 bare-args-spec =
     tie.close
-    (tie.spec
-    add-if1
-    zero-row-requires
-    returns
-    shared-slice-read-char-row
-    char-row-requires
-    returns-2)
+    (tie.spec add-if1 returns shared-slice-read-char-row char-row-requires same-length returns-2)

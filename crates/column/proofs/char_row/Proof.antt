@@ -1,10 +1,9 @@
 -- `char_row` meets its contract: the rows of the productions below p are written.
 use Prim.Native.Nat.{ℕ, _+_, _-_, _≤_}
-use mathlib.Core.Path.{_≡_, refl, subst, subst₂}
+use mathlib.Core.Path.{_≡_, refl, sym, _∙_, subst, subst₂}
 use mathlib.Core.List.{List}
 use native.Mathlib.Omega.{arith}
 use lib.ListN.{length}
-use borrow.Author.Needs.{needs}
 use Rattle.ccg.specs.Tables.{slot, slotHas}
 use Rattle.chart.proofs.LayoutLaws.{row-in, rows-few, row-of-base, row-base}
 use Rattle.chart.specs.Layout.{arityIn, rowOf}
@@ -26,15 +25,9 @@ Inv-loop counts chars character out₀ base₀ p₀ out base p = RowsFilled (λ 
 abbrev μ-loop : tie.MeasureT-loop
 μ-loop counts chars character out₀ base₀ p₀ out base p = length counts - p
 
-zero-row-requires : tie.Need-zero-row-requires Inv-loop μ-loop
-zero-row-requires c κs = tt
-
 loop-holds : tie.Need-loop-holds Inv-loop μ-loop
 unfolding rowOf sumBelow
-loop-holds c = (rows-none (λ (p d : ℕ). bitOf (slotHas (c .before .before .before .args .chars .now) (slot p d) (c .before .before .before .args .character))) (c .before .before .before .args .counts .now) (c .zero-row .result) (c .zero-row .ensures), refl, omega arith)
-
-slice-aggregate-char-production : tie.Need-slice-aggregate-char-production Inv-loop μ-loop
-slice-aggregate-char-production c = search needs
+loop-holds c = (rows-none (λ (p d : ℕ). bitOf (slotHas (c .before .before .before .args .chars .now) (slot p d) (c .before .before .before .args .character))) (c .before .before .before .args .counts .now) (c .before .before .before .args .out .now) (c .before .before .before .pre .1), refl, omega arith)
 
 shared-slice-read-wide : tie.Need-shared-slice-read-wide Inv-loop μ-loop
 shared-slice-read-wide c = omega arith
@@ -45,9 +38,9 @@ wide-requires c κs = tt
 char-production-requires : tie.Need-char-production-requires Inv-loop μ-loop
 char-production-requires c κs =
     let counts = c .before .before .before .before .before .before .before .before .args .counts .now in
-    let few = rows-few (arityIn counts) (length counts) (c .before .before .before .before .before .before .before .before .pre .0) (c .before .before .before .before .before .before .before .before .pre .1) in
+    let few = rows-few (arityIn counts) (length counts) (c .before .before .before .before .before .before .before .before .pre .0 .0) (c .before .before .before .before .before .before .before .before .pre .0 .1) in
     let inside = row-in (arityIn counts) (c .before .before .before .before .loop .p) (arityIn counts (c .before .before .before .before .loop .p)) (length counts) (omega arith) (omega arith) in
-    ((c .before .before .before .before .loop .inv .0 .long, c .before .before .before .before .before .before .before .before .pre .2), (omega arith, omega (arith, c .wide .ensures, c .before .before .before .before .before .before .before .before .pre .1 (c .before .before .before .before .loop .p)), omega (arith, c .wide .ensures, c .before .before .before .before .loop .inv .1, row-of-base (arityIn counts) (c .before .before .before .before .loop .p) (arityIn counts (c .before .before .before .before .loop .p)))))
+    ((c .before .before .before .before .loop .inv .0 .long, c .before .before .before .before .before .before .before .before .pre .0 .2), (omega arith, omega (arith, c .wide .ensures, c .before .before .before .before .before .before .before .before .pre .0 .1 (c .before .before .before .before .loop .p)), omega (arith, c .wide .ensures, c .before .before .before .before .loop .inv .1, row-of-base (arityIn counts) (c .before .before .before .before .loop .p) (arityIn counts (c .before .before .before .before .loop .p)))))
 
 shared-slice-read-wide-2 : tie.Need-shared-slice-read-wide-2 Inv-loop μ-loop
 shared-slice-read-wide-2 c = omega arith
@@ -56,14 +49,14 @@ wide-requires-2 : tie.Need-wide-requires-2 Inv-loop μ-loop
 wide-requires-2 c κs = tt
 
 add-base : tie.Need-add-base Inv-loop μ-loop
-add-base c = omega (arith, c .wide2 .ensures, c .before .before .before .before .before .before .before .before .before .before .before .before .pre .1 (c .before .before .before .before .before .before .before .before .loop .p))
+add-base c = omega (arith, c .wide2 .ensures, c .before .before .before .before .before .before .before .before .before .before .before .before .before .pre .0 .1 (c .before .before .before .before .before .before .before .before .before .loop .p))
 
 add-base-2 : tie.Need-add-base-2 Inv-loop μ-loop
 add-base-2 c =
-    let counts = c .before .before .before .before .before .before .before .before .before .before .before .before .args .counts .now in
-    let few = rows-few (arityIn counts) (length counts) (c .before .before .before .before .before .before .before .before .before .before .before .before .pre .0) (c .before .before .before .before .before .before .before .before .before .before .before .before .pre .1) in
-    let inside = row-in (arityIn counts) (c .before .before .before .before .before .before .before .before .loop .p) 0 (length counts) (omega arith) (omega arith) in
-    omega (arith, c .wide2 .ensures, c .before .before .before .before .before .before .before .before .before .before .before .before .pre .1 (c .before .before .before .before .before .before .before .before .loop .p), c .before .before .before .before .before .before .before .before .loop .inv .1)
+    let counts = c .before .before .before .before .before .before .before .before .before .before .before .before .before .args .counts .now in
+    let few = rows-few (arityIn counts) (length counts) (c .before .before .before .before .before .before .before .before .before .before .before .before .before .pre .0 .0) (c .before .before .before .before .before .before .before .before .before .before .before .before .before .pre .0 .1) in
+    let inside = row-in (arityIn counts) (c .before .before .before .before .before .before .before .before .before .loop .p) 0 (length counts) (omega arith) (omega arith) in
+    omega (arith, c .wide2 .ensures, c .before .before .before .before .before .before .before .before .before .before .before .before .before .pre .0 .1 (c .before .before .before .before .before .before .before .before .before .loop .p), c .before .before .before .before .before .before .before .before .before .loop .inv .1)
 
 add-p : tie.Need-add-p Inv-loop μ-loop
 add-p c = omega arith
@@ -73,15 +66,20 @@ loop-less c = omega arith
 
 loop-again : tie.Need-loop-again Inv-loop μ-loop
 loop-again c =
-    let counts = c .before .before .before .before .before .before .before .before .before .before .before .before .args .counts .now in
-    let v : ℕ → ℕ → ℕ = λ p d. bitOf (slotHas (c .before .before .before .before .before .before .before .before .before .before .before .before .args .chars .now) (slot p d) (c .before .before .before .before .before .before .before .before .before .before .before .before .args .character)) in
-    let step : c .before .before .before .before .before .before .before .before .loop .base + (c .wide2 .result + 1) ≡ rowOf (arityIn counts) (c .before .before .before .before .before .before .before .before .loop .p + 1) 0 = omega (arith, c .wide2 .ensures, c .before .before .before .before .before .before .before .before .loop .inv .1, row-base (arityIn counts) (c .before .before .before .before .before .before .before .before .loop .p)) in
-    let r : Region (λ (d x : ℕ). x ≡ v (c .before .before .before .before .before .before .before .before .loop .p) d) 0 (rowOf (arityIn counts) (c .before .before .before .before .before .before .before .before .loop .p) 0) (arityIn counts (c .before .before .before .before .before .before .before .before .loop .p)) (c .before .before .before .before .before .before .before .before .loop .out) (c .before .before .before .char-production .last .0) =
-    subst₂ (λ (b n : ℕ). Region (λ (d x : ℕ). x ≡ v (c .before .before .before .before .before .before .before .before .loop .p) d) 0 b n (c .before .before .before .before .before .before .before .before .loop .out) (c .before .before .before .char-production .last .0)) (c .before .before .before .before .before .before .before .before .loop .inv .1) (c .before .before .before .before .wide .ensures) (c .before .before .before .char-production .ensures) in
-    (rows-more v counts (bits (c .before .before .before .before .before .before .before .before .before .before .before .before .args .chars .now) (c .before .before .before .before .before .before .before .before .before .before .before .before .args .character)) (c .before .before .before .before .before .before .before .before .loop .p) (c .before .before .before .before .before .before .before .before .loop .out) (c .before .before .before .char-production .last .0) (c .before .before .before .before .before .before .before .before .loop .inv .0) r, step, omega arith)
+    let counts = c .before .before .before .before .before .before .before .before .before .before .before .before .before .args .counts .now in
+    let v : ℕ → ℕ → ℕ = λ p d. bitOf (slotHas (c .before .before .before .before .before .before .before .before .before .before .before .before .before .args .chars .now) (slot p d) (c .before .before .before .before .before .before .before .before .before .before .before .before .before .args .character)) in
+    let step : c .before .before .before .before .before .before .before .before .before .loop .base + (c .wide2 .result + 1) ≡ rowOf (arityIn counts) (c .before .before .before .before .before .before .before .before .before .loop .p + 1) 0 = omega (arith, c .wide2 .ensures, c .before .before .before .before .before .before .before .before .before .loop .inv .1, row-base (arityIn counts) (c .before .before .before .before .before .before .before .before .before .loop .p)) in
+    let r : Region (λ (d x : ℕ). x ≡ v (c .before .before .before .before .before .before .before .before .before .loop .p) d) 0 (rowOf (arityIn counts) (c .before .before .before .before .before .before .before .before .before .loop .p) 0) (arityIn counts (c .before .before .before .before .before .before .before .before .before .loop .p)) (c .before .before .before .before .before .before .before .before .before .loop .out) (c .before .before .before .before .char-production .last .0) =
+    subst₂ (λ (b n : ℕ). Region (λ (d x : ℕ). x ≡ v (c .before .before .before .before .before .before .before .before .before .loop .p) d) 0 b n (c .before .before .before .before .before .before .before .before .before .loop .out) (c .before .before .before .before .char-production .last .0)) (c .before .before .before .before .before .before .before .before .before .loop .inv .1) (c .before .before .before .before .before .wide .ensures) (c .before .before .before .before .char-production .ensures) in
+    (rows-more v counts (bits (c .before .before .before .before .before .before .before .before .before .before .before .before .before .args .chars .now) (c .before .before .before .before .before .before .before .before .before .before .before .before .before .args .character)) (c .before .before .before .before .before .before .before .before .before .loop .p) (c .before .before .before .before .before .before .before .before .before .loop .out) (c .before .before .before .before .char-production .last .0) (c .before .before .before .before .before .before .before .before .before .loop .inv .0) r, step, omega arith)
+
+same-length : tie.Need-same-length Inv-loop μ-loop
+same-length c = c .before .loop .inv .0 .long ∙ sym (c .before .before .before .before .before .pre .1 .long)
 
 returns : tie.Need-returns Inv-loop μ-loop
-returns c = let e : c .before .loop .p ≡ length (c .before .before .before .before .before .args .counts .now) = omega arith in subst (λ (n : ℕ). RowsFilled (λ (p d : ℕ). bitOf (slotHas (c .before .before .before .before .before .args .chars .now) (slot p d) (c .before .before .before .before .before .args .character))) (c .before .before .before .before .before .args .counts .now) n (c .before .loop .out)) e (c .before .loop .inv .0)
+returns c =
+    let e : c .before .loop .p ≡ length (c .before .before .before .before .before .args .counts .now) = omega arith in
+    subst (λ (n : ℕ). RowsFilled (λ (p d : ℕ). bitOf (slotHas (c .before .before .before .before .before .args .chars .now) (slot p d) (c .before .before .before .before .before .args .character))) (c .before .before .before .before .before .args .counts .now) n (c .before .loop .out)) e (c .before .loop .inv .0)
 
 pub char-row-spec : {M : Type 1} → statement M
 char-row-spec =
@@ -89,9 +87,7 @@ char-row-spec =
     (tie.spec
     Inv-loop
     μ-loop
-    zero-row-requires
     loop-holds
-    slice-aggregate-char-production
     shared-slice-read-wide
     wide-requires
     char-production-requires
@@ -102,4 +98,5 @@ char-row-spec =
     add-p
     loop-less
     loop-again
+    same-length
     returns)

@@ -1,6 +1,6 @@
 -- `sums_at` meets its contract: the sums of the rows below r are read.
 use Prim.Native.Nat.{ℕ, _+_, _-_, _*_, _≤_}
-use mathlib.Core.Path.{_≡_, refl, _∙_}
+use mathlib.Core.Path.{_≡_, refl}
 use mathlib.Core.List.{List}
 use native.Mathlib.Omega.{arith}
 use lib.ListN.{getD}
@@ -19,11 +19,8 @@ Inv-loop sums rows i out₀ r₀ out r = Filled (Sum sums i) 0 out₀ r out × (
 abbrev μ-loop : tie.MeasureT-loop
 μ-loop sums rows i out₀ r₀ out r = rows - r
 
-zero-row-requires : tie.Need-zero-row-requires Inv-loop μ-loop
-zero-row-requires c κs = tt
-
 loop-holds : tie.Need-loop-holds Inv-loop μ-loop
-loop-holds c = (filled-none (Sum (c .before .before .args .sums .now) (c .before .before .args .i)) 0 (c .zero-row .result), omega arith)
+loop-holds c = (filled-none (Sum (c .args .sums .now) (c .args .i)) 0 (c .args .out .now), omega arith)
 
 mul-out : tie.Need-mul-out Inv-loop μ-loop
 mul-out c = omega arith
@@ -34,8 +31,8 @@ add-out c = omega arith
 shared-slice-read-out : tie.Need-shared-slice-read-out Inv-loop μ-loop
 shared-slice-read-out c = omega arith
 
-array-write-out : tie.Need-array-write-out Inv-loop μ-loop
-array-write-out c = omega (arith, c .before .before .before .zero-row .ensures .long, c .before .before .loop .inv .0 .long)
+slice-write-out : tie.Need-slice-write-out Inv-loop μ-loop
+slice-write-out c = omega (arith, c .before .before .loop .inv .0 .long)
 
 add-r : tie.Need-add-r Inv-loop μ-loop
 add-r c = omega arith
@@ -45,11 +42,14 @@ loop-less c = omega arith
 
 loop-again : tie.Need-loop-again Inv-loop μ-loop
 unfolding Sum
-loop-again c = (filled-more (Sum (c .before .before .before .before .before .args .sums .now) (c .before .before .before .before .before .args .i)) 0 (c .before .before .before .zero-row .result) (c .before .before .loop .r) (c .before .before .loop .out) (getD (c .before .before .before .before .before .args .sums .now) (c .before .before .loop .r * places + c .before .before .before .before .before .args .i) 0) (omega (arith, c .before .before .before .zero-row .ensures .long)) (c .before .before .loop .inv .0) refl, omega arith)
+loop-again c = (filled-more (Sum (c .before .before .before .args .sums .now) (c .before .before .before .args .i)) 0 (c .before .before .before .args .out .now) (c .before .before .loop .r) (c .before .before .loop .out) (getD (c .before .before .before .args .sums .now) (c .before .before .loop .r * places + c .before .before .before .args .i) 0) (omega arith) (c .before .before .loop .inv .0) refl, omega arith)
+
+same-length : tie.Need-same-length Inv-loop μ-loop
+same-length c = c .before .loop .inv .0 .long
 
 returns : tie.Need-returns Inv-loop μ-loop
 unfolding Sum
-returns c = (c .before .loop .inv .0 .long ∙ c .before .before .zero-row .ensures .long, λ r l. c .before .loop .inv .0 .done r (omega arith), λ r l. c .before .loop .inv .0 .rest r (omega arith) ∙ c .before .before .zero-row .ensures .zeros r)
+returns c = (λ r l. c .before .loop .inv .0 .done r (omega arith), λ r l. c .before .loop .inv .0 .rest r (omega arith))
 
 pub sums-at-spec : {M : Type 1} → statement M
 sums-at-spec =
@@ -57,13 +57,13 @@ sums-at-spec =
     (tie.spec
     Inv-loop
     μ-loop
-    zero-row-requires
     loop-holds
     mul-out
     add-out
     shared-slice-read-out
-    array-write-out
+    slice-write-out
     add-r
     loop-less
     loop-again
+    same-length
     returns)
