@@ -71,7 +71,7 @@ fn attempt(copy: &str, fault: &Fault) -> Option<String> {
     }
     fs::write(&path, source.replace(&fault.old, &fault.new)).unwrap_or_else(|_| fail(&fault.file));
     let log = said(&run(copy, "rt", &["dev", &fault.name]));
-    let end = if log.contains("logic=proved") { caught(copy) } else { Some(format!("refused: `{}`", refused(&log).unwrap_or("the crate"))) };
+    let end = if log.contains("logic=not-proved") { Some(format!("refused: `{}`", refused(&log).unwrap_or("the crate"))) } else { caught(copy) };
     fs::write(&path, source).unwrap_or_else(|_| fail(&fault.file));
     end
 }
