@@ -13,7 +13,7 @@ ghost use Rattle.chart.specs.Layout.{textLimit, places, rowLimit, spanCount, ce
 ghost use Rattle.column.specs.ByEnds.{columnAt, placeAt, RowTurned};
 
 // Most spans of a text.
-const SPANS: usize = PLACES * (PLACES + 1) / 2;
+pub const SPANS: usize = PLACES * (PLACES + 1) / 2;
 
 // How many spans end before j.
 fn column_at(j: usize) -> usize
@@ -124,17 +124,16 @@ fn turn_start(chart: &mut [u8], n: usize, row: usize, i: usize, cells: &[u8])
     }
 }
 
-// Turns a row: its cells stand where the chart has them.
-pub fn turn_row(chart: &mut [u8], n: usize, row: usize)
+// Turns a row: its cells stand where the chart has them. `cells` is room for a copy of it.
+pub fn turn_row(chart: &mut [u8], n: usize, row: usize, cells: &mut [u8])
     requires { ⌜ (n ≤ textLimit) × (row < rowLimit) ⌝ }
-    requires { ⌜ (row + 1) * spanCount n ≤ length (now chart) ⌝ }
+    requires { ⌜ ((row + 1) * spanCount n ≤ length (now chart)) × (spanCount n ≤ length (now cells)) ⌝ }
     ensures { λ _. ⌜ RowTurned n row (now (chart .entry)) (now (chart .exit)) ⌝ }
 {
-    let mut cells = [0; SPANS];
-    copy(chart, row * span_count(n), span_count(n), &mut cells);
+    copy(chart, row * span_count(n), span_count(n), cells);
     let mut i = 0;
     while i <= n {
-        turn_start(chart, n, row, i, &cells);
+        turn_start(chart, n, row, i, cells);
         i += 1;
     }
 }

@@ -1,6 +1,7 @@
 // A column of the chart: the sums of splits for its spans, by row and start, and what is stored of a span once it is settled.
 pub mod by_ends;
 
+use by_ends::SPANS;
 use by_ends::add_row;
 use by_ends::clear_row;
 use by_ends::store;
@@ -181,9 +182,10 @@ pub fn turn_rows(chart: &mut [u8], n: usize, rows: usize)
     requires { ⌜ rows * spanCount n ≤ length (now chart) ⌝ }
     ensures { λ _. ⌜ Turned n rows (now (chart .entry)) (now (chart .exit)) ⌝ }
 {
+    let mut cells = [0; SPANS];
     let mut r = 0;
     while r < rows {
-        turn_row(chart, n, r);
+        turn_row(chart, n, r, &mut cells);
         r += 1;
     }
 }

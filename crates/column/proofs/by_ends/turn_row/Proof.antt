@@ -1,10 +1,8 @@
 -- `turn_row` meets its contract: the cells that start before i are written, from a copy of the row.
 use Prim.Native.Nat.{ℕ, _+_, _-_, _*_, _≤_}
-use mathlib.Core.Path.{_≡_, _∙_, ap, subst}
+use mathlib.Core.Path.{_≡_, ap, subst}
 use native.Mathlib.Omega.{arith}
-use lib.ListN.{length-replicate}
-use borrow.Author.Needs.{needs}
-use Rattle.column.proofs.PlaceLaws.{span-few, place-in, place-few}
+use Rattle.column.proofs.PlaceLaws.{place-in, place-few}
 use Rattle.column.proofs.TurnLaws.{row-copied, StartsTurned, starts-none, starts-all, starts-more}
 use Rattle.column.proofs.by_ends.turn_row.Statement.{statement}
 use Rattle.column.proofs.by_ends.turn_row.Tie as tie
@@ -20,30 +18,22 @@ span-count-requires c κs = omega arith
 
 mul-copy : tie.Need-mul-copy Inv-loop μ-loop
 mul-copy c =
-    let a = c .before .before .before .args in
-    omega (arith, ap (λ (s : ℕ). a .row * s) (c .span-count .ensures), place-in (a .n) (a .row) 0 0 (omega arith) (omega arith) .0, place-few (a .n) (a .row) 0 0 (c .before .before .before .pre .0 .0) (c .before .before .before .pre .0 .1) (omega arith) (omega arith))
+    let a = (c .before .before .before .before .args) in
+    omega (arith, ap (λ (s : ℕ). a .row * s) (c .span-count .ensures), place-in (a .n) (a .row) 0 0 (omega arith) (omega arith) .0, place-few (a .n) (a .row) 0 0 (c .before .before .before .before .pre .0 .0) (c .before .before .before .before .pre .0 .1) (omega arith) (omega arith))
 
 span-count-requires-2 : tie.Need-span-count-requires-2 Inv-loop μ-loop
 span-count-requires-2 c κs = omega arith
 
-slice-aggregate-copy : tie.Need-slice-aggregate-copy Inv-loop μ-loop
-slice-aggregate-copy c = search needs
-
 copy-requires : tie.Need-copy-requires Inv-loop μ-loop
 copy-requires c κs =
-    let a = c .before .before .before .before .before .args in
-    (omega (arith, ap (λ (s : ℕ). a .row * s) (c .before .before .span-count .ensures), c .before .span-count2 .ensures), omega (arith, c .before .span-count2 .ensures, span-few (a .n) (c .before .before .before .before .before .pre .0 .0), length-replicate {A = ℕ} 20301 0))
+    let a = (c .before .before .before .before .before .before .args) in
+    (omega (arith, ap (λ (s : ℕ). a .row * s) (c .before .before .span-count .ensures), c .before .span-count2 .ensures, c .before .before .before .before .before .before .pre .1 .0), omega (arith, c .before .span-count2 .ensures, c .before .before .before .before .before .before .pre .1 .1))
 
 loop-holds : tie.Need-loop-holds Inv-loop μ-loop
-loop-holds c = (starts-none (c .before .before .before .before .before .before .before .args .n) (c .before .before .before .before .before .before .before .args .row) (c .before .before .before .before .before .before .before .args .chart .now), omega arith)
-
-slice-aggregate-turn-start : tie.Need-slice-aggregate-turn-start Inv-loop μ-loop
-slice-aggregate-turn-start c = search needs
+loop-holds c = (starts-none (c .before .before .before .before .before .before .before .before .before .args .n) (c .before .before .before .before .before .before .before .before .before .args .row) (c .before .before .before .before .before .before .before .before .before .args .chart .now), omega arith)
 
 turn-start-requires : tie.Need-turn-start-requires Inv-loop μ-loop
-turn-start-requires c κs =
-    let long = c .before .before .before .before .before .copy .ensures .long ∙ length-replicate {A = ℕ} 20301 0 in
-    ((omega arith, omega arith, omega arith), (omega (arith, c .before .before .before .loop .inv .0 .long), omega (arith, span-few (c .before .before .before .before .before .before .before .before .before .before .before .args .n) (c .before .before .before .before .before .before .before .before .before .before .before .pre .0 .0), long)))
+turn-start-requires c κs = ((omega arith, omega arith, omega arith), (omega (arith, c .before .before .before .loop .inv .0 .long, c .before .before .before .before .before .before .before .before .before .before .before .before .before .pre .1 .0), omega (arith, c .before .before .before .before .before .before .copy .ensures .long, c .before .before .before .before .before .before .before .before .before .before .before .before .before .pre .1 .1)))
 
 add-i : tie.Need-add-i Inv-loop μ-loop
 add-i c = omega arith
@@ -53,16 +43,19 @@ loop-less c = omega arith
 
 loop-again : tie.Need-loop-again Inv-loop μ-loop
 loop-again c =
-    let a = c .before .before .before .before .before .before .before .before .before .before .before .before .before .before .args in
-    let copied = row-copied (a .n) (a .row) (c .before .before .before .before .before .before .before .before .before .before .before .span-count .result) (c .before .before .before .before .before .before .before .before .before .before .span-count2 .result) (a .chart .now) _ (c .before .before .before .before .before .before .before .before .copy .last .1 .1 .1 .0) (c .before .before .before .before .before .before .before .before .before .before .before .span-count .ensures) (c .before .before .before .before .before .before .before .before .before .before .span-count2 .ensures) (c .before .before .before .before .before .before .before .before .copy .ensures) in
-    (starts-more (a .n) (a .row) (a .chart .now) (c .before .before .before .before .before .before .loop .i) (c .before .before .before .before .before .before .before .before .copy .last .1 .1 .1 .0) (c .before .before .before .before .before .before .loop .chart) (c .before .before .turn-start .last .0) (omega arith) copied (c .before .before .before .before .before .before .loop .inv .0) (c .before .before .turn-start .ensures), omega arith)
+    let a = (c .before .before .before .before .before .before .before .before .before .before .before .before .before .before .before .before .args) in
+    let copied = row-copied (a .n) (a .row) (c .before .before .before .before .before .before .before .before .before .before .before .before .span-count .result) (c .before .before .before .before .before .before .before .before .before .before .before .span-count2 .result) (a .chart .now) (a .cells .now) (c .before .before .before .before .before .before .before .before .before .copy .last .1 .1 .1 .0) (c .before .before .before .before .before .before .before .before .before .before .before .before .span-count .ensures) (c .before .before .before .before .before .before .before .before .before .before .before .span-count2 .ensures) (c .before .before .before .before .before .before .before .before .before .copy .ensures) in
+    (starts-more (a .n) (a .row) (a .chart .now) (c .before .before .before .before .before .before .loop .i) (c .before .before .before .before .before .before .before .before .before .copy .last .1 .1 .1 .0) (c .before .before .before .before .before .before .loop .chart) (c .before .before .turn-start .last .0) (omega arith) copied (c .before .before .before .before .before .before .loop .inv .0) (c .before .before .turn-start .ensures), omega arith)
 
 same-length : tie.Need-same-length Inv-loop μ-loop
 same-length c = c .before .loop .inv .0 .long
 
+same-length-2 : tie.Need-same-length-2 Inv-loop μ-loop
+same-length-2 c = c .before .before .before .before .copy .ensures .long
+
 returns : tie.Need-returns Inv-loop μ-loop
 returns c =
-    let a = c .before .before .before .before .before .before .before .before .before .args in
+    let a = (c .before .before .before .before .before .before .before .before .before .before .before .args) in
     let e : c .before .loop .i ≡ a .n + 1 = omega arith in
     starts-all (a .n) (a .row) (a .chart .now) (c .before .loop .chart) (subst (λ (i : ℕ). StartsTurned (a .n) (a .row) i (a .chart .now) (c .before .loop .chart)) e (c .before .loop .inv .0))
 
@@ -75,13 +68,12 @@ turn-row-spec =
     span-count-requires
     mul-copy
     span-count-requires-2
-    slice-aggregate-copy
     copy-requires
     loop-holds
-    slice-aggregate-turn-start
     turn-start-requires
     add-i
     loop-less
     loop-again
     same-length
+    same-length-2
     returns)
