@@ -130,23 +130,20 @@ fn cap(n: u8) -> u8 {
     n.min(2)
 }
 
-// The lists of the empty span: the product of what the arguments have, until nothing changes.
-fn empty_span(t: &Tables) -> Span {
-    let mut span = Span { cells: vec![0; t.rows], args: vec![0; t.rows] };
+// All rules until nothing changes; `cell` says what a row gives for the one after it.
+fn settle(t: &Tables, span: &mut Span, cell: impl Fn(&Span, usize) -> u8) {
     let mut changed = true;
     while changed {
         changed = false;
         for q in 0..t.counts.len() {
-            let (base, count) = (t.first_row[q], t.counts[q]);
-            let before = span.cells[base + count];
-            span.cells[base] = 1;
-            for d in 0..count {
-                span.cells[base + d + 1] = cap(span.cells[base + d] * span.args[base + d]);
+            let (base, whole) = (t.first_row[q], t.first_row[q] + t.counts[q]);
+            let before = span.cells[whole];
+            for row in base..whole {
+                span.cells[row + 1] = cell(span, row);
             }
-            changed |= pass_on(t, &mut span, q, before);
+            changed |= pass_on(t, span, q, before);
         }
     }
-    span
 }
 
 // The trees of rule q rose from `before`: so do the arguments of its users.
@@ -160,20 +157,17 @@ fn pass_on(t: &Tables, span: &mut Span, q: usize, before: u8) -> bool {
     now > before
 }
 
-// All rules until nothing changes: the splits inside, the split at the start and the split at the end.
-fn settle(t: &Tables, empty: &Span, inner: &[u8], span: &mut Span) {
-    let mut changed = true;
-    while changed {
-        changed = false;
-        for q in 0..t.counts.len() {
-            let (base, count) = (t.first_row[q], t.counts[q]);
-            let before = span.cells[base + count];
-            for r in base..base + count {
-                span.cells[r + 1] = cap(inner[r + 1] + empty.cells[r] * span.args[r] + span.cells[r] * empty.args[r]);
-            }
-            changed |= pass_on(t, span, q, before);
+// The lists of the empty span: one without arguments, else the product of what the arguments have.
+fn empty_span(t: &Tables) -> Span {
+    let mut span = Span { cells: vec![0; t.rows], args: vec![0; t.rows] };
+    for q in 0..t.counts.len() {
+        span.cells[t.first_row[q]] = 1;
+        if t.counts[q] == 0 {
+            pass_on(t, &mut span, q, 0);
         }
     }
+    settle(t, &mut span, |span, row| cap(span.cells[row] * span.args[row]));
+    span
 }
 
 // ---- columns
@@ -241,7 +235,8 @@ fn fill_column(t: &Tables, text: &[u8], empty: &Span, done: &[Column], j: usize)
         if !any {
             continue;
         }
-        settle(t, empty, &inner, &mut span);
+        // the splits inside, the split at the start and the split at the end
+        settle(t, &mut span, |span, row| cap(inner[row + 1] + empty.cells[row] * span.args[row] + span.cells[row] * empty.args[row]));
         for row in 0..t.rows {
             column.put(row, i, span.cells[row]);
             if span.args[row] > 0 {

@@ -52,8 +52,8 @@ pub cell-next : (n row i j k : ℕ) → i ≤ j → cellAt n row i (j + k) ≡ c
 unfolding cellAt
 cell-next n row i j k h = omega arith
 
--- no cell stands far out
-span-few : (n : ℕ) → n ≤ textLimit → spanCount n ≤ places * (places + 1) / 2
+-- a text has few spans, and no cell stands far out
+pub span-few : (n : ℕ) → n ≤ textLimit → spanCount n ≤ places * (places + 1) / 2
 unfolding spanCount
 span-few n h =
     let k : n + 1 ≤ places = omega arith in

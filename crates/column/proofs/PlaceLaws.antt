@@ -4,7 +4,8 @@ use mathlib.Core.Path.{_≡_, refl, ap}
 use mathlib.Core.Logic.{by-cases}
 use native.Mathlib.Omega.{arith}
 use native.Mathlib.Decide.{decLt}
-use native.Mathlib.Nat.{mul-le-mul-right, mul-le-mul}
+use native.Mathlib.Nat.{mul-le-mul-right}
+use Rattle.chart.proofs.LayoutLaws.{span-few}
 use Rattle.chart.specs.Layout.{textLimit, places, rowLimit, spanCount}
 use Rattle.column.specs.ByEnds.{columnAt, placeAt}
 use Rattle.common.proofs.BelowLaws.{sum-grows}
@@ -33,14 +34,6 @@ column-grows j k l = sum-grows (λ k. k + 1) j k l
 -- a row has a cell for each of them
 pub column-in : (n i j : ℕ) → i ≤ j → j ≤ n → columnAt j + i < spanCount n
 column-in n i j h k = omega (arith, column-grows j (n + 1) (omega arith), column-end n)
-
--- a row is not long
-pub span-few : (n : ℕ) → n ≤ textLimit → spanCount n ≤ places * (places + 1) / 2
-unfolding spanCount
-span-few n h =
-    let k : n + 1 ≤ places = omega arith in
-    let l : n + 2 ≤ places + 1 = omega arith in
-    omega (arith, mul-le-mul k l)
 
 -- ---- places
 

@@ -124,11 +124,12 @@ fn turn_start(chart: &mut [u8], n: usize, row: usize, i: usize, cells: &[u8])
     }
 }
 
-// Turns a row: its cells stand where the chart has them. `cells` is room for a copy of it.
+// Turns a row: its cells stand where the chart has them. `cells` has room for a copy of the row, and holds it afterwards.
 pub fn turn_row(chart: &mut [u8], n: usize, row: usize, cells: &mut [u8])
     requires { ⌜ (n ≤ textLimit) × (row < rowLimit) ⌝ }
     requires { ⌜ ((row + 1) * spanCount n ≤ length (now chart)) × (spanCount n ≤ length (now cells)) ⌝ }
     ensures { λ _. ⌜ RowTurned n row (now (chart .entry)) (now (chart .exit)) ⌝ }
+    ensures { λ _. ⌜ Region (λ (k : ℕ) (v : ℕ). v ≡ getD (now (chart .entry)) (row * spanCount n + k) 0) 0 0 (spanCount n) (now (cells .entry)) (now (cells .exit)) ⌝ }
 {
     copy(chart, row * span_count(n), span_count(n), cells);
     let mut i = 0;

@@ -7,7 +7,7 @@ use mathlib.Core.List.{List, [], _∷_, _++_}
 use mathlib.Core.Logic.{_↔_, _⊎_, inl, inr, ⊎-elim}
 use native.Mathlib.Omega.{arith}
 use lib.Dec.{ltb, eqb}
-use lib.ListN.{length, getD, take, drop, length-append}
+use lib.ListN.{length, getD, take, drop}
 use lib.Seq.{take-at, sets, sets-eq}
 use borrow.Author.Tests.{ltb-true, eqb-true, le-ltb, ne-eqb}
 use Rattle.ccg.proofs.FlatLaws.{flat-length, flat-result, flat-trees}
@@ -19,6 +19,7 @@ use Rattle.common.proofs.BoolLaws.{or-cases, true-or-false}
 use Rattle.common.specs.Lists.{joined}
 use Rattle.engine.specs.Outcome.{Answered}
 use Rattle.engine.specs.declared.Answer.the-variants.{One}
+use Rattle.extract.proofs.WrittenLaws.{bytes-long}
 use Rattle.extract.specs.Written.{twoBytes, room}
 use Rattle.grammar.proofs.VerdictLaws.{and-first, and-second, refuse-case, FirstIn, here, there, order-first}
 use Rattle.grammar.specs.Formed.{WellFormed}
@@ -43,12 +44,6 @@ use Rattle.theory.specs.Tree.{Tree, listing}
 use Rattle.grammar.specs.declared.Verdict.the-variants.{Refused as Rejected}
 
 -- ---- bytes and numbers
-
--- two bytes to a number
-bytes-long : (ns : List ℕ) → length (joined twoBytes ns) ≡ 2 * length ns
-unfolding joined twoBytes
-bytes-long [] = refl
-bytes-long (n ∷ ns) = omega (arith, bytes-long ns, length-append (twoBytes n) (joined twoBytes ns))
 
 -- what is written of numbers is read as these numbers
 pub numbers-joined : (ns : List ℕ) → numbersOf (joined twoBytes ns) ≡ ns

@@ -4,8 +4,8 @@ use mathlib.Core.Path.{_≡_, sym, _∙_, subst}
 use native.Mathlib.Omega.{arith}
 use native.Mathlib.Nat.{mul-le-mul-right}
 use lib.ListN.{length, length-replicate}
+use Rattle.chart.proofs.LayoutLaws.{span-few}
 use Rattle.chart.specs.Layout.{spanCount}
-use Rattle.column.proofs.PlaceLaws.{span-few}
 use Rattle.column.proofs.TurnLaws.{turned-none, turned-more}
 use Rattle.column.specs.ByEnds.{Turned}
 use Rattle.column.proofs.turn_rows.Statement.{statement}
@@ -33,7 +33,7 @@ loop-less : tie.Need-loop-less Inv-loop μ-loop
 loop-less c = omega arith
 
 loop-again : tie.Need-loop-again Inv-loop μ-loop
-loop-again c = (turned-more (c .before .before .before .before .before .before .before .before .before .args .n) (c .before .before .before .before .before .before .before .before .before .args .chart .now) (c .before .before .before .before .before .before .before .loop .r) (c .before .before .before .before .before .before .before .loop .chart) (c .before .before .before .turn-row .last .0) (c .before .before .before .before .before .before .before .loop .inv .0) (c .before .before .before .turn-row .ensures), c .before .before .before .turn-row .kept .1 .1 .1 .0 ∙ c .before .before .before .before .before .before .before .loop .inv .1, omega arith)
+loop-again c = (turned-more (c .before .before .before .before .before .before .before .before .before .args .n) (c .before .before .before .before .before .before .before .before .before .args .chart .now) (c .before .before .before .before .before .before .before .loop .r) (c .before .before .before .before .before .before .before .loop .chart) (c .before .before .before .turn-row .last .0) (c .before .before .before .before .before .before .before .loop .inv .0) (c .before .before .before .turn-row .ensures .0), c .before .before .before .turn-row .kept .1 .1 .1 .0 ∙ c .before .before .before .before .before .before .before .loop .inv .1, omega arith)
 
 same-length : tie.Need-same-length Inv-loop μ-loop
 same-length c = c .before .loop .inv .0 .long

@@ -1,9 +1,11 @@
 -- `turn_row` meets its contract: the cells that start before i are written, from a copy of the row.
 use Prim.Native.Nat.{ℕ, _+_, _-_, _*_, _≤_}
-use mathlib.Core.Path.{_≡_, ap, subst}
+use mathlib.Core.Path.{_≡_, ap, subst, subst₂}
 use native.Mathlib.Omega.{arith}
+use lib.ListN.{getD}
 use Rattle.column.proofs.PlaceLaws.{place-in, place-few}
 use Rattle.column.proofs.TurnLaws.{row-copied, StartsTurned, starts-none, starts-all, starts-more}
+use Rattle.common.specs.Region.{Region}
 use Rattle.column.proofs.by_ends.turn_row.Statement.{statement}
 use Rattle.column.proofs.by_ends.turn_row.Tie as tie
 
@@ -56,8 +58,10 @@ same-length-2 c = c .before .before .before .before .copy .ensures .long
 returns : tie.Need-returns Inv-loop μ-loop
 returns c =
     let a = (c .before .before .before .before .before .before .before .before .before .before .before .args) in
-    let e : c .before .loop .i ≡ a .n + 1 = omega arith in
-    starts-all (a .n) (a .row) (a .chart .now) (c .before .loop .chart) (subst (λ (i : ℕ). StartsTurned (a .n) (a .row) i (a .chart .now) (c .before .loop .chart)) e (c .before .loop .inv .0))
+    let e : c .before .loop .i ≡ a .n + 1 = omega arith in (
+      starts-all (a .n) (a .row) (a .chart .now) (c .before .loop .chart) (subst (λ (i : ℕ). StartsTurned (a .n) (a .row) i (a .chart .now) (c .before .loop .chart)) e (c .before .loop .inv .0)),
+      subst₂ (λ (s m : ℕ). Region (λ (k : ℕ) (v : ℕ). v ≡ getD (a .chart .now) (a .row * s + k) 0) 0 0 m (a .cells .now) (c .before .before .before .before .copy .last .1 .1 .1 .0)) (c .before .before .before .before .before .before .before .span-count .ensures) (c .before .before .before .before .before .before .span-count2 .ensures) (c .before .before .before .before .copy .ensures),
+    )
 
 pub turn-row-spec : {M : Type 1} → statement M
 turn-row-spec =

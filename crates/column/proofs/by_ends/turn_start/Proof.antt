@@ -2,7 +2,8 @@
 use Prim.Native.Nat.{ℕ, _+_, _-_, _≤_}
 use mathlib.Core.Path.{_≡_, subst}
 use native.Mathlib.Omega.{arith}
-use Rattle.column.proofs.PlaceLaws.{column-in, span-few}
+use Rattle.chart.proofs.LayoutLaws.{span-few}
+use Rattle.column.proofs.PlaceLaws.{column-in}
 use Rattle.column.proofs.TurnLaws.{EndsTurned, ends-none, ends-more}
 use Rattle.column.proofs.by_ends.turn_start.Statement.{statement}
 use Rattle.column.proofs.by_ends.turn_start.Tie as tie
