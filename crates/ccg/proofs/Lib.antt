@@ -9,3 +9,5 @@ pub mod NumeralLaws
 pub mod LineLaws
 pub mod PutLaws
 pub mod RunPutLaws
+pub mod TextUniqueLaws
+pub mod WrittenLaws

@@ -5,5 +5,6 @@ pub mod Flat
 pub mod Tables
 pub mod Theory
 pub mod Text
+pub mod Written
 pub mod Put
 pub mod Visser

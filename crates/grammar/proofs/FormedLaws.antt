@@ -1,7 +1,7 @@
 -- In a frame that stands, each part lies within the bytes.
 use Prim.Native.Nat.{ℕ, _+_, _*_, _≤_, _<_}
 use mathlib.Core.Path.{_≡_, refl, _∙_}
-use mathlib.Core.Bool.{false}
+use mathlib.Core.Bool.{false, true}
 use mathlib.Core.List.{List, [], _∷_}
 use native.Mathlib.Omega.{arith}
 use lib.Dec.{leb, ltb, eqb}
@@ -50,7 +50,7 @@ pub inside : (low high x : ℕ) → low ≤ x → x ≤ high → outside low hig
 inside low high x l h = rw (le-ltb x low l, le-ltb high x h) refl
 
 -- each check of a row that accepts accepts
-abbrev EachAccepted : List Verdict → Type 0
+abbrev pub EachAccepted : List Verdict → Type 0
 EachAccepted [] = Unit {0}
 EachAccepted (v ∷ vs) = (v ≡ Accepted) × EachAccepted vs
 
@@ -58,6 +58,12 @@ pub each-accepted : (vs : List Verdict) → inOrder vs ≡ Accepted → EachAcce
 each-accepted [] e = tt
 each-accepted (v ∷ []) e = (e, tt)
 each-accepted (v ∷ w ∷ vs) e = (and-first v (inOrder (w ∷ vs)) e, each-accepted (w ∷ vs) (and-second v (inOrder (w ∷ vs)) e))
+
+-- and back
+pub order-accepted : (vs : List Verdict) → EachAccepted vs → inOrder vs ≡ Accepted
+order-accepted [] a = refl
+order-accepted (v ∷ []) a = a .0
+order-accepted (v ∷ w ∷ vs) a = rw (a .0) (order-accepted (w ∷ vs) (a .1))
 
 header-inside : (s p k a l : ℕ) → headerBytes s p k a l ≡ Accepted
     → (1 ≤ s) × (s ≤ sortLimit) × (1 ≤ p) × (p ≤ productionLimit) × (k ≤ classLimit) × (a < s) × (l ≤ 0)
@@ -87,31 +93,49 @@ framed b e =
       lengthIs = eqb-true (length b) (neededLength b) (not-false (eqb (length b) (neededLength b)) (refuse-accepted _ 4 _ (a .1 .1 .1 .1 .1 .0)));
     }
 
+-- a production that passes
+module _ (b : List ℕ) (p : ℕ) (e : badProduction b p ≡ Accepted) where
+  pub result-named : result b p < sorts b
+  unfolding badProduction
+  result-named = leb-false (sorts b) (result b p) (refuse-accepted _ 5 _ (and-first _ (badArguments b p) e))
+
+  pub argument-named : (i : ℕ) → i < argumentCount b p → namesArgument b (argument b p i) ≡ true
+  unfolding badProduction badArgument
+  argument-named i l =
+      not-false (namesArgument b (argument b p i))
+      (refuse-accepted _ 5 _ (first-all (badArgument b p) (argumentCount b p) (and-second (refuseIf (leb (sorts b) (result b p)) 5 (productionAt b p)) _ e) i l))
+
+-- a class that passes
+pub range-rises : (b : List ℕ) (k : ℕ) → badClass b k ≡ Accepted → (r : ℕ) → r < rangeCount b k → low b k r ≤ high b k r
+unfolding badRange
+range-rises b k e r l = ltb-false (high b k r) (low b k r) (refuse-accepted _ 6 _ (first-all (badRange b k) (rangeCount b k) e r l))
+
+-- a declaration that passes
 module _ (b : List ℕ) (d : ℕ) (e : badDeclaration b d ≡ Accepted) where
   parts : EachAccepted (declarationLines (declarationAt b d) (productions b) (kind b d) (first b d) (second b d))
   unfolding badDeclaration declarationBytes
   parts = each-accepted (declarationLines (declarationAt b d) (productions b) (kind b d) (first b d) (second b d)) e
 
-  kind-inside : outside 1 kindLimit (kind b d) ≡ false
+  pub kind-inside : outside 1 kindLimit (kind b d) ≡ false
   kind-inside = refuse-accepted _ 7 _ (parts .0)
 
-  first-there : first b d < productions b
+  pub first-there : first b d < productions b
   first-there = leb-false (productions b) (first b d) (refuse-accepted _ 7 _ (parts .1 .0))
 
-  second-there : second b d < productions b
+  pub second-there : second b d < productions b
   second-there = leb-false (productions b) (second b d) (refuse-accepted _ 7 _ (parts .1 .1 .0))
 
 pub well-formed : (b : List ℕ) → frameCheck b ≡ Accepted → bodiesCheck b ≡ Accepted → WellFormed b
-unfolding bodiesCheck badProduction badArgument badRange repeatedProduction
+unfolding bodiesCheck repeatedProduction
 well-formed b e f =
     let a = each-accepted (bodiesLines b) f in
     let production = first-all (badProduction b) (productions b) (a .0) in
     let declaration = first-all (badDeclaration b) (declarations b) (a .1 .1 .0) in
     record {
       framed = framed b e;
-      resultNamed = λ p l. leb-false (sorts b) (result b p) (refuse-accepted _ 5 _ (and-first _ (badArguments b p) (production p l)));
-      argumentNamed = λ p i l m. not-false (namesArgument b (argument b p i)) (refuse-accepted _ 5 _ (first-all (badArgument b p) (argumentCount b p) (and-second (refuseIf (leb (sorts b) (result b p)) 5 (productionAt b p)) _ (production p l)) i m));
-      rangesRise = λ k r l m. ltb-false (high b k r) (low b k r) (refuse-accepted _ 6 _ (first-all (badRange b k) (rangeCount b k) (first-all (badClass b) (classes b) (a .1 .0) k l) r m));
+      resultNamed = λ p l. result-named b p (production p l);
+      argumentNamed = λ p i l m. argument-named b p (production p l) i m;
+      rangesRise = λ k r l m. range-rises b k (first-all (badClass b) (classes b) (a .1 .0) k l) r m;
       someKind = λ d l. inside-low 1 kindLimit (kind b d) (kind-inside b d (declaration d l));
       fewKinds = λ d l. inside-high 1 kindLimit (kind b d) (kind-inside b d (declaration d l));
       firstThere = λ d l. first-there b d (declaration d l);

@@ -34,7 +34,20 @@ module _ (b : List ℕ) where
   unfolding declarationAt
   declaration-next d = omega arith
 
-  -- each part ends before the next kind of part begins
+  -- each part ends before the next one of its kind begins
+  pub production-before : (p q : ℕ) → p < q → productionAt b p + (1 + argumentCount b p) ≤ productionAt b q
+  unfolding productionAt
+  production-before p q h = omega (arith, sum-grows (λ r. 1 + argumentCount b r) p q h)
+
+  pub class-before : (k l : ℕ) → k < l → classAt b k + 2 * rangeCount b k ≤ classAt b l
+  unfolding classAt
+  class-before k l h = omega (arith, sum-grows (λ j. 2 * rangeCount b j) k l h)
+
+  pub declaration-before : (d e : ℕ) → d < e → declarationAt b d + 3 ≤ declarationAt b e
+  unfolding declarationAt
+  declaration-before d e h = omega arith
+
+  -- and before the next kind of part begins
   pub production-within : (p : ℕ) → p < productions b → productionAt b p + (1 + argumentCount b p) ≤ classAt b 0
   unfolding productionAt classAt
   production-within p h = omega (arith, sum-grows (λ q. 1 + argumentCount b q) p (productions b) h)

@@ -34,7 +34,7 @@ accepted-last : (v : Verdict) → v ≡ andThen v Accepted
 accepted-last Accepted = refl
 accepted-last (Refused n p) = refl
 
-and-assoc : (u v w : Verdict) → andThen u (andThen v w) ≡ andThen (andThen u v) w
+pub and-assoc : (u v w : Verdict) → andThen u (andThen v w) ≡ andThen (andThen u v) w
 and-assoc Accepted v w = refl
 and-assoc (Refused n p) v w = refl
 

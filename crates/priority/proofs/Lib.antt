@@ -4,4 +4,6 @@ pub mod TableLaws
 pub mod PriorityLaws
 pub mod CheckLaws
 pub mod ConflictLaws
+pub mod StageLaws
+pub mod BodiesStageLaws
 pub mod RefusalLaws

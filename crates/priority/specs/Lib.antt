@@ -2,5 +2,5 @@
 pub mod Chain
 pub mod Priorities
 pub mod Check
-pub mod Table
+pub mod Refusals
 pub mod Conflict

@@ -1,5 +1,4 @@
--- The table of refusals 1 to 9 as conditions (01, "Refused because of the input"): when a number with a place may be given.
--- Which of several comes is said by the order of `grammarLines` in `Check`.
+-- The table of refusals 1 to 9 as conditions (01, "Refused because of the input"): when a number with a place may be given, and which of several comes first.
 use Prim.Native.Nat.{ℕ, _+_, min, _≤_, _<_}
 use mathlib.Core.Path.{_≡_}
 use mathlib.Core.Bool.{false, true}
@@ -9,11 +8,6 @@ use Rattle.grammar.specs.Check.{outside, namesArgument, sameProduction}
 use Rattle.grammar.specs.Layout.{byteAt, sorts, productions, classes, declarations, startSort, argumentCountAt, rangeCountAt, argumentCount, rangeCount, bodiesAt, productionAt, argumentAt, result, argument, rangeAt, low, high, declarationAt, kind, first, second, neededLength}
 use Rattle.grammar.specs.Limits.{sortLimit, productionLimit, classLimit, argumentLimit, rangeLimit, kindLimit, headerLength}
 use Rattle.priority.specs.Priorities.{Higher}
-
--- k is the lowest number of which Q holds.
-pub record Lowest (Q : ℕ → Type 0) (k : ℕ) : Type 0 where
-  pub holds : Q k
-  pub lowest : (j : ℕ) → j < k → Q j → ⊥
 
 -- Header byte k is outside its range.
 pub data BadHeaderByte (b : List ℕ) : ℕ → Type 0 where
@@ -55,15 +49,23 @@ pub record OnCircle (b : List ℕ) (p : ℕ) : Type 0 where
   pub there : p < productions b
   pub circle : Higher b p p
 
--- A line each: the refusal with this number and this place may be given.
-pub data Holds (b : List ℕ) : ℕ → ℕ → Type 0 where
-  refusal1 : length b < headerLength → Holds b 1 (length b)
-  refusal1′ : length b < bodiesAt b → Holds b 1 (length b)
-  refusal2 : {k : ℕ} → Lowest (BadHeaderByte b) k → Holds b 2 k
-  refusal3 : {k : ℕ} → Lowest (LargeCount b) k → Holds b 3 k
-  refusal4 : (length b ≡ neededLength b → ⊥) → Holds b 4 (min (length b) (neededLength b))
-  refusal5 : {k : ℕ} → NamesNothing b k → Holds b 5 k
-  refusal6 : {k : ℕ} → FallingRange b k → Holds b 6 k
-  refusal7 : {k : ℕ} → BadDeclarationByte b k → Holds b 7 k
-  refusal8 : {p : ℕ} → Lowest (EqualsEarlier b) p → Holds b 8 (productionAt b p)
-  refusal9 : {p : ℕ} → Lowest (OnCircle b) p → Holds b 9 p
+-- A line each: the refusal with this number and this place may be given at this stage of the check.
+-- The stages are in 01's order: 1 (first half), 2, 1 (second half), 3, 4, then 5, 6 and 7 as the bytes come, 8, 9.
+pub data Holds (b : List ℕ) : (stage number place : ℕ) → Type 0 where
+  refusal1 : length b < headerLength → Holds b 0 1 (length b)
+  refusal2 : {k : ℕ} → BadHeaderByte b k → Holds b 1 2 k
+  refusal1′ : length b < bodiesAt b → Holds b 2 1 (length b)
+  refusal3 : {k : ℕ} → LargeCount b k → Holds b 3 3 k
+  refusal4 : (length b ≡ neededLength b → ⊥) → Holds b 4 4 (min (length b) (neededLength b))
+  refusal5 : {k : ℕ} → NamesNothing b k → Holds b 5 5 k
+  refusal6 : {k : ℕ} → FallingRange b k → Holds b 5 6 k
+  refusal7 : {k : ℕ} → BadDeclarationByte b k → Holds b 5 7 k
+  refusal8 : {p : ℕ} → EqualsEarlier b p → Holds b 6 8 (productionAt b p)
+  refusal9 : {p : ℕ} → OnCircle b p → Holds b 7 9 p
+
+-- The refusal with this number and this place is the first of the table: no condition of an earlier stage holds, and none of its own at a lower place.
+pub record First (b : List ℕ) (number place : ℕ) : Type 0 where
+  pub stage : ℕ
+  pub holds : Holds b stage number place
+  pub earlier : (s n k : ℕ) → s < stage → Holds b s n k → ⊥
+  pub lower : (n k : ℕ) → k < place → Holds b stage n k → ⊥

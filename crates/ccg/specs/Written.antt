@@ -1,0 +1,25 @@
+-- Which character class grammars the written form can say (01, "The flat book").
+use Prim.Native.Nat.{ℕ, _≤_, _<_}
+use mathlib.Core.Path.{_≡_}
+use mathlib.Core.Bool.{true}
+use mathlib.Core.List.{List}
+use mathlib.Core.Logic.{_⊎_}
+use lib.ListN.{length, getD}
+use Rattle.ccg.specs.Ccg.{Class, Line, noLine, noClass}
+use Rattle.ccg.specs.Text.{numberLimit}
+use Rattle.charset.specs.Set.{characters}
+use Rattle.theory.specs.Tree.{productionNumber}
+
+-- A class of characters only.
+abbrev pub OnlyCharacters : Class → Type 0
+OnlyCharacters cc = (n : ℕ) → cc n ≡ true → n < characters
+
+-- A class of production numbers only: any that a production could have.
+abbrev pub OnlyProductions : Class → Type 0
+OnlyProductions cc = (n : ℕ) → cc n ≡ true → (productionNumber 0 ≤ n) × (n < numberLimit)
+
+-- Line p ends in the number of production p; every class has only characters, or only numbers of productions.
+pub record WrittenForm (g : List Line) : Type 0 where
+  pub results : (p : ℕ) → p < length g → getD g p noLine .result ≡ productionNumber p
+  pub classes : (p i : ℕ) → p < length g → i < length (getD g p noLine .arguments)
+      → OnlyCharacters (getD (getD g p noLine .arguments) i noClass) ⊎ OnlyProductions (getD (getD g p noLine .arguments) i noClass)
