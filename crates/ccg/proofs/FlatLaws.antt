@@ -153,7 +153,7 @@ module _ (b : List ℕ) (p i n : ℕ) where
 
 module _ (b : List ℕ) (w : WellFormed b) where
   -- the class of an argument has only what may stand there if conflicts are let through
-  flat-plain : (p i n : ℕ) → flatClass b p i n ≡ true → plainClass b (argument b p i) n ≡ true
+  pub flat-plain : (p i n : ℕ) → flatClass b p i n ≡ true → plainClass b (argument b p i) n ≡ true
   unfolding mayStand
   flat-plain p i n e =
       let x = argument b p i in
@@ -168,7 +168,7 @@ module _ (b : List ℕ) (w : WellFormed b) where
       (true-or-false (isClass b x))
 
   -- a production with the right result that doesn't conflict is in the argument's class
-  flat-production : (p i q : ℕ) → q < productions b → result b q ≡ argument b p i → conflicts b p i q ≡ false → flatClass b p i (productionNumber q) ≡ true
+  pub flat-production : (p i q : ℕ) → q < productions b → result b q ≡ argument b p i → conflicts b p i q ≡ false → flatClass b p i (productionNumber q) ≡ true
   unfolding mayStand
   flat-production p i q l e free =
       let fit : fits b p i q ≡ true = fits-result b w p i q l ∙ eq-eqb (argument b p i) (result b q) (sym e) in
@@ -176,7 +176,7 @@ module _ (b : List ℕ) (w : WellFormed b) where
       ∙ and-both (isProduction b (productionNumber q)) (mayStand b p i (productionNumber q - productionNumber 0)) (is-production b q l)
       (rw (production-of-number q, fit, free) refl)
 
-  plain-production : (x q : ℕ) → q < productions b → result b q ≡ x → plainClass b x (productionNumber q) ≡ true
+  pub plain-production : (x q : ℕ) → q < productions b → result b q ≡ x → plainClass b x (productionNumber q) ≡ true
   plain-production x q l e =
       plain-of-sort b x (productionNumber q) (sort-no-class b w x (omega (arith, w .resultNamed q l)))
       ∙ and-both (isProduction b (productionNumber q)) (eqb (result b (productionNumber q - productionNumber 0)) x) (is-production b q l)
@@ -191,7 +191,7 @@ module _ (b : List ℕ) (w : WellFormed b) where
         (λ c. c)
         (true-or-false (isClass b x))
 
-    flat-no-conflict : (p i q : ℕ) → flatClass b p i (productionNumber q) ≡ true → Conflict b p i q → ⊥
+    pub flat-no-conflict : (p i q : ℕ) → flatClass b p i (productionNumber q) ≡ true → Conflict b p i q → ⊥
     unfolding mayStand
     flat-no-conflict p i q e h =
         let n = productionNumber q in
@@ -237,17 +237,17 @@ arguments-size b p (f ▷ t) (suc d) h = omega (arith, arguments-size b p f d (h
 -- ---- trees
 
 -- the number at the root: a character, or that of a production
-abbrev rootNumber : Tree → ℕ
+abbrev pub rootNumber : Tree → ℕ
 rootNumber (leaf c) = c
 rootNumber (node p f) = productionNumber p
 
 -- the class of a tree matters at the root only
-generated-class : (g : List Line) (cc₁ cc₂ : Class) (t : Tree) → Generated g cc₁ t → (cc₁ (rootNumber t) ≡ true → cc₂ (rootNumber t) ≡ true) → Generated g cc₂ t
+pub generated-class : (g : List Line) (cc₁ cc₂ : Class) (t : Tree) → Generated g cc₁ t → (cc₁ (rootNumber t) ≡ true → cc₂ (rootNumber t) ≡ true) → Generated g cc₂ t
 unfolding Generated
 generated-class g cc₁ cc₂ (leaf c) h k = (k (h .0), h .1)
 generated-class g cc₁ cc₂ (node p f) h k = (h .0, h .1, k (h .2), h .3)
 
-generated-root : (g : List Line) (cc : Class) (t : Tree) → Generated g cc t → cc (rootNumber t) ≡ true
+pub generated-root : (g : List Line) (cc : Class) (t : Tree) → Generated g cc t → cc (rootNumber t) ≡ true
 unfolding Generated
 generated-root g cc (leaf c) h = h .0
 generated-root g cc (node p f) h = h .2

@@ -1,6 +1,7 @@
 -- Laws of the character class grammar.
 pub mod ConflictFreeLaws
 pub mod FlatLaws
+pub mod FlatClassLaws
 pub mod VisserLaws
 pub mod TableLaws
 pub mod TextLaws
@@ -11,3 +12,4 @@ pub mod PutLaws
 pub mod RunPutLaws
 pub mod TextUniqueLaws
 pub mod WrittenLaws
+pub mod FlatAnswerLaws

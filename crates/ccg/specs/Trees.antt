@@ -46,3 +46,8 @@ pub record HasConflict (b : List ℕ) (t : Tree) : Type 0 where
 -- 01's trees without a clash.
 abbrev pub ConflictFree : List ℕ → Tree → Type 0
 ConflictFree b t = HasConflict b t → ⊥
+
+-- Tree t doesn't conflict as argument i of production p.
+abbrev pub Apart : List ℕ → ℕ → ℕ → Tree → Type 0
+Apart b p i (leaf c) = Unit {0}
+Apart b p i (node q f) = Conflict b p i q → ⊥

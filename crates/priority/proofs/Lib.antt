@@ -7,3 +7,5 @@ pub mod ConflictLaws
 pub mod StageLaws
 pub mod BodiesStageLaws
 pub mod RefusalLaws
+pub mod ConflictAnswerLaws
+pub mod DeclarationLaws

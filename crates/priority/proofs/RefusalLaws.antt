@@ -8,11 +8,12 @@ use Rattle.common.proofs.BelowLaws.{any-never, any-found}
 use Rattle.common.proofs.BoolLaws.{not-both}
 use Rattle.common.specs.Below.{anyBelow}
 use Rattle.grammar.proofs.FormedLaws.{order-accepted, well-formed}
-use Rattle.grammar.proofs.LayoutLaws.{production-before}
+use Rattle.grammar.proofs.LayoutLaws.{production-first, production-after, production-before, class-first}
 use Rattle.grammar.proofs.VerdictLaws.{refused-not-accepted, refuse-accepted, first-all, refuse-case, and-first, and-second, there, first-of}
 use Rattle.grammar.specs.Check.{badArgumentCounts, badRangeCounts, badProductions, badClasses, badDeclarations, sameProduction, repeatedProduction, frameLines, frameCheck, bodiesLines, bodiesCheck}
 use Rattle.grammar.specs.Formed.{WellFormed}
-use Rattle.grammar.specs.Layout.{productions, productionAt, first}
+use Rattle.grammar.specs.Layout.{productions, productionAt}
+use Rattle.grammar.specs.Limits.{headerLength}
 use Rattle.grammar.specs.Verdict.{andThen}
 use Rattle.grammar.specs.declared.Verdict.{Verdict}
 use Rattle.grammar.specs.declared.Verdict.the-variants.{Refused, Accepted}
@@ -121,7 +122,7 @@ module _ (b : List ℕ) where
   number-same (suc (suc (suc (suc (suc (suc (suc (suc s)))))))) n m k a c = absurd a
 
   -- there are eight stages, and numbers up to 9
-  pub holds-small : {s n k : ℕ} → Holds b s n k → (s < 8) × (n ≤ 9)
+  holds-small : {s n k : ℕ} → Holds b s n k → (s < 8) × (n ≤ 9)
   holds-small (refusal1 h) = (omega arith, omega arith)
   holds-small (refusal2 h) = (omega arith, omega arith)
   holds-small (refusal1′ h) = (omega arith, omega arith)
@@ -146,6 +147,10 @@ module _ (b : List ℕ) where
         earlier = λ s m j l h. none-at s (λ r o. f .before r (omega arith)) (f .before s l) m j (line b h);
         lower = λ m j l h. g .1 m j l (line b h);
       }
+
+  -- Its number is one of 1 to 9.
+  pub checked-number : {n k : ℕ} → checked b ≡ Refused n k → n ≤ 9
+  checked-number e = holds-small (refused-first e .holds) .1
 
   -- Of an accepted grammar no condition holds.
   pub accepted-free : checked b ≡ Accepted → (s n k : ℕ) → Holds b s n k → ⊥
@@ -180,3 +185,19 @@ module _ (b : List ℕ) where
       by-verdict : (v : Verdict) → checked b ≡ v → checked b ≡ Accepted
       by-verdict Accepted e = e
       by-verdict (Refused n k) e = let f = refused-first e in absurd (free (f .stage) n k (f .holds))
+
+  -- The place of 7 is a byte behind the header.
+  pub seven-place : {k : ℕ} → checked b ≡ Refused 7 k → headerLength ≤ k
+  seven-place {k} e = by-stage (refused-first e .holds) refl
+    where
+      by-stage : {s n j : ℕ} → Holds b s n j → n ≡ 7 → headerLength ≤ j
+      by-stage (refusal1 h) o = absurd (omega arith)
+      by-stage (refusal2 h) o = absurd (omega arith)
+      by-stage (refusal1′ h) o = absurd (omega arith)
+      by-stage (refusal3 h) o = absurd (omega arith)
+      by-stage (refusal4 h) o = absurd (omega arith)
+      by-stage (refusal5 h) o = absurd (omega arith)
+      by-stage (refusal6 h) o = absurd (omega arith)
+      by-stage (refusal7 h) o = omega (arith, declaration-in b h, classes-in b, class-first b, production-first b, production-after b (productions b))
+      by-stage (refusal8 h) o = absurd (omega arith)
+      by-stage (refusal9 h) o = absurd (omega arith)

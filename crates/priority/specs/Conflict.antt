@@ -1,5 +1,5 @@
 -- Priority conflicts (000, Definition 2.6; 01's clashes): a production standing as an argument of another where the priorities forbid it.
-use Prim.Native.Nat.{ℕ, _+_}
+use Prim.Native.Nat.{ℕ, _+_, _<_}
 use mathlib.Core.Path.{_≡_}
 use mathlib.Core.Bool.{Bool, false, true, cond, _&&_, _||_}
 use mathlib.Core.List.{List}
@@ -53,6 +53,10 @@ barred b p i q = isHigher b p q || isFirst b p i && rightOrNonassoc b p q || isL
 
 unfoldable pub conflicts : List ℕ → ℕ → ℕ → ℕ → Bool
 conflicts b p i q = fits b p i q && barred b p i q
+
+-- Both productions are there, and so is argument i of p.
+abbrev pub There : List ℕ → ℕ → ℕ → ℕ → Type 0
+There b p i q = (p < productions b) × (i < argumentCount b p) × (q < productions b)
 
 -- The conflict question (01's clash question): the refusals of the grammar, then 7 with place 0 for a production or an argument that isn't there.
 unfoldable pub isThere : List ℕ → ℕ → ℕ → ℕ → Bool

@@ -1,6 +1,7 @@
 -- Priority declarations (000, Definition 2.5; 01's ranks) as a grammar's bytes state them.
 use Prim.Native.Nat.{ℕ}
-use mathlib.Core.Bool.{Bool, _&&_, _||_}
+use mathlib.Core.Path.{_≡_}
+use mathlib.Core.Bool.{Bool, true, _&&_, _||_}
 use mathlib.Core.List.{List}
 use lib.Dec.{eqb}
 use Rattle.common.specs.Below.{anyBelow}
@@ -44,3 +45,11 @@ Higher b = Chain (declared b higher)
 -- The same, as a test.
 unfoldable pub isHigher : List ℕ → ℕ → ℕ → Bool
 isHigher b x y = through (declared b higher) (productions b) x y
+
+-- A priority declaration as 000, Definition 2.5, wants it.
+pub record PriorityDeclaration (b : List ℕ) : Type 0 where
+  pub irreflexive : (x : ℕ) → Higher b x x → ⊥
+  pub transitive : (x y z : ℕ) → Higher b x y → Higher b y z → Higher b x z
+  pub leftSymmetric : (x y : ℕ) → declared b left x y ≡ true → declared b left y x ≡ true
+  pub rightSymmetric : (x y : ℕ) → declared b right x y ≡ true → declared b right y x ≡ true
+  pub nonassocSymmetric : (x y : ℕ) → declared b nonassoc x y ≡ true → declared b nonassoc y x ≡ true
