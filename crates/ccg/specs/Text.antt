@@ -3,13 +3,13 @@ use Prim.Native.Nat.{ℕ, zero, suc, _+_, _/_, _%_}
 use mathlib.Core.Bool.{cond}
 use mathlib.Core.List.{List, [], _∷_, _++_}
 use lib.Dec.{leb, ltb, eqb}
-use lib.ListN.{length, drop}
+use lib.ListN.{length}
 use Rattle.ccg.specs.Ccg.{Class, Line}
 use Rattle.ccg.specs.Flat.{flatGrammar}
 use Rattle.ccg.specs.declared.FlatAnswer.{FlatAnswer}
 use Rattle.ccg.specs.declared.FlatAnswer.the-variants.{Written, Refused}
 use Rattle.charset.specs.Runs.{Range, runs}
-use Rattle.common.specs.Lists.{joined}
+use Rattle.common.specs.Lists.{overwritten, joined}
 use Rattle.grammar.specs.Limits.{productionLimit}
 use Rattle.grammar.specs.Verdict.{unlessRefused}
 use Rattle.priority.specs.Check.{checked}
@@ -95,5 +95,5 @@ flatAnswer b room = unlessRefused Refused (checked b) (writeAnswer (length (gram
 
 -- what the lent buffer holds afterwards: the text and, beyond it, what it held; unchanged by a refusal
 abbrev pub bufferAfter : FlatAnswer → List ℕ → List ℕ → List ℕ
-bufferAfter (Written n) text buffer = text ++ drop (length text) buffer
+bufferAfter (Written n) text buffer = overwritten text buffer
 bufferAfter (Refused number place) text buffer = buffer

@@ -34,7 +34,11 @@ rowCount arity n = sumBelow n (λ q. arity q + 1)
 unfoldable pub spanCount : ℕ → ℕ
 spanCount n = (n + 1) * (n + 2) / 2
 
--- how many of them start before i: n + 1 - k start at k
+-- how many bytes a chart needs: 01's A × (n + 1) × (n + 2) / 2
+abbrev pub chartBytes : (ℕ → ℕ) → ℕ → ℕ → ℕ
+chartBytes arity count n = rowCount arity count * spanCount n
+
+-- how many spans start before i: n + 1 - k start at k
 unfoldable pub startAt : ℕ → ℕ → ℕ
 startAt n i = sumBelow i (λ k. n + 1 - k)
 

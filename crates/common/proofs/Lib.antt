@@ -5,5 +5,6 @@ pub mod BelowLaws
 pub mod ProductLaws
 pub mod FillLaws
 pub mod ListLaws
+pub mod OverwrittenLaws
 pub mod RegionLaws
 pub mod ZeroLaws

@@ -7,23 +7,26 @@ use native.Mathlib.Omega.{arith}
 use native.Mathlib.Decide.{ℕ-discrete}
 use native.Mathlib.Nat.{le-refl}
 use lib.Dec.{eqb}
-use lib.ListN.{length, getD, take}
-use lib.Seq.{take-all, sets}
+use lib.ListN.{length, getD, take, length-take}
+use lib.Seq.{length-take-le, take-all, getD-take, sets}
 use borrow.Author.Tests.{eq-eqb, ne-eqb}
 use Rattle.ccg.specs.Theory.{theoryOf}
+use Rattle.chart.proofs.LayoutLaws.{cell-below, row-in}
 use Rattle.chart.specs.Counted.{Counted}
-use Rattle.chart.specs.Layout.{arityIn, rowCount, spanCount}
+use Rattle.chart.specs.Layout.{arityIn, rowOf, rowCount, chartBytes, cellAt}
 use Rattle.common.proofs.BelowLaws.{sum-same}
+use Rattle.common.proofs.OverwrittenLaws.{overwritten-of, sets-front}
 use Rattle.common.proofs.ProductLaws.{product-one}
 use Rattle.common.specs.Below.{sumBelow, bitOf}
-use Rattle.common.specs.Lists.{joined}
-use Rattle.engine.specs.Outcome.{Only, Answered, ChartAfter}
+use Rattle.common.specs.Lists.{overwritten}
+use Rattle.engine.specs.Outcome.{Answered, ChartAfter}
 use Rattle.engine.specs.Roots.{rootTest, rootTerm}
 use Rattle.engine.specs.declared.Answer.the-variants.{None, One, Several, Refused}
+use Rattle.extract.proofs.WrittenLaws.{bytes-long}
 use Rattle.extract.specs.Places.{cellOf}
-use Rattle.extract.specs.Written.{Written, twoBytes, room}
-use Rattle.theory.proofs.CountLaws.{parse-of, parse-counts}
-use Rattle.theory.specs.Counts.{Counts}
+use Rattle.extract.specs.Written.{bytesOf, room, Written}
+use Rattle.theory.proofs.CountLaws.{Bounds, counts-bounds, parse-of, parse-counts}
+use Rattle.theory.specs.Counts.{Only, Counts}
 use Rattle.theory.specs.Grammar.{Grammar, Spells, Parse}
 use Rattle.theory.specs.Steps.{cap, rootSum}
 use Rattle.theory.specs.Tree.{Tree, node, Forest, listing}
@@ -55,8 +58,8 @@ module _ (counts chars subs roots w : List ℕ) (bits : (k : ℕ) → getD roots
   unfolding trees cellOf theoryOf
   trees-count p l = counted .cells p (getD counts p 0) 0 (length w) l (le-refl (getD counts p 0)) (omega arith) (le-refl (length w))
 
-  parses : Counts IsParse (cap total)
-  parses = subst⁻¹ (λ (n : ℕ). Counts IsParse (cap n)) total-is (parse-counts g w (rootTest roots) trees trees-count)
+  parses : Bounds IsParse (cap total)
+  parses = subst⁻¹ (λ (n : ℕ). Bounds IsParse (cap n)) total-is (counts-bounds IsParse (cap (rootSum g (rootTest roots) trees)) (parse-counts g w (rootTest roots) trees trees-count))
 
   pub answered-none : (l : List ℕ) → total ≡ 0 → Answered IsParse l None l
   unfolding Answered
@@ -79,26 +82,42 @@ module _ (counts chars subs roots w : List ℕ) (bits : (k : ℕ) → getD roots
         let it = parse-of g w (rootTest roots) trees trees-count p f lp allowed spelled in
         record { holds = it; alone = λ u s. parses .same (omega arith) u (node p f) s it }
 
-    all-written : length (listing (node p f)) ≤ room l₀ → l ≡ sets l₀ 0 (joined twoBytes (listing (node p f)))
-    all-written h = written .wrote ∙ ap (λ (v : List ℕ). sets l₀ 0 (joined twoBytes v)) (take-all (room l₀ - 0) (listing (node p f)) (omega arith))
+    -- the first m numbers are at the start of the buffer, if they fit
+    first-written : (m : ℕ) → m ≡ room l₀ → l ≡ overwritten (bytesOf (take m (listing (node p f)))) l₀
+    unfolding room
+    first-written m e =
+        let numbers = take m (listing (node p f)) in
+        let zeroth : room l₀ - 0 ≡ m = omega arith in
+        written .wrote
+        ∙ ap (λ (n : ℕ). sets l₀ 0 (bytesOf (take n (listing (node p f))))) zeroth
+        ∙ sets-front (bytesOf numbers) l₀ (omega (arith, bytes-long numbers, length-take m (listing (node p f))))
 
     pub answered-one : r ≤ room l₀ → Answered IsParse l₀ (One r) l
-    unfolding Answered
-    answered-one h = (node p f, only, omega (arith, written .next), h, all-written (omega (arith, written .next)))
+    unfolding Answered room
+    answered-one h =
+        let all = take-all (room l₀) (listing (node p f)) (omega (arith, written .next)) in
+        (node p f, only, omega (arith, written .next), omega (arith, h), first-written (room l₀) refl ∙ ap (λ (v : List ℕ). overwritten (bytesOf v) l₀) all)
 
     pub answered-long : (place : ℕ) → place ≡ room l₀ → room l₀ < r → Answered IsParse l₀ (Refused 22 place) l
-    unfolding Answered
-    answered-long place e h =
-        let zeroth : room l₀ - 0 ≡ room l₀ = omega arith in
-        (node p f, only, refl, e, omega (arith, written .next), written .wrote ∙ ap (λ (n : ℕ). sets l₀ 0 (joined twoBytes (take n (listing (node p f))))) zeroth)
+    unfolding Answered room
+    answered-long place e h = (node p f, only, refl, e, omega (arith, written .next, h), first-written place e)
 
   -- the cell that the tree is written from is not 0
   pub root-cell : (p : ℕ) → 1 ≤ rootTerm counts roots w chart p → 1 ≤ cellOf counts w chart p (getD counts p 0) 0 (length w)
   unfolding rootTerm
   root-cell p h = product-one (getD roots p 0) (cellOf counts w chart p (getD counts p 0) 0 (length w)) h .1
 
-  pub chart-after : (before : List ℕ) → length chart ≡ length before
-      → ((k : ℕ) → rowCount (arityIn counts) (length counts) * spanCount (length w) ≤ k → getD chart k 0 ≡ getD before k 0)
+  pub chart-after : (before : List ℕ) → length chart ≡ length before → chartBytes (arityIn counts) (length counts) (length w) ≤ length chart
+      → ((k : ℕ) → chartBytes (arityIn counts) (length counts) (length w) ≤ k → getD chart k 0 ≡ getD before k 0)
       → ChartAfter (λ p d i j f. Spells (theoryOf counts chars subs) w p f d i j) (arityIn counts) (length counts) (length w) before chart
   unfolding theoryOf
-  chart-after before e b = record { long = e; cells = counted .cells; beyond = b }
+  chart-after before e enough b =
+      let n = chartBytes (arityIn counts) (length counts) (length w) in
+      record {
+        entries = take n chart;
+        long = length-take-le n chart enough;
+        cells = λ p d i j lp ld ij jw. subst⁻¹ (λ (v : ℕ). Counts (λ (f : Forest). Spells (theoryOf counts chars subs) w p f d i j) v)
+            (getD-take n chart (cellAt (length w) (rowOf (arityIn counts) p d) i j) 0 (cell-below (length w) (rowOf (arityIn counts) p d) (rowCount (arityIn counts) (length counts)) i j (row-in (arityIn counts) p d (length counts) lp ld) ij jw))
+            (counted .cells p d i j lp ld ij jw);
+        whole = overwritten-of 0 n chart before e enough b;
+      }

@@ -2,3 +2,4 @@
 pub mod RootLaws
 pub mod EngineLaws
 pub mod UniqueLaws
+pub mod AnswerLaws

@@ -7,18 +7,18 @@ use native.Mathlib.Omega.{arith}
 use native.Mathlib.Decide.{decLt}
 use native.Mathlib.Nat.{mod-lt, div-add-mod', div-lt-iff-lt-mul}
 use lib.ListN.{length, getD, take}
-use lib.Seq.{ext-getD, sets}
+use lib.Seq.{ext-getD}
 use Rattle.chart.proofs.LayoutLaws.{start-end}
-use Rattle.chart.specs.Layout.{rowOf, rowCount, spanCount, startAt, cellAt}
+use Rattle.chart.specs.Layout.{rowOf, rowCount, spanCount, startAt, cellAt, chartBytes}
 use Rattle.common.specs.Below.{sumBelow}
-use Rattle.common.specs.Lists.{joined}
-use Rattle.engine.specs.Outcome.{Only, Answered, ChartAfter, Parsed}
+use Rattle.common.specs.Lists.{overwritten}
+use Rattle.engine.specs.Outcome.{Answered, ChartAfter, Parsed}
 use Rattle.engine.specs.declared.Answer.{Answer}
 use Rattle.engine.specs.declared.Answer.the-variants.{None, One, Several, Refused}
-use Rattle.extract.specs.Written.{twoBytes, room}
+use Rattle.extract.specs.Written.{bytesOf}
 use Rattle.grammar.specs.Layout.{low, high}
 use Rattle.theory.proofs.CountLaws.{counts-unique}
-use Rattle.theory.specs.Counts.{Two}
+use Rattle.theory.specs.Counts.{Only, Two}
 use Rattle.theory.specs.Tree.{Tree, Forest, listing}
 
 -- ---- every place of the chart is the place of a cell
@@ -52,7 +52,7 @@ unfolding spanCount
 span-some n = omega arith
 
 -- every place of the chart is the place of a cell
-pub cell-found : (arity : ℕ → ℕ) (count n k : ℕ) → k < rowCount arity count * spanCount n
+pub cell-found : (arity : ℕ → ℕ) (count n k : ℕ) → k < chartBytes arity count n
     → (p : ℕ) × (d : ℕ) × (i : ℕ) × (j : ℕ) × (p < count) × (d ≤ arity p) × (i ≤ j) × (j ≤ n) × (k ≡ cellAt n (rowOf arity p d) i j)
 unfolding cellAt
 cell-found arity count n k l =
@@ -65,21 +65,20 @@ cell-found arity count n k l =
 
 module _ (E : ℕ → ℕ → ℕ → ℕ → Forest → Type 0) (arity : ℕ → ℕ) (count n : ℕ) (c₀ c c′ : List ℕ)
     (a : ChartAfter E arity count n c₀ c) (b : ChartAfter E arity count n c₀ c′) where
-  -- a cell holds the count of the same lists of trees
+  -- an entry is the count of the same lists of trees
   cell-unique : (p d i j : ℕ) → p < count → d ≤ arity p → i ≤ j → j ≤ n
-      → getD c (cellAt n (rowOf arity p d) i j) 0 ≡ getD c′ (cellAt n (rowOf arity p d) i j) 0
+      → getD (a .entries) (cellAt n (rowOf arity p d) i j) 0 ≡ getD (b .entries) (cellAt n (rowOf arity p d) i j) 0
   cell-unique p d i j lp ld ij jn = counts-unique (E p d i j) _ _ (a .cells p d i j lp ld ij jn) (b .cells p d i j lp ld ij jn)
 
-  -- so each place holds the same byte
-  byte-unique : (k : ℕ) → getD c k 0 ≡ getD c′ k 0
-  byte-unique k =
-      by-cases (decLt k (rowCount arity count * spanCount n))
-      (λ l. let (p, d, i, j, lp, ld, ij, jn, e) = cell-found arity count n k l in rw e (cell-unique p d i j lp ld ij jn))
-      (λ l. a .beyond k (omega arith) ∙ sym (b .beyond k (omega arith)))
+  -- so all entries are the same
+  entries-unique : a .entries ≡ b .entries
+  entries-unique =
+      ext-getD 0 (a .entries) (b .entries) (a .long ∙ sym (b .long))
+      (λ k l. let (p, d, i, j, lp, ld, ij, jn, e) = cell-found arity count n k (omega (arith, a .long)) in rw e (cell-unique p d i j lp ld ij jn))
 
   -- two charts that meet the promise are the same
   pub chart-unique : c ≡ c′
-  chart-unique = ext-getD 0 c c′ (a .long ∙ sym (b .long)) (λ k l. byte-unique k)
+  chart-unique = a .whole ∙ ap (λ (l : List ℕ). overwritten l c₀) entries-unique ∙ sym (b .whole)
 
 -- ---- the answer
 
@@ -93,7 +92,7 @@ not-two a (x, y, p, q, apart) = apart (a .alone x p ∙ sym (a .alone y q))
 
 module _ (P : Tree → Type 0) (l₀ : List ℕ) where
   -- the only tree has one listing, so it doesn't both fit and not fit
-  fits-not : (t u : Tree) → Only P t → Only P u → length (listing t) ≤ room l₀ → room l₀ < length (listing u) → ⊥
+  fits-not : (t u : Tree) → Only P t → Only P u → 2 * length (listing t) ≤ length l₀ → length l₀ < 2 * length (listing u) → ⊥
   fits-not t u a b low high = omega (arith, ap (λ (x : Tree). length (listing x)) (same-tree a b))
 
   -- No two kinds of answer hold of one text, and of each kind only one.
@@ -106,7 +105,7 @@ module _ (P : Tree → Type 0) (l₀ : List ℕ) where
   answer-unique (One n) None l l′ a b = absurd (b .0 (a .0) (a .1 .holds))
   answer-unique (One n) (One m) l l′ (t, a, length-t, _, e) (u, b, length-u, _, h) =
       let q = same-tree a b in
-      (ap One (length-t ∙ ap (λ (x : Tree). length (listing x)) q ∙ sym length-u), e ∙ ap (λ (x : Tree). sets l₀ 0 (joined twoBytes (listing x))) q ∙ sym h)
+      (ap One (length-t ∙ ap (λ (x : Tree). length (listing x)) q ∙ sym length-u), e ∙ ap (λ (x : Tree). overwritten (bytesOf (listing x)) l₀) q ∙ sym h)
   answer-unique (One n) Several l l′ a b = absurd (not-two (a .1) (b .0))
   answer-unique (One n) (Refused number place) l l′ a b = absurd (fits-not (a .0) (b .0) (a .1) (b .1) (omega (arith, a .2, a .3)) (b .4))
   answer-unique Several None l l′ a b = absurd (b .0 (a .0 .0) (a .0 .2))
@@ -117,8 +116,8 @@ module _ (P : Tree → Type 0) (l₀ : List ℕ) where
   answer-unique (Refused number place) (One n) l l′ a b = absurd (fits-not (b .0) (a .0) (b .1) (a .1) (omega (arith, b .2, b .3)) (a .4))
   answer-unique (Refused number place) Several l l′ a b = absurd (not-two (a .1) (b .0))
   answer-unique (Refused number place) (Refused number′ place′) l l′ (t, a, number-t, place-t, _, e) (u, b, number-u, place-u, _, h) =
-      let q = same-tree a b in
-      (ap₂ Refused (number-t ∙ sym number-u) (place-t ∙ sym place-u), e ∙ ap (λ (x : Tree). sets l₀ 0 (joined twoBytes (take (room l₀) (listing x)))) q ∙ sym h)
+      let places = place-t ∙ sym place-u in
+      (ap₂ Refused (number-t ∙ sym number-u) places, e ∙ ap₂ (λ (x : Tree) (n : ℕ). overwritten (bytesOf (take n (listing x))) l₀) (same-tree a b) places ∙ sym h)
 
 -- ---- the outcome
 

@@ -4,7 +4,7 @@ use mathlib.Core.Bool.{Bool}
 use mathlib.Core.List.{List}
 use lib.Dec.{eqb}
 use lib.ListN.{length, getD}
-use Rattle.chart.specs.Layout.{textLimit, arityIn, rowCount, spanCount}
+use Rattle.chart.specs.Layout.{textLimit, arityIn, chartBytes}
 use Rattle.extract.specs.Places.{Bases, cellOf}
 use Rattle.grammar.specs.Limits.{productionLimit, argumentLimit}
 
@@ -28,4 +28,4 @@ pub record RootsReady (counts bases roots w chart : List ℕ) : Type 0 where
   pub rows : Bases counts bases
   pub rootsLong : length counts ≤ length roots
   pub short : length w ≤ textLimit
-  pub longEnough : rowCount (arityIn counts) (length counts) * spanCount (length w) ≤ length chart
+  pub longEnough : chartBytes (arityIn counts) (length counts) (length w) ≤ length chart

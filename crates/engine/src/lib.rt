@@ -5,15 +5,12 @@ use extract::write_tree;
 use fill::fill;
 use grammar::layout::wide;
 ghost use mathlib.Core.Path.{_≡_};
-ghost use mathlib.Core.List.{List};
 ghost use Prim.Native.Nat.{ℕ, _+_, _*_, _<_, _≤_};
-ghost use lib.Dec.{eqb};
 ghost use lib.ListN.{length, getD};
 ghost use Rattle.common.specs.Below.{sumBelow};
 ghost use Rattle.theory.specs.Grammar.{Parse, Spells};
 ghost use Rattle.ccg.specs.Theory.{theoryOf, ParserTables};
-ghost use Rattle.chart.specs.Layout.{arityIn, rowCount, spanCount, textLimit};
-ghost use Rattle.extract.specs.Places.{Bases, cellOf};
+ghost use Rattle.chart.specs.Layout.{arityIn, textLimit, chartBytes};
 ghost use Rattle.engine.specs.Outcome.{Parsed};
 ghost use Rattle.engine.specs.Roots.{byteValues, RootsReady, rootTerm, rootTest};
 
@@ -87,7 +84,7 @@ pub fn parse_tables(
 ) -> Answer
     requires { ⌜ ParserTables (now counts) (now chars) (now subs) ⌝ }
     requires { ⌜ (length (now counts) ≤ length (now roots)) × ((k : ℕ) → getD (now roots) k 0 ≤ 1) ⌝ }
-    requires { ⌜ (1 ≤ length (now counts)) × (length (now text) ≤ textLimit) × (rowCount (arityIn (now counts)) (length (now counts)) * spanCount (length (now text)) ≤ length (now chart)) ⌝ }
+    requires { ⌜ (1 ≤ length (now counts)) × (length (now text) ≤ textLimit) × (chartBytes (arityIn (now counts)) (length (now counts)) (length (now text)) ≤ length (now chart)) ⌝ }
     ensures { λ r. ⌜ Parsed (Parse (theoryOf (now (counts .entry)) (now (chars .entry)) (now (subs .entry))) (rootTest (now (roots .entry))) (now (text .entry))) (λ p d i j f. Spells (theoryOf (now (counts .entry)) (now (chars .entry)) (now (subs .entry))) (now (text .entry)) p f d i j) (arityIn (now (counts .entry))) (length (now (counts .entry))) (length (now (text .entry))) (now (chart .entry)) (now (listing .entry)) r (now (chart .exit)) (now (listing .exit)) ⌝ }
 {
     fill(chart, text, counts, chars, subs);

@@ -19,7 +19,7 @@ ghost use Rattle.grammar.specs.Limits.{productionLimit, argumentLimit};
 ghost use Rattle.ccg.specs.Tables.{slot, slots, subAt, slotHas, charWords};
 ghost use Rattle.chart.specs.Layout.{textLimit};
 ghost use Rattle.ccg.specs.Theory.{theoryOf, ParserTables};
-ghost use Rattle.extract.specs.Written.{room, Written};
+ghost use Rattle.extract.specs.Written.{room, Written, TreeWritten};
 ghost use Rattle.extract.specs.Places.{Bases, Walkable, cellOf, FirstChild, Splits};
 
 // Places where the arguments of a production end.
@@ -246,7 +246,7 @@ fn write_argument(
     write_tree(chart, text, counts, chars, subs, bases, out, at, q, m, j)
 }
 
-// Writes a tree of production q from i to j, from place `at` on: as many of its numbers as there is room for.
+// Writes a tree of production q from i to j, from place `at` on: as many of its numbers as there is room for. Where the chart counts one tree, it is that one.
 pub fn write_tree(
     chart: &[u8],
     text: &[u8],
@@ -263,7 +263,7 @@ pub fn write_tree(
     requires { ⌜ Walkable (now counts) (now chars) (now subs) (now bases) (now text) (now chart) ⌝ }
     requires { ⌜ (q < length (now counts)) × (i ≤ j) × (j ≤ length (now text)) × (at ≤ room (now out) + 1) ⌝ }
     requires { ⌜ 1 ≤ cellOf (now counts) (now text) (now chart) q (getD (now counts) q 0) i j ⌝ }
-    ensures { λ r. ⌜ ((f : Forest) × Spells (theoryOf (now (counts .entry)) (now (chars .entry)) (now (subs .entry))) (now (text .entry)) q f (getD (now (counts .entry)) q 0) i j × Written (listing (node q f)) (now (out .entry)) at (now (out .exit)) r) ⌝ }
+    ensures { λ r. ⌜ TreeWritten (theoryOf (now (counts .entry)) (now (chars .entry)) (now (subs .entry))) (now (text .entry)) q i j (cellOf (now (counts .entry)) (now (text .entry)) (now (chart .entry)) q (getD (now (counts .entry)) q 0) i j) (now (out .entry)) at (now (out .exit)) r ⌝ }
 {
     let mut next = put_number(out, at, FIRST_PRODUCTION + q);
     if out.len() / 2 < next {

@@ -8,7 +8,7 @@ use lib.ListN.{length, getD}
 use Rattle.ccg.specs.Tables.{slot, subAt}
 use Rattle.ccg.specs.Theory.{theoryOf}
 use Rattle.chart.specs.Counted.{Counted}
-use Rattle.chart.specs.Layout.{places, rowLimit, arityIn, rowCount, spanCount}
+use Rattle.chart.specs.Layout.{places, rowLimit, arityIn, rowCount, spanCount, chartBytes}
 use Rattle.column.specs.ByEnds.{placeAt, Turned}
 use Rattle.column.specs.Scattered.{Scattered}
 use Rattle.column.specs.Sums.{ColumnCleared}
@@ -165,5 +165,5 @@ module _ (counts chars users empty args w before chart turned subs : List ℕ) (
       filling-end (grammarBy counts chars (λ p d q. eqb (getD subs (subAt (slot p d) q) 0) 1)) w empty args bottom before chart turned filled
       (subst (λ (n : ℕ). SmallCells (length w) n (length w + 1) chart) rowsAre small) (subst (λ (n : ℕ). Turned (length w) n chart turned) rowsAre turn)
 
-  pub filled-beyond : (k : ℕ) → rowCount (arityIn counts) (length counts) * spanCount (length w) ≤ k → getD turned k 0 ≡ getD before k 0
+  pub filled-beyond : (k : ℕ) → chartBytes (arityIn counts) (length counts) (length w) ≤ k → getD turned k 0 ≡ getD before k 0
   filled-beyond k l = turn .beyond k (omega (arith, ap (λ (n : ℕ). n * spanCount (length w)) rowsAre)) ∙ filled .beyond k l

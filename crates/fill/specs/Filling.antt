@@ -5,7 +5,7 @@ use mathlib.Core.Bool.{cond, _&&_}
 use mathlib.Core.List.{List}
 use lib.Dec.{eqb}
 use lib.ListN.{length, getD}
-use Rattle.chart.specs.Layout.{places, rowLimit, rowOf, rowCount, spanCount}
+use Rattle.chart.specs.Layout.{places, rowLimit, rowOf, rowCount, chartBytes}
 use Rattle.column.specs.ByEnds.{placeAt}
 use Rattle.common.specs.Below.{sumBelow}
 use Rattle.theory.specs.Counts.{Shown}
@@ -40,7 +40,7 @@ pub record SmallSums (rows j : ℕ) (sums : List ℕ) : Type 0 where
 pub record Filling (g : Grammar) (w empty before bytes : List ℕ) (i j : ℕ) : Type 0 where
   pub long : length bytes ≡ length before
   -- bytes beyond the chart stay
-  pub beyond : (k : ℕ) → rowCount (g .arity) (g .count) * spanCount (length w) ≤ k → getD bytes k 0 ≡ getD before k 0
+  pub beyond : (k : ℕ) → chartBytes (g .arity) (g .count) (length w) ≤ k → getD bytes k 0 ≡ getD before k 0
   pub shown : (p d i′ j′ : ℕ) → p < g .count → d ≤ g .arity p → Done (length w) i j i′ j′
       → Shown (λ (f : Forest). Spells g w p f d i′ j′) (viewOf (g .arity) (length w) empty bytes p d i′ j′)
   pub steps : (p d i′ j′ : ℕ) → p < g .count → d < g .arity p → Done (length w) i j i′ j′

@@ -17,14 +17,13 @@ use span::USERS;
 use span::USES;
 use span::settle;
 ghost use mathlib.Core.Path.{_≡_};
-ghost use mathlib.Core.Bool.{Bool, not, _&&_};
+ghost use mathlib.Core.Bool.{not, _&&_};
 ghost use lib.Dec.{eqb};
-ghost use mathlib.Core.List.{List};
 ghost use Prim.Native.Nat.{ℕ, _+_, _*_, _<_, _≤_};
 ghost use lib.ListN.{length, getD};
 ghost use Rattle.common.specs.Zeros.{AllZero};
 ghost use Rattle.ccg.specs.Theory.{theoryOf, ParserTables};
-ghost use Rattle.chart.specs.Layout.{arityIn, rowCount, spanCount, textLimit, rowLimit, places};
+ghost use Rattle.chart.specs.Layout.{arityIn, textLimit, rowLimit, places, chartBytes};
 ghost use Rattle.chart.specs.Counted.{Counted};
 ghost use Rattle.span.specs.Tables.{Links, userBytes, useBytes};
 ghost use Rattle.fill.specs.Filling.{SmallCells, SmallSums};
@@ -240,9 +239,9 @@ fn zero_sums() -> [u8; SUMS]
 // Fills the chart of a text by the flat tables. Bytes beyond the chart stay.
 pub fn fill(chart: &mut [u8], text: &[u8], counts: &[u8], chars: &[u64], subs: &[u8])
     requires { ⌜ ParserTables (now counts) (now chars) (now subs) ⌝ }
-    requires { ⌜ (length (now text) ≤ textLimit) × (rowCount (arityIn (now counts)) (length (now counts)) * spanCount (length (now text)) ≤ length (now chart)) ⌝ }
+    requires { ⌜ (length (now text) ≤ textLimit) × (chartBytes (arityIn (now counts)) (length (now counts)) (length (now text)) ≤ length (now chart)) ⌝ }
     ensures { λ _. ⌜ Counted (theoryOf (now (counts .entry)) (now (chars .entry)) (now (subs .entry))) (now (text .entry)) (now (chart .exit)) ⌝ }
-    ensures { λ _. ⌜ ((k : ℕ) → rowCount (arityIn (now (counts .entry))) (length (now (counts .entry))) * spanCount (length (now (text .entry))) ≤ k → getD (now (chart .exit)) k 0 ≡ getD (now (chart .entry)) k 0) ⌝ }
+    ensures { λ _. ⌜ ((k : ℕ) → chartBytes (arityIn (now (counts .entry))) (length (now (counts .entry))) (length (now (text .entry))) ≤ k → getD (now (chart .exit)) k 0 ≡ getD (now (chart .entry)) k 0) ⌝ }
 {
     let mut users = zero_users();
     let mut uses = zero_uses();

@@ -8,7 +8,7 @@ use mathlib.Core.Logic.{_↔_, _⊎_, inl, inr, ⊎-elim}
 use native.Mathlib.Omega.{arith}
 use lib.Dec.{ltb, eqb}
 use lib.ListN.{length, getD, take, drop}
-use lib.Seq.{take-at, sets, sets-eq}
+use lib.Seq.{take-at}
 use borrow.Author.Tests.{ltb-true, eqb-true, le-ltb, ne-eqb}
 use Rattle.ccg.proofs.FlatLaws.{flat-length, flat-result, flat-trees}
 use Rattle.ccg.specs.Ccg.{Class, Line}
@@ -16,11 +16,11 @@ use Rattle.ccg.specs.Flat.{flatGrammar, plainClass}
 use Rattle.charset.specs.Set.{characters}
 use Rattle.chart.specs.Layout.{textLimit}
 use Rattle.common.proofs.BoolLaws.{or-cases, true-or-false}
-use Rattle.common.specs.Lists.{joined}
+use Rattle.common.specs.Lists.{overwritten, joined}
 use Rattle.engine.specs.Outcome.{Answered}
 use Rattle.engine.specs.declared.Answer.the-variants.{One}
 use Rattle.extract.proofs.WrittenLaws.{bytes-long}
-use Rattle.extract.specs.Written.{twoBytes, room}
+use Rattle.extract.specs.Written.{twoBytes, bytesOf}
 use Rattle.grammar.proofs.VerdictLaws.{and-first, and-second, refuse-case, FirstIn, here, there, order-first}
 use Rattle.grammar.specs.Formed.{WellFormed}
 use Rattle.grammar.specs.Layout.{startSort}
@@ -37,9 +37,8 @@ use Rattle.listing.specs.declared.ListingAnswer.the-variants.{Right, Wro
 use Rattle.parse.specs.Outcome.{tooLong, tooShort, refusal, AfterVerdict, Outcome}
 use Rattle.parse.specs.Reading.{Reading}
 use Rattle.priority.proofs.CheckLaws.{accepted-formed}
-use Rattle.priority.proofs.RefusalLaws.{refused-holds}
+use Rattle.priority.proofs.RefusalLaws.{checked-number}
 use Rattle.priority.specs.Check.{checked}
-use Rattle.priority.specs.Table.{Holds, refusal1, refusal1′, refusal2, refusal3, refusal4, refusal5, refusal6, refusal7, refusal8, refusal9}
 use Rattle.theory.specs.Tree.{Tree, listing}
 use Rattle.grammar.specs.declared.Verdict.the-variants.{Refused as Rejected}
 
@@ -131,22 +130,15 @@ module _ (b w c₀ l₀ : List ℕ) (n : ℕ) (c l : List ℕ) where
       let later = and-second (checked b) (andThen (tooLong w) (tooShort b w c₀)) accepted in
       (and-first (checked b) (andThen (tooLong w) (tooShort b w c₀)) accepted, and-first (tooLong w) (tooShort b w c₀) later, answered)
 
--- the listing is at the start of the buffer
-written-first : (ns l₀ : List ℕ) → length ns ≤ room l₀ → take (2 * length ns) (sets l₀ 0 (joined twoBytes ns)) ≡ joined twoBytes ns
-unfolding room
-written-first ns l₀ h =
-    let long = bytes-long ns in
-    rw (sets-eq (joined twoBytes ns) l₀ 0 (omega arith)) (take-at (joined twoBytes ns) (drop (0 + length (joined twoBytes ns)) l₀) (2 * length ns) long)
-
 -- the listing of a parse, written at the start of a buffer, is found right
 reading-written : (b : List ℕ) → ((k : ℕ) → getD b k 0 < characters) → (w l₀ l : List ℕ) (t : Tree) → checked b ≡ Accepted → tooLong w ≡ Accepted → Reading b w t
-    → length (listing t) ≤ room l₀ → 2 * length (listing t) ≤ byteLimit → l ≡ sets l₀ 0 (joined twoBytes (listing t))
-    → listingAnswer b w (take (2 * length (listing t)) l) ≡ Right
-reading-written b bytes w l₀ l t good short reading enough small wrote =
+    → 2 * length (listing t) ≤ byteLimit → l ≡ overwritten (bytesOf (listing t)) l₀ → listingAnswer b w (take (2 * length (listing t)) l) ≡ Right
+reading-written b bytes w l₀ l t good short reading small wrote =
     let ns = listing t in
-    let start : take (2 * length ns) l ≡ joined twoBytes ns = rw wrote (written-first ns l₀ enough) in
-    let few = listing-accepted (joined twoBytes ns) (omega (arith, bytes-long ns)) (omega (arith, bytes-long ns)) in
-    rw start (listing-right b bytes w (joined twoBytes ns) .1 (rw (good, short) few, (t, reading, sym (numbers-joined ns))))
+    let long = bytes-long ns in
+    let start : take (2 * length ns) l ≡ bytesOf ns = rw wrote (take-at (bytesOf ns) (drop (length (bytesOf ns)) l₀) (2 * length ns) long) in
+    let few = listing-accepted (bytesOf ns) (omega arith) (omega arith) in
+    rw start (listing-right b bytes w (bytesOf ns) .1 (rw (good, short) few, (t, reading, sym (numbers-joined ns))))
 
 -- What parsing answers with one is found right, if it is short enough to be checked.
 pub one-right : (b : List ℕ) → ((k : ℕ) → getD b k 0 < characters) → (w c₀ l₀ : List ℕ) (n : ℕ) (c l : List ℕ) → Outcome b w c₀ l₀ (One n) c l → 2 * n ≤ byteLimit
@@ -156,7 +148,7 @@ one-right b bytes w c₀ l₀ n c l outcome small =
     let (good, short, answered) = one-parts b w c₀ l₀ n c l outcome in
     let (t, only, count, enough, wrote) = answered in
     subst⁻¹ (λ (m : ℕ). listingAnswer b w (take (2 * m) l) ≡ Right) count
-    (reading-written b bytes w l₀ l t good short (only .holds) (omega arith) (omega arith) wrote)
+    (reading-written b bytes w l₀ l t good short (only .holds) (omega arith) wrote)
 
 -- ---- refusals
 
@@ -191,19 +183,6 @@ refused-if b w l number place e =
     (λ h. judge-no-refusal (flatGrammar b) (numbersOf l) (plainClass b (startSort b) ∷ []) w 0 number place h)
     e
 
--- the grammar is refused with 1 to 9
-holds-number : {b : List ℕ} {k p : ℕ} → Holds b k p → k ≤ 9
-holds-number (refusal1 h) = omega arith
-holds-number (refusal1′ h) = omega arith
-holds-number (refusal2 h) = omega arith
-holds-number (refusal3 h) = omega arith
-holds-number (refusal4 h) = omega arith
-holds-number (refusal5 h) = omega arith
-holds-number (refusal6 h) = omega arith
-holds-number (refusal7 h) = omega arith
-holds-number (refusal8 h) = omega arith
-holds-number (refusal9 h) = omega arith
-
 long-refused : (w : List ℕ) {k p : ℕ} → tooLong w ≡ Rejected k p → (k ≡ 10) × (textLimit < length w) × (p ≡ length w)
 unfolding tooLong
 long-refused w e =
@@ -221,12 +200,12 @@ listing-refused l e =
 module _ (b w l : List ℕ) where
   -- which of them has the number
   by-ten : {k p : ℕ} → FirstIn (checked b ∷ tooLong w ∷ badListing l ∷ []) k p → k ≡ 10 → (textLimit < length w) × (p ≡ length w)
-  by-ten (here e) ten = absurd (omega (arith, holds-number (refused-holds b e)))
+  by-ten (here e) ten = absurd (omega (arith, checked-number b e))
   by-ten (there a (here e)) ten = let h = long-refused w e in (h .1, h .2)
   by-ten (there a (there c (here e))) ten = absurd (omega (arith, listing-refused l e .0))
 
   by-eleven : {k p : ℕ} → FirstIn (checked b ∷ tooLong w ∷ badListing l ∷ []) k p → k ≡ 11 → ((length l % 2 ≡ 1) ⊎ (byteLimit < length l)) × (p ≡ length l)
-  by-eleven (here e) eleven = absurd (omega (arith, holds-number (refused-holds b e)))
+  by-eleven (here e) eleven = absurd (omega (arith, checked-number b e))
   by-eleven (there a (here e)) eleven = absurd (omega (arith, long-refused w e .0))
   by-eleven (there a (there c (here e))) eleven = let h = listing-refused l e in (h .1, h .2)
 

@@ -3,12 +3,11 @@ use Prim.Native.Nat.{ℕ}
 use mathlib.Core.Path.{_≡_}
 use mathlib.Core.List.{List, [], _∷_, _++_}
 use lib.ListN.{replicate}
-use Rattle.engine.specs.Outcome.{Only}
 use Rattle.grammar.specs.declared.Verdict.the-variants.{Accepted, Refused}
 use Rattle.parse.specs.Outcome.{refusal}
 use Rattle.parse.specs.Reading.{Reading}
 use Rattle.priority.specs.Check.{checked}
-use Rattle.theory.specs.Counts.{Two}
+use Rattle.theory.specs.Counts.{Only, Two}
 use Rattle.theory.specs.Tree.{Tree, listing}
 
 -- ---- what a case is, and what it says

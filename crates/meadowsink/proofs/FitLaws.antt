@@ -27,8 +27,8 @@ use Rattle.listing.specs.Judge.{isRight, dueAfter, textAfter, judge}
 use Rattle.listing.specs.Numbers.{numbersOf}
 use Rattle.listing.specs.declared.ListingAnswer.the-variants.{Wrong}
 use Rattle.meadowsink.specs.Calls.{conflictNumber, flatNumber, listingNumber}
-use Rattle.parse.proofs.NumberLaws.{largestNumber, Numbered, refusal-numbered}
-use Rattle.parse.specs.Outcome.{tooLong, refusal}
+use Rattle.parse.proofs.NumberLaws.{largestNumber, Numbered, grammar-numbered}
+use Rattle.parse.specs.Outcome.{tooLong}
 use Rattle.priority.proofs.CheckLaws.{accepted-formed}
 use Rattle.priority.specs.Check.{checked}
 use Rattle.priority.specs.Conflict.{conflicts, isThere, yesOrNo, conflictAnswer}
@@ -39,11 +39,6 @@ use Rattle.priority.specs.declared.ConflictAnswer.the-variants.{Refused as NotA
 use Rattle.listing.specs.declared.ListingAnswer.the-variants.{Refused as NotChecked}
 
 -- ---- refusals
-
--- the refusals of parsing start with the grammar's
-grammar-numbered : (b : List ℕ) → Numbered (checked b)
-unfolding refusal
-grammar-numbered b = record { small = λ k p e. refusal-numbered b [] [] .small k p (rw e refl) }
 
 -- An operation that refuses what a verdict refuses: its number fits if the verdict's numbers are small and its own answer fits.
 unless-fits : {A : Type 0} (number : A → ℕ) (refused : ℕ → ℕ → A) (v : Verdict) (answer : A) → ((k p : ℕ) → number (refused k p) ≡ 4 * k + 3) → Numbered v

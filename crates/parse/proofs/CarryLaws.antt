@@ -13,21 +13,22 @@ use Rattle.ccg.specs.Tables.{slot, tableMay, subAt, subBytes, FlatTables}
 use Rattle.ccg.specs.Theory.{theoryOf, ParserTables}
 use Rattle.charset.specs.Set.{characters}
 use Rattle.chart.proofs.LayoutLaws.{rows-few}
-use Rattle.chart.specs.Layout.{rowLimit, arityIn, rowOf, rowCount, spanCount, cellAt}
+use Rattle.chart.specs.Layout.{rowLimit, arityIn, rowOf, rowCount, spanCount, cellAt, chartBytes}
 use Rattle.common.proofs.BelowLaws.{sum-same}
 use Rattle.common.specs.Below.{bitOf}
-use Rattle.engine.specs.Outcome.{Only, Answered, Parsed}
+use Rattle.engine.specs.Outcome.{Answered, Parsed}
 use Rattle.engine.specs.Roots.{rootTest}
 use Rattle.engine.specs.declared.Answer.{Answer}
 use Rattle.engine.specs.declared.Answer.the-variants.{Refused, None, One, Several}
 use Rattle.grammar.specs.Formed.{WellFormed}
 use Rattle.grammar.specs.Layout.{productions, startSort, argumentCount, result}
 use Rattle.parse.proofs.BookLaws.{book-count, book-arity, book-lists, book-parses}
-use Rattle.parse.specs.Outcome.{needed, RootsAre}
+use Rattle.parse.specs.Outcome.{needed}
+use Rattle.parse.specs.Roots.{RootsAre}
 use Rattle.parse.specs.Reading.{Reading, EntryList}
 use Rattle.theory.proofs.CountLaws.{counts-same}
 use Rattle.theory.proofs.SoundLaws.{bit-small}
-use Rattle.theory.specs.Counts.{Counts}
+use Rattle.theory.specs.Counts.{Only, Counts}
 use Rattle.theory.specs.Grammar.{Grammar, Spells, Parse}
 use Rattle.theory.specs.Tree.{Tree, leaf, node, Forest}
 
@@ -68,7 +69,7 @@ module _ (b : List ℕ) (formed : WellFormed b) (bytes : (k : ℕ) → getD b k 
   same-rows : rowCount (arityIn kept) (length kept) ≡ rowCount (argumentCount b) (productions b)
   same-rows = ap (λ (m : ℕ). rowCount (arityIn kept) m) same-count ∙ rows-same (arityIn kept) (argumentCount b) (productions b) same-arity
 
-  pub same-needed : (n : ℕ) → rowCount (arityIn kept) (length kept) * spanCount n ≡ needed b n
+  pub same-needed : (n : ℕ) → chartBytes (arityIn kept) (length kept) n ≡ needed b n
   unfolding needed
   same-needed n = ap (λ (m : ℕ). m * spanCount n) same-rows
 
@@ -127,12 +128,13 @@ module _ (b : List ℕ) (formed : WellFormed b) (bytes : (k : ℕ) → getD b k 
     parsed-carried c₀ l₀ r c l h =
         record {
           chart = record {
-            long = h .chart .long;
-            cells = λ p d i j lp ld ij jw. subst (λ (n : ℕ). Counts (EntryList b w p d i j) (getD c (cellAt (length w) n i j) 0)) (row-same-arity (arityIn kept) (argumentCount b) (productions b) p d lp same-arity)
-                (counts-same (λ (f : Forest). Spells g w p f d i j) (EntryList b w p d i j) (getD c (cellAt (length w) (rowOf (arityIn kept) p d) i j) 0)
+            entries = h .chart .entries;
+            long = h .chart .long ∙ ap (λ (x : ℕ). x * spanCount (length w)) same-rows;
+            cells = λ p d i j lp ld ij jw. subst (λ (n : ℕ). Counts (EntryList b w p d i j) (getD (h .chart .entries) (cellAt (length w) n i j) 0)) (row-same-arity (arityIn kept) (argumentCount b) (productions b) p d lp same-arity)
+                (counts-same (λ (f : Forest). Spells g w p f d i j) (EntryList b w p d i j) (getD (h .chart .entries) (cellAt (length w) (rowOf (arityIn kept) p d) i j) 0)
                 (λ f. book-lists b formed bytes counts chars subs tables w text p d i j lp ld ij jw f)
                 (h .chart .cells p d i j (omega (arith, same-count)) (omega (arith, same-arity p lp)) ij jw));
-            beyond = λ k m. h .chart .beyond k (omega (arith, ap (λ (x : ℕ). x * spanCount (length w)) same-rows, m));
+            whole = h .chart .whole;
           };
           answer = answered-same (Parse g (rootTest roots) w) (Reading b w) same-parses l₀ r l (h .answer);
         }
@@ -144,8 +146,8 @@ module _ (b : List ℕ) (formed : WellFormed b) (bytes : (k : ℕ) → getD b k 
   pub cut-count : length (take n counts) ≡ n
   cut-count = subst⁻¹ (λ (m : ℕ). length (take m counts) ≡ m) e (book-count b formed bytes counts chars subs tables)
 
-  pub cut-needed : (m : ℕ) → rowCount (arityIn (take n counts)) (length (take n counts)) * spanCount m ≡ needed b m
-  cut-needed m = subst⁻¹ (λ (k : ℕ). rowCount (arityIn (take k counts)) (length (take k counts)) * spanCount m ≡ needed b m) e (same-needed b formed bytes counts chars subs tables m)
+  pub cut-needed : (m : ℕ) → chartBytes (arityIn (take n counts)) (length (take n counts)) m ≡ needed b m
+  cut-needed m = subst⁻¹ (λ (k : ℕ). chartBytes (arityIn (take k counts)) (length (take k counts)) m ≡ needed b m) e (same-needed b formed bytes counts chars subs tables m)
 
   pub cut-tables : ParserTables (take n counts) chars subs
   cut-tables = subst⁻¹ (λ (k : ℕ). ParserTables (take k counts) chars subs) e (parser-tables b formed bytes counts chars subs tables)

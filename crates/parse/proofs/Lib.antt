@@ -4,3 +4,4 @@ pub mod BookLaws
 pub mod CarryLaws
 pub mod OutcomeLaws
 pub mod NumberLaws
+pub mod AnswerLaws

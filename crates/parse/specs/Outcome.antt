@@ -1,16 +1,14 @@
 -- The promise of the operation "reading a text" (01; demand 3), stated once, for every grammar, text, chart and buffer.
-use Prim.Native.Nat.{ℕ, _*_, _≤_, _<_}
+use Prim.Native.Nat.{ℕ}
 use mathlib.Core.Path.{_≡_}
 use mathlib.Core.List.{List, [], _∷_}
-use lib.Dec.{ltb, eqb}
-use lib.ListN.{length, getD}
-use Rattle.chart.specs.Layout.{textLimit, rowCount, spanCount}
-use Rattle.common.specs.Below.{bitOf}
+use lib.Dec.{ltb}
+use lib.ListN.{length}
+use Rattle.chart.specs.Layout.{textLimit, chartBytes}
 use Rattle.engine.specs.Outcome.{Parsed}
 use Rattle.engine.specs.declared.Answer.{Answer}
 use Rattle.engine.specs.declared.Answer.the-variants.{Refused}
-use Rattle.grammar.specs.Layout.{productions, startSort, argumentCount, result}
-use Rattle.grammar.specs.Limits.{productionLimit}
+use Rattle.grammar.specs.Layout.{productions, argumentCount}
 use Rattle.grammar.specs.Verdict.{refuseIf, inOrder}
 use Rattle.grammar.specs.declared.Verdict.{Verdict}
 use Rattle.grammar.specs.declared.Verdict.the-variants.{Accepted}
@@ -20,7 +18,7 @@ use Rattle.grammar.specs.declared.Verdict.the-variants.{Refused as Rejected}
 
 -- how many bytes the chart of a text of n characters needs: 01's A × (n + 1) × (n + 2) / 2
 unfoldable pub needed : List ℕ → ℕ → ℕ
-needed b n = rowCount (argumentCount b) (productions b) * spanCount n
+needed b n = chartBytes (argumentCount b) (productions b) n
 
 -- 10: the text is over its limit; the place is its length
 unfoldable pub tooLong : List ℕ → Verdict
@@ -42,9 +40,3 @@ AfterVerdict b w c₀ l₀ r c l (Rejected number place) = (r ≡ Refused number
 
 unfoldable pub Outcome : (b w c₀ l₀ : List ℕ) → Answer → (c l : List ℕ) → Type 0
 Outcome b w c₀ l₀ r c l = AfterVerdict b w c₀ l₀ r c l (refusal b w c₀)
-
--- A 1 for each production of the start sort.
-pub record RootsAre (b roots : List ℕ) : Type 0 where
-  pub long : length roots ≡ productionLimit
-  pub bits : (k : ℕ) → getD roots k 0 ≤ 1
-  pub starts : (p : ℕ) → p < productions b → getD roots p 0 ≡ bitOf (eqb (result b p) (startSort b))

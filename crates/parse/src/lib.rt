@@ -15,14 +15,12 @@ use grammar::layout::start_sort;
 use grammar::layout::wide;
 use grammar::limits::PRODUCTION_LIMIT;
 use priority::check_grammar;
-ghost use mathlib.Core.Path.{_≡_};
-ghost use mathlib.Core.List.{List, [], _∷_};
-ghost use Prim.Native.Nat.{ℕ, _<_, _≤_};
-ghost use lib.Dec.{eqb};
-ghost use lib.ListN.{length, getD};
+ghost use mathlib.Core.List.{[], _∷_};
+ghost use Prim.Native.Nat.{_<_};
 ghost use Rattle.grammar.specs.Formed.{WellFormed};
 ghost use Rattle.grammar.specs.Verdict.{inOrder};
-ghost use Rattle.parse.specs.Outcome.{Outcome, AfterVerdict, tooLong, tooShort, RootsAre};
+ghost use Rattle.parse.specs.Outcome.{Outcome, AfterVerdict, tooLong, tooShort};
+ghost use Rattle.parse.specs.Roots.{RootsAre};
 
 // Parses a text. The chart and the listing are lent; what they held before is never read.
 pub fn parse(book: &[u8], text: &[u8], chart: &mut [u8], listing: &mut [u8]) -> Answer

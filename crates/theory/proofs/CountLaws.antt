@@ -1,5 +1,5 @@
 -- Counts determine the number; and a chart that is sound and closed counts the lists of trees of each entry, and the parses.
-use Prim.Native.Nat.{ℕ, _*_, _≤_, _<_}
+use Prim.Native.Nat.{ℕ, zero, suc, _*_, _≤_, _<_}
 use mathlib.Core.Path.{_≡_, refl, sym, _∙_, ap₂, subst⁻¹}
 use mathlib.Core.Bool.{Bool, true}
 use mathlib.Core.List.{List}
@@ -22,47 +22,82 @@ use Rattle.theory.specs.Tree.{Tree, leaf, node, Forest}
 
 -- ---- counts
 
-not-fewer : {A : Type 0} (P : A → Type 0) (u v : ℕ) → Counts P u → Counts P v → u < v → ⊥
+-- The same by bounds: v things can be shown, and no more are there.
+pub record Bounds {A : Type 0} (P : A → Type 0) (v : ℕ) : Type 0 where
+  pub atMostTwo : v ≤ 2
+  -- at least v
+  pub one : 1 ≤ v → (x : A) × P x
+  pub two : 2 ≤ v → Two P
+  -- at most v
+  pub some : (x : A) → P x → 1 ≤ v
+  pub same : v ≤ 1 → (x y : A) → P x → P y → x ≡ y
+
+pub counts-bounds : {A : Type 0} (P : A → Type 0) (v : ℕ) → Counts P v → Bounds P v
+unfolding Counts
+counts-bounds P zero a =
+    record { atMostTwo = omega arith; one = λ h. absurd (omega arith); two = λ h. absurd (omega arith); some = λ x p. absurd (a x p); same = λ h x y p q. absurd (a x p) }
+counts-bounds P (suc zero) (x, a) =
+    record {
+      atMostTwo = omega arith;
+      one = λ h. (x, a .holds);
+      two = λ h. absurd (omega arith);
+      some = λ y p. le-refl 1;
+      same = λ h y z p q. a .alone y p ∙ sym (a .alone z q);
+    }
+counts-bounds P (suc (suc zero)) a =
+    record { atMostTwo = le-refl 2; one = λ h. (a .0, a .2); two = λ h. a; some = λ x p. omega arith; same = λ h. absurd (omega arith) }
+counts-bounds P (suc (suc (suc v))) a = absurd a
+
+pub bounds-counts : {A : Type 0} (P : A → Type 0) (v : ℕ) → Bounds P v → Counts P v
+unfolding Counts
+bounds-counts P zero a = λ x p. omega (arith, a .some x p)
+bounds-counts P (suc zero) a = let t = a .one (le-refl 1) in (t .0, record { holds = t .1; alone = λ y p. a .same (le-refl 1) y (t .0) p (t .1) })
+bounds-counts P (suc (suc zero)) a = a .two (le-refl 2)
+bounds-counts P (suc (suc (suc v))) a = omega (arith, a .atMostTwo)
+
+not-fewer : {A : Type 0} (P : A → Type 0) (u v : ℕ) → Bounds P u → Bounds P v → u < v → ⊥
 not-fewer P u v a b l =
     by-cases (decLt 1 v)
     (λ h. let t = b .two h in t .4 (a .same (omega (arith, b .atMostTwo)) (t .0) (t .1) (t .2) (t .3)))
     (λ h. let t = b .one (omega arith) in omega (arith, a .some (t .0) (t .1)))
 
+-- a count is one number
 pub counts-unique : {A : Type 0} (P : A → Type 0) (u v : ℕ) → Counts P u → Counts P v → u ≡ v
 counts-unique P u v a b =
     meets
-    (λ l. not-fewer P u v a b l)
-    (λ l. not-fewer P v u b a l)
+    (λ l. not-fewer P u v (counts-bounds P u a) (counts-bounds P v b) l)
+    (λ l. not-fewer P v u (counts-bounds P v b) (counts-bounds P u a) l)
 
 -- the same count for a predicate that says the same
 pub counts-same : {A : Type 0} (P Q : A → Type 0) (v : ℕ) → ((x : A) → P x ↔ Q x) → Counts P v → Counts Q v
-counts-same P Q v e a =
-    record {
-      atMostTwo = a .atMostTwo;
-      one = λ h. let t = a .one h in (t .0, e (t .0) .0 (t .1));
-      two = λ h. let t = a .two h in (t .0, t .1, e (t .0) .0 (t .2), e (t .1) .0 (t .3), t .4);
-      some = λ x q. a .some x (e x .1 q);
-      same = λ h x y q r. a .same h x y (e x .1 q) (e y .1 r);
-    }
+unfolding Counts
+counts-same P Q zero e a = λ x q. a x (e x .1 q)
+counts-same P Q (suc zero) e (x, a) = (x, record { holds = e x .0 (a .holds); alone = λ y q. a .alone y (e y .1 q) })
+counts-same P Q (suc (suc zero)) e t = (t .0, t .1, e (t .0) .0 (t .2), e (t .1) .0 (t .3), t .4)
+counts-same P Q (suc (suc (suc v))) e a = a
 
 -- ---- each entry
 
 module _ (g : Grammar) (w : List ℕ) (c : Chart) (sound : Sound g w c) (closed : Closed g w c) where
   pub entry-counts : (p d i j : ℕ) → p < g .count → d ≤ g .arity p → i ≤ j → j ≤ length w → c p d i j ≤ 2 → Counts (λ (f : Forest). Spells g w p f d i j) (c p d i j)
   entry-counts p d i j lp ld ij jw small =
-      record {
+      bounds-counts (λ (f : Forest). Spells g w p f d i j) (c p d i j)
+      (record {
         atMostTwo = small;
         one = sound .shown p d i j lp ld ij jw .one;
         two = sound .shown p d i j lp ld ij jw .two;
         some = λ f s. spells-counted g w c closed p f d i j lp ld s;
         same = λ h f k s r. spells-same g w c closed p f k d i j lp ld h s r;
-      }
+      })
 
 -- ---- the parses
 
 -- v p is the number of lists of trees of production p for the whole text
 module _ (g : Grammar) (w : List ℕ) (roots : ℕ → Bool) (v : ℕ → ℕ)
     (counts : (p : ℕ) → p < g .count → Counts (λ (f : Forest). Spells g w p f (g .arity p) 0 (length w)) (v p)) where
+  bounds : (p : ℕ) → p < g .count → Bounds (λ (f : Forest). Spells g w p f (g .arity p) 0 (length w)) (v p)
+  bounds p l = counts-bounds (λ (f : Forest). Spells g w p f (g .arity p) 0 (length w)) (v p) (counts p l)
+
   root : ℕ → ℕ
   root p = bitOf (roots p) * v p
 
@@ -78,7 +113,7 @@ module _ (g : Grammar) (w : List ℕ) (roots : ℕ → Bool) (v : ℕ → ℕ)
   unfolding root
   root-one p l h =
       let a = product-one (bitOf (roots p)) (v p) h in
-      let s = counts p l .one (a .1) in
+      let s = bounds p l .one (a .1) in
       (node p (s .0), parse-of p (s .0) l (bit-one (roots p) (a .0)) (s .1), (s .0, refl))
 
   root-two : (p : ℕ) → p < g .count → 2 ≤ root p → Two (Parse g roots w)
@@ -86,7 +121,7 @@ module _ (g : Grammar) (w : List ℕ) (roots : ℕ → Bool) (v : ℕ → ℕ)
   root-two p l h =
       ⊎-elim
       (λ a. absurd (omega (arith, a .0, bit-small (roots p))))
-      (λ a. let s = counts p l .two (a .1) in
+      (λ a. let s = bounds p l .two (a .1) in
       let e = bit-one (roots p) (a .0) in
       (node p (s .0), node p (s .1), parse-of p (s .0) l e (s .2), parse-of p (s .1) l e (s .3), λ q. s .4 (node-forest p p (s .0) (s .1) q)))
       (product-two (bitOf (roots p)) (v p) h)
@@ -112,7 +147,7 @@ module _ (g : Grammar) (w : List ℕ) (roots : ℕ → Bool) (v : ℕ → ℕ)
 
   root-counted : (p : ℕ) (f : Forest) → Parse g roots w (node p f) → (p < g .count) × (1 ≤ root p)
   unfolding Parse root
-  root-counted p f s = (s .0, one-product (bitOf (roots p)) (v p) (true-bit (roots p) (s .1)) (counts p (s .0) .some f (spells-of p f s)))
+  root-counted p f s = (s .0, one-product (bitOf (roots p)) (v p) (true-bit (roots p) (s .1)) (bounds p (s .0) .some f (spells-of p f s)))
 
   some-parse : (t : Tree) → Parse g roots w t → 1 ≤ rootSum g roots v
   unfolding Parse rootSum root
@@ -136,15 +171,16 @@ module _ (g : Grammar) (w : List ℕ) (roots : ℕ → Bool) (v : ℕ → ℕ)
       let b = root-counted q k r in
       let e : p ≡ q = meets (λ l. one-root h p q l (b .0) (a .1) (b .1)) (λ l. one-root h q p l (a .0) (b .1) (a .1)) in
       let r′ = subst⁻¹ (λ (n : ℕ). Spells g w n k (g .arity n) 0 (length w)) e (spells-of q k r) in
-      ap₂ node e (counts p (s .0) .same (root-small p (s .0) (s .1) h) f k (spells-of p f s) r′)
+      ap₂ node e (bounds p (s .0) .same (root-small p (s .0) (s .1) h) f k (spells-of p f s) r′)
 
   -- Parses of every size are counted, and no other.
   pub parse-counts : Counts (Parse g roots w) (cap (rootSum g roots v))
   parse-counts =
-      record {
+      bounds-counts (Parse g roots w) (cap (rootSum g roots v))
+      (record {
         atMostTwo = omega arith;
         one = λ h. let (p, l, k) = first-root (omega arith) in let s = root-one p l k in (s .0, s .1);
         two = λ h. two-parses (omega arith);
         some = λ t s. omega (arith, some-parse t s);
         same = λ h t u s r. same-parse (omega arith) t u s r;
-      }
+      })

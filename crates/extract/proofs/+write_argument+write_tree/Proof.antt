@@ -104,10 +104,11 @@ write-argument-same-length-2 : (t : ℕ) → write-argument-lts.Need-same-length
 write-argument-same-length-2 t c = c .before .before .write-tree .kept .1 .1 .1 .1 .1 .1 .0
 
 write-argument-returns-3 : (t : ℕ) → write-argument-lts.Need-returns-3 (write-argument-claims t) (write-argument-at t) write-argument.Post
+unfolding theoryOf
 write-argument-returns-3 t c =
     let l = child-there (c .before .before .before .before .before .before .before .before .before .before .before .before .before .before .before .pre .1 .0) (c .before .before .before .before .before .before .before .before .before .before .before .before .before .before .before .args .p) (c .before .before .before .before .before .before .before .before .before .before .before .before .before .before .before .args .d) (c .before .before .before .before .before .before .before .before .before .before .before .before .before .before .before .args .m) (c .before .before .before .before .before .before .before .before .before .before .before .before .before .before .before .args .j) (c .before .before .before .before .first-child .result) (c .before .before .before .before .first-child .ensures) (sym (c .before .before .before .before .before .before .char-fits .ensures) ∙ c .before .before .before .before .before .if2 .left) (c .before .before .before .before .before .before .before .before .before .before .before .before .before .before .before .pre .1 .1 .1) in
     let v = c .before .before .write-tree .ensures in
-    (node (c .before .before .before .before .first-child .result) (v .0), node-stands (c .before .before .before .before .before .before .before .before .before .before .before .before .before .before .before .args .counts .now) (c .before .before .before .before .before .before .before .before .before .before .before .before .before .before .before .args .chars .now) (c .before .before .before .before .before .before .before .before .before .before .before .before .before .before .before .args .subs .now) (c .before .before .before .before .before .before .before .before .before .before .before .before .before .before .before .args .text .now) (c .before .before .before .before .before .before .before .before .before .before .before .before .before .before .before .args .p) (c .before .before .before .before .before .before .before .before .before .before .before .before .before .before .before .args .d) (c .before .before .before .before .before .before .before .before .before .before .before .before .before .before .before .args .m) (c .before .before .before .before .before .before .before .before .before .before .before .before .before .before .before .args .j) (c .before .before .before .before .first-child .result) (v .0) l (c .before .before .before .before .first-child .ensures .stands l .0) (v .1), v .2)
+    (node (c .before .before .before .before .first-child .result) (v .trees), node-stands (c .before .before .before .before .before .before .before .before .before .before .before .before .before .before .before .args .counts .now) (c .before .before .before .before .before .before .before .before .before .before .before .before .before .before .before .args .chars .now) (c .before .before .before .before .before .before .before .before .before .before .before .before .before .before .before .args .subs .now) (c .before .before .before .before .before .before .before .before .before .before .before .before .before .before .before .args .text .now) (c .before .before .before .before .before .before .before .before .before .before .before .before .before .before .before .args .p) (c .before .before .before .before .before .before .before .before .before .before .before .before .before .before .before .args .d) (c .before .before .before .before .before .before .before .before .before .before .before .before .before .before .before .args .m) (c .before .before .before .before .before .before .before .before .before .before .before .before .before .before .before .args .j) (c .before .before .before .before .first-child .result) (v .trees) l (c .before .before .before .before .first-child .ensures .stands l .0) (v .spelled), v .written)
 
 abbrev write-tree-Inv-loop : write-tree-lts.InvT-loop
 write-tree-Inv-loop chart text counts chars subs bases out₀ at q i j next₀ ends arity d₀ out next d = Begun counts chars subs text q i d ends out₀ next₀ out next
@@ -182,8 +183,13 @@ write-tree-same-length-2 t c = written-long (listings (c .before .loop .inv .tre
 write-tree-returns-2 : (t : ℕ) → write-tree-lts.Need-returns-2 (write-tree-claims t) (write-tree-at t) write-tree.Post write-tree-Inv-loop write-tree-μ-loop
 unfolding theoryOf
 write-tree-returns-2 t c =
-    let e : c .before .loop .d ≡ getD (c .before .before .before .before .before .before .before .before .before .before .before .before .before .before .before .before .before .args .counts .now) (c .before .before .before .before .before .before .before .before .before .before .before .before .before .before .before .before .before .args .q) 0 = omega (arith, c .loop-test .left, c .before .before .wide .ensures, c .before .loop .inv .few) in
-    begun-all (c .before .before .before .before .before .before .before .before .before .before .before .before .before .before .before .before .before .args .counts .now) (c .before .before .before .before .before .before .before .before .before .before .before .before .before .before .before .before .before .args .chars .now) (c .before .before .before .before .before .before .before .before .before .before .before .before .before .before .before .before .before .args .subs .now) (c .before .before .before .before .before .before .before .before .before .before .before .before .before .before .before .before .before .args .text .now) (c .before .before .before .before .before .before .before .before .before .before .before .before .before .before .before .before .before .args .q) (c .before .before .before .before .before .before .before .before .before .before .before .before .before .before .before .before .before .args .i) (c .before .before .before .before .before .before .before .before .before .before .before .before .before .before .before .before .before .args .j) (c .before .loop .d) (c .before .before .before .before .find-splits .result) (c .before .before .before .before .before .before .before .before .before .before .before .before .before .before .before .before .before .args .out .now) (c .before .before .before .before .before .before .before .before .before .before .before .before .before .before .before .before .before .args .at) (c .before .before .before .before .before .before .before .before .put-number .last .0) (c .before .before .before .before .before .before .before .before .put-number .result) (c .before .loop .out) (c .before .loop .next) (c .before .loop .inv) e (c .before .before .before .before .find-splits .ensures .finishes) (c .before .before .before .before .before .before .before .before .put-number .ensures)
+    let s = c .before .before .before .before .before .before .before .before .before .before .before .before .before .before .before .before .before in
+    let a = s .args in
+    let needs = s .pre .1 in
+    let put = c .before .before .before .before .before .before .before .before .put-number in
+    let splits = c .before .before .before .before .find-splits in
+    let e : c .before .loop .d ≡ getD (a .counts .now) (a .q) 0 = omega (arith, c .loop-test .left, c .before .before .wide .ensures, c .before .loop .inv .few) in
+    begun-all (needs .0) (a .q) (a .i) (a .j) (c .before .loop .d) (splits .result) (a .out .now) (a .at) (put .last .0) (put .result) (c .before .loop .out) (c .before .loop .next) (needs .1 .0 .0) (needs .1 .0 .1) (needs .1 .0 .2) (c .before .loop .inv) e (splits .ensures .finishes) (put .ensures)
 
 pub +write-argument+write-tree-spec : {M : Type 1} → statement M
 +write-argument+write-tree-spec =
