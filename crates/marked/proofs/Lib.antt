@@ -2,4 +2,5 @@
 
 pub mod CaseTests
 pub mod CaseLaws
+pub mod PromisedLaws
 pub mod Marked

@@ -13,7 +13,8 @@ use Rattle.grammar.specs.Layout.{argumentCount, rangeCount, productionAt, resul
 use Rattle.grammar.specs.Verdict.{firstRefusal}
 use Rattle.marked.proofs.CaseLaws.{table-true}
 use Rattle.marked.proofs.CaseTests.{same, allBytes, occurrences, grammarOf, derives, parses, Spans, chartOf, emptyTest, stepTest, parseSum, accepts, refuses, tests, every, Shown, caseTest, tableTest}
-use Rattle.marked.specs.Cases.{Statement, All, caseA, caseB, caseC, caseD, caseE, caseF, caseG, caseH, caseI, caseJ, caseK, table}
+use Rattle.marked.proofs.PromisedLaws.{all-promised}
+use Rattle.marked.specs.Cases.{Statement, Promised, All, caseA, caseB, caseC, caseD, caseE, caseF, caseG, caseH, caseI, caseJ, caseK, table}
 use Rattle.parse.specs.Outcome.{needed, tooLong, tooShort, refusal}
 use Rattle.priority.specs.Chain.{through}
 use Rattle.priority.specs.Check.{circle, checked}
@@ -114,3 +115,7 @@ tested = refl
 
 pub marked-cases : All Statement table
 marked-cases = table-true shown tested
+
+-- so any outcome of reading each of them is the one marked
+pub marked-outcomes : All Promised table
+marked-outcomes = all-promised table marked-cases

@@ -1,10 +1,14 @@
 -- The marked cases of 01, (a) to (k), stated for the definitions: which trees are readings, and what is refused. No program is run.
-use Prim.Native.Nat.{ℕ}
+use Prim.Native.Nat.{ℕ, _*_, _≤_}
 use mathlib.Core.Path.{_≡_}
 use mathlib.Core.List.{List, [], _∷_, _++_}
-use lib.ListN.{replicate}
+use lib.ListN.{length, replicate}
+use Rattle.common.specs.Lists.{overwritten}
+use Rattle.engine.specs.declared.Answer.{Answer}
+use Rattle.engine.specs.declared.Answer.the-variants.{None, One, Several, Refused as NotRead}
+use Rattle.extract.specs.Written.{bytesOf}
 use Rattle.grammar.specs.declared.Verdict.the-variants.{Accepted, Refused}
-use Rattle.parse.specs.Outcome.{refusal}
+use Rattle.parse.specs.Outcome.{refusal, Outcome}
 use Rattle.parse.specs.Reading.{Reading}
 use Rattle.priority.specs.Check.{checked}
 use Rattle.theory.specs.Counts.{Only, Two}
@@ -39,6 +43,19 @@ pub record Case : Type 0 where
 
 unfoldable pub Statement : Case → Type 0
 Statement c = Says (c .book) (c .text) (replicate (c .room) 0) (c .expected)
+
+-- The same of the operation's promise: what its answer is, and what the buffer of the listing, which held l₀, holds afterwards.
+unfoldable pub Answers : Expected → (l₀ : List ℕ) → Answer → (l : List ℕ) → Type 0
+Answers noReading l₀ r l = (r ≡ None) × (l ≡ l₀)
+Answers (oneReading numbers) l₀ r l = 2 * length numbers ≤ length l₀ → (r ≡ One (length numbers)) × (l ≡ overwritten (bytesOf numbers) l₀)
+Answers severalReadings l₀ r l = (r ≡ Several) × (l ≡ l₀)
+Answers (badGrammar number place) l₀ r l = (r ≡ NotRead number place) × (l ≡ l₀)
+Answers (refused number place) l₀ r l = (r ≡ NotRead number place) × (l ≡ l₀)
+
+-- any outcome, for every chart of the case's length and every buffer, whatever they hold
+unfoldable pub Promised : Case → Type 0
+Promised c =
+    (chart₀ l₀ : List ℕ) (r : Answer) (chart l : List ℕ) → length chart₀ ≡ c .room → Outcome (c .book) (c .text) chart₀ l₀ r chart l → Answers (c .expected) l₀ r l
 
 -- P holds of each member of a list.
 abbrev pub All : {A : Type 0} → (A → Type 0) → List A → Type 0

@@ -1,5 +1,5 @@
 -- What an outcome of parsing says: refusals 1 to 9, 10 and 20 exactly under their conditions, and otherwise the answer over the grammar's own trees.
-use Prim.Native.Nat.{ℕ, _≤_, _<_}
+use Prim.Native.Nat.{ℕ, _*_, _≤_, _<_}
 use mathlib.Core.Path.{_≡_, refl, sym, _∙_, ap, ap₂, subst}
 use mathlib.Core.List.{List}
 use mathlib.Core.Logic.{_↔_, _⊎_, inl, inr, ⊎-elim, by-cases}
@@ -10,8 +10,8 @@ use borrow.Author.Tests.{lt-ltb, le-ltb}
 use Rattle.chart.specs.Layout.{textLimit}
 use Rattle.engine.specs.Outcome.{Answered, Parsed}
 use Rattle.engine.specs.declared.Answer.{Answer}
-use Rattle.engine.specs.declared.Answer.the-variants.{Refused}
-use Rattle.engine.proofs.AnswerLaws.{refused-is-long}
+use Rattle.engine.specs.declared.Answer.the-variants.{One, Refused}
+use Rattle.engine.proofs.AnswerLaws.{one-exactly, refused-is-long}
 use Rattle.grammar.specs.Layout.{productions, argumentCount}
 use Rattle.grammar.specs.declared.Verdict.{Verdict}
 use Rattle.grammar.specs.declared.Verdict.the-variants.{Accepted, Refused as Rejected}
@@ -25,6 +25,9 @@ same-number e = cc
 
 same-place : {n k m j : ℕ} → Refused n k ≡ Refused m j → k ≡ j
 same-place e = cc
+
+refused-one : {A : Type 0} {m k n : ℕ} → Refused m k ≡ One n → A
+refused-one e = let z : _≡_ {A = ℕ} 0 1 = cc in absurd (omega arith)
 
 -- ---- the refusals before a text is parsed
 
@@ -41,7 +44,7 @@ module _ (b w c₀ : List ℕ) where
   abbrev TooShort : Type 0
   TooShort = (checked b ≡ Accepted) × (length w ≤ textLimit) × (length c₀ < needed b (length w))
 
-  refused-grammar : (n k : ℕ) → checked b ≡ Rejected n k → refusal b w c₀ ≡ Rejected n k
+  pub refused-grammar : (n k : ℕ) → checked b ≡ Rejected n k → refusal b w c₀ ≡ Rejected n k
   unfolding refusal
   refused-grammar n k e = rw e refl
 
@@ -74,14 +77,17 @@ module _ (b w c₀ : List ℕ) where
 
 module _ (b w c₀ l₀ : List ℕ) (r : Answer) (c l : List ℕ) (o : Outcome b w c₀ l₀ r c l) where
   -- a refusal is the answer, and nothing is changed
-  refused-outcome : (n k : ℕ) → refusal b w c₀ ≡ Rejected n k → (r ≡ Refused n k) × (c ≡ c₀) × (l ≡ l₀)
+  pub refused-outcome : (n k : ℕ) → refusal b w c₀ ≡ Rejected n k → (r ≡ Refused n k) × (c ≡ c₀) × (l ≡ l₀)
   unfolding Outcome AfterVerdict
   refused-outcome n k e = subst (AfterVerdict b w c₀ l₀ r c l) e o
 
   -- otherwise chart and answer are those of the grammar's own trees
-  pub parsed-outcome : Readable b w c₀ → Parsed (Reading b w) (EntryList b w) (argumentCount b) (productions b) (length w) c₀ l₀ r c l
+  pub accepted-outcome : refusal b w c₀ ≡ Accepted → Parsed (Reading b w) (EntryList b w) (argumentCount b) (productions b) (length w) c₀ l₀ r c l
   unfolding Outcome AfterVerdict
-  parsed-outcome h = subst (AfterVerdict b w c₀ l₀ r c l) (readable-accepted b w c₀ h) o
+  accepted-outcome e = subst (AfterVerdict b w c₀ l₀ r c l) e o
+
+  pub parsed-outcome : Readable b w c₀ → Parsed (Reading b w) (EntryList b w) (argumentCount b) (productions b) (length w) c₀ l₀ r c l
+  parsed-outcome h = accepted-outcome (readable-accepted b w c₀ h)
 
   pub answered-outcome : Readable b w c₀ → Answered (Reading b w) l₀ r l
   answered-outcome h = parsed-outcome h .answer
@@ -139,3 +145,15 @@ module _ (b w c₀ l₀ : List ℕ) (r : Answer) (c l : List ℕ) (o : Outcome b
         (readable-or b w c₀)),
     (λ h. refused-outcome 20 (needed b (length w)) (refused-short b w c₀ (h .0, h .1, omega (arith, h .2, h .3))) .0 ∙ ap (Refused 20) (sym (h .2))),
   )
+
+  -- One comes only with room for its listing.
+  pub one-fits : (n : ℕ) → r ≡ One n → 2 * n ≤ length l₀
+  one-fits n e =
+      ⊎-elim
+      (λ (m, j, h). refused-one (sym (refused-outcome m j (refused-grammar b w c₀ m j h) .0) ∙ e))
+      (⊎-elim
+      (λ h. refused-one (sym (refused-outcome 10 (length w) (refused-long b w c₀ h) .0) ∙ e))
+      (⊎-elim
+      (λ h. refused-one (sym (refused-outcome 20 (needed b (length w)) (refused-short b w c₀ h) .0) ∙ e))
+      (λ h. one-exactly (Reading b w) l₀ r l (answered-outcome h) n .0 e .3)))
+      (readable-or b w c₀)

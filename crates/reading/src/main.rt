@@ -5,7 +5,7 @@ use libc::STDIN_FILENO;
 use libc::STDOUT_FILENO;
 use parse::parse;
 use report::print_refusal;
-ghost use Prim.Native.Nat.{_+_, _≤_, _<_};
+ghost use Prim.Native.Nat.{_+_, _*_, _≤_, _<_};
 ghost use lib.ListN.{length};
 
 fn main() {
@@ -41,10 +41,9 @@ fn print_word(word: &[u8]) {
 }
 
 // The first `count` numbers of a listing, each behind a space: number by number, since the line may be longer than a buffer.
-fn print_listing(listing: &[u8], count: usize) {
-    if listing.len() / 2 < count {
-        return;
-    }
+fn print_listing(listing: &[u8], count: usize)
+    requires { ⌜ 2 * count ≤ length (now listing) ⌝ }
+{
     print_word(b"one");
     let mut at = 0;
     while at < count {

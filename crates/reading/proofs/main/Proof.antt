@@ -2,6 +2,7 @@
 use native.Mathlib.Omega.{arith}
 use lib.ListN.{length-take}
 use borrow.Author.Needs.{needs}
+use Rattle.parse.proofs.AnswerLaws.{one-fits}
 use Rattle.reading.proofs.main.Statement.{statement}
 use Rattle.reading.proofs.main.Tie as tie
 
@@ -66,7 +67,9 @@ slice-aggregate-print-listing : tie.Need-slice-aggregate-print-listing
 slice-aggregate-print-listing c = search needs
 
 print-listing-requires : tie.Need-print-listing-requires
-print-listing-requires c κs = search needs
+print-listing-requires c κs =
+    let p = c .before .before .before .before .before .before .parse in
+    omega (arith, one-fits _ _ _ _ _ _ _ (p .ensures) (c .before .before .count .given .0 .0) (c .before .before .count .given .1), p .kept .1 .1 .1 .0)
 
 enum-told-2 : tie.Need-enum-told-2
 enum-told-2 c = search needs

@@ -11,9 +11,6 @@ Inv-loop listing count at₀ t5 at = at ≤ count
 abbrev μ-loop : tie.MeasureT-loop
 μ-loop listing count at₀ t5 at = count - at
 
-returns : tie.Need-returns Inv-loop μ-loop
-returns c = search needs
-
 slice-aggregate-print-word : tie.Need-slice-aggregate-print-word Inv-loop μ-loop
 slice-aggregate-print-word c = search needs
 
@@ -44,8 +41,8 @@ slice-aggregate-print-word-2 c = search needs
 print-word-requires-2 : tie.Need-print-word-requires-2 Inv-loop μ-loop
 print-word-requires-2 c κs = search needs
 
-returns-2 : tie.Need-returns-2 Inv-loop μ-loop
-returns-2 c = search needs
+returns : tie.Need-returns Inv-loop μ-loop
+returns c = search needs
 
 pub print-listing-spec : {M : Type 1} → statement M
 print-listing-spec =
@@ -53,7 +50,6 @@ print-listing-spec =
     (tie.spec
     Inv-loop
     μ-loop
-    returns
     slice-aggregate-print-word
     print-word-requires
     loop-holds
@@ -64,4 +60,4 @@ print-listing-spec =
     loop-again
     slice-aggregate-print-word-2
     print-word-requires-2
-    returns-2)
+    returns)
