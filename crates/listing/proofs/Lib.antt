@@ -6,3 +6,4 @@ pub mod WalkLaws
 pub mod EndLaws
 pub mod AnswerLaws
 pub mod ReadingLaws
+pub mod RefusedLaws

@@ -2,26 +2,21 @@
 -- is found right; and each refusal is given only under its condition.
 use Prim.Native.Nat.{ℕ, _+_, _*_, _/_, _%_, _≤_, _<_}
 use mathlib.Core.Path.{_≡_, refl, sym, _∙_, ap, subst⁻¹}
-use mathlib.Core.Bool.{_||_}
-use mathlib.Core.List.{List, [], _∷_, _++_}
-use mathlib.Core.Logic.{_↔_, _⊎_, inl, inr, ⊎-elim}
+use mathlib.Core.List.{List, [], _∷_}
+use mathlib.Core.Logic.{_↔_}
 use native.Mathlib.Omega.{arith}
-use lib.Dec.{ltb, eqb}
 use lib.ListN.{length, getD, take, drop}
 use lib.Seq.{take-at}
-use borrow.Author.Tests.{ltb-true, eqb-true, le-ltb, ne-eqb}
+use borrow.Author.Tests.{le-ltb, ne-eqb}
 use Rattle.ccg.proofs.FlatLaws.{flat-length, flat-result, flat-trees}
-use Rattle.ccg.specs.Ccg.{Class, Line}
 use Rattle.ccg.specs.Flat.{flatGrammar, plainClass}
 use Rattle.charset.specs.Set.{characters}
-use Rattle.chart.specs.Layout.{textLimit}
-use Rattle.common.proofs.BoolLaws.{or-cases, true-or-false}
 use Rattle.common.specs.Lists.{overwritten, joined}
 use Rattle.engine.specs.Outcome.{Answered}
 use Rattle.engine.specs.declared.Answer.the-variants.{One}
 use Rattle.extract.proofs.WrittenLaws.{bytes-long}
 use Rattle.extract.specs.Written.{twoBytes, bytesOf}
-use Rattle.grammar.proofs.VerdictLaws.{and-first, and-second, refuse-case, FirstIn, here, there, order-first}
+use Rattle.grammar.proofs.VerdictLaws.{and-first, and-second}
 use Rattle.grammar.specs.Formed.{WellFormed}
 use Rattle.grammar.specs.Layout.{startSort}
 use Rattle.grammar.specs.Verdict.{andThen, inOrder, unlessRefused}
@@ -30,14 +25,12 @@ use Rattle.grammar.specs.declared.Verdict.the-variants.{Accepted}
 use Rattle.listing.proofs.TerminalLaws.{OwnNumbers}
 use Rattle.listing.proofs.TreeLaws.{judge-right}
 use Rattle.listing.specs.Answer.{byteLimit, badListing, judged, afterVerdict, listingAnswer}
-use Rattle.listing.specs.Judge.{isRight, dueAfter, textAfter, judge}
 use Rattle.listing.specs.Numbers.{numbersOf}
 use Rattle.listing.specs.declared.ListingAnswer.{ListingAnswer}
-use Rattle.listing.specs.declared.ListingAnswer.the-variants.{Right, Wrong, Refused}
+use Rattle.listing.specs.declared.ListingAnswer.the-variants.{Right, Refused}
 use Rattle.parse.specs.Outcome.{tooLong, tooShort, refusal, AfterVerdict, Outcome}
 use Rattle.parse.specs.Reading.{Reading}
 use Rattle.priority.proofs.CheckLaws.{accepted-formed}
-use Rattle.priority.proofs.RefusalLaws.{checked-number}
 use Rattle.priority.specs.Check.{checked}
 use Rattle.theory.specs.Tree.{Tree, listing}
 use Rattle.grammar.specs.declared.Verdict.the-variants.{Refused as Rejected}
@@ -86,7 +79,7 @@ accepted-if-right (Rejected n p) a e = refused-not-right n p e
 
 module _ (b w l : List ℕ) where
   -- the refusals, in order
-  abbrev refusals : Verdict
+  abbrev pub refusals : Verdict
   refusals = inOrder (checked b ∷ tooLong w ∷ badListing l ∷ [])
 
   -- without a refusal the numbers decide, and the grammar is well-formed
@@ -112,7 +105,7 @@ listing-right b bytes w l = (
 -- ---- what parsing answers with one
 
 -- an even byte count within the limit is not refused
-listing-accepted : (l : List ℕ) → length l % 2 ≡ 0 → length l ≤ byteLimit → badListing l ≡ Accepted
+pub listing-accepted : (l : List ℕ) → length l % 2 ≡ 0 → length l ≤ byteLimit → badListing l ≡ Accepted
 unfolding badListing
 listing-accepted l even short = rw (ne-eqb (length l % 2) 1 (λ e. omega arith), le-ltb byteLimit (length l) short) refl
 
@@ -149,70 +142,3 @@ one-right b bytes w c₀ l₀ n c l outcome small =
     let (t, only, count, enough, wrote) = answered in
     subst⁻¹ (λ (m : ℕ). listingAnswer b w (take (2 * m) l) ≡ Right) count
     (reading-written b bytes w l₀ l t good short (only .holds) (omega arith) wrote)
-
--- ---- refusals
-
-wrong-no-refusal : (k number place : ℕ) → Wrong k ≡ Refused number place → ⊥
-wrong-no-refusal k number place e = let z : _≡_ {A = ℕ} 0 1 = cc in omega arith
-
--- going through the numbers never refuses
-judge-no-refusal : (g : List Line) (ns : List ℕ) (dues : List Class) (w : List ℕ) (k number place : ℕ) → judge g ns dues w k ≡ Refused number place → ⊥
-unfolding judge
-judge-no-refusal g [] [] [] k number place e = let z : _≡_ {A = ℕ} 0 1 = cc in omega arith
-judge-no-refusal g [] [] (c ∷ w) k number place e = wrong-no-refusal k number place e
-judge-no-refusal g [] (due ∷ dues) w k number place e = wrong-no-refusal k number place e
-judge-no-refusal g (n ∷ ns) [] w k number place e = wrong-no-refusal k number place e
-judge-no-refusal g (n ∷ ns) (due ∷ dues) w k number place e =
-    ⊎-elim
-    (λ t. judge-no-refusal g ns (dueAfter g n ++ dues) (textAfter g w n) (k + 1) number place (rw t at e))
-    (λ t. wrong-no-refusal k number place (rw t at e))
-    (true-or-false (isRight g due w n))
-
--- a refusal that isn't of the numbers is the verdict's
-refused-by-verdict : (v : Verdict) (a : ListingAnswer) (number place : ℕ) → (a ≡ Refused number place → ⊥) → unlessRefused Refused v a ≡ Refused number place
-    → v ≡ Rejected number place
-refused-by-verdict Accepted a number place h e = absurd (h e)
-refused-by-verdict (Rejected n p) a number place h e = cc
-
--- A refusal is the first of the grammar's, 10 and 11.
-pub refused-if : (b w l : List ℕ) (number place : ℕ) → listingAnswer b w l ≡ Refused number place
-    → inOrder (checked b ∷ tooLong w ∷ badListing l ∷ []) ≡ Rejected number place
-unfolding listingAnswer afterVerdict judged
-refused-if b w l number place e =
-    refused-by-verdict (refusals b w l) (judged b w l) number place
-    (λ h. judge-no-refusal (flatGrammar b) (numbersOf l) (plainClass b (startSort b) ∷ []) w 0 number place h)
-    e
-
-long-refused : (w : List ℕ) {k p : ℕ} → tooLong w ≡ Rejected k p → (k ≡ 10) × (textLimit < length w) × (p ≡ length w)
-unfolding tooLong
-long-refused w e =
-    refuse-case (λ k p. (k ≡ 10) × (textLimit < length w) × (p ≡ length w)) (ltb textLimit (length w)) 10 (length w) e
-    (λ t. (refl, ltb-true textLimit (length w) t, refl))
-
-listing-refused : (l : List ℕ) {k p : ℕ} → badListing l ≡ Rejected k p → (k ≡ 11) × ((length l % 2 ≡ 1) ⊎ (byteLimit < length l)) × (p ≡ length l)
-unfolding badListing
-listing-refused l e =
-    let odd = eqb (length l % 2) 1 in
-    let tooMany = ltb byteLimit (length l) in
-    refuse-case (λ k p. (k ≡ 11) × ((length l % 2 ≡ 1) ⊎ (byteLimit < length l)) × (p ≡ length l)) (odd || tooMany) 11 (length l) e
-    (λ t. (refl, ⊎-elim (λ o. inl (eqb-true (length l % 2) 1 o)) (λ o. inr (ltb-true byteLimit (length l) o)) (or-cases odd tooMany t), refl))
-
-module _ (b w l : List ℕ) where
-  -- which of them has the number
-  by-ten : {k p : ℕ} → FirstIn (checked b ∷ tooLong w ∷ badListing l ∷ []) k p → k ≡ 10 → (textLimit < length w) × (p ≡ length w)
-  by-ten (here e) ten = absurd (omega (arith, checked-number b e))
-  by-ten (there a (here e)) ten = let h = long-refused w e in (h .1, h .2)
-  by-ten (there a (there c (here e))) ten = absurd (omega (arith, listing-refused l e .0))
-
-  by-eleven : {k p : ℕ} → FirstIn (checked b ∷ tooLong w ∷ badListing l ∷ []) k p → k ≡ 11 → ((length l % 2 ≡ 1) ⊎ (byteLimit < length l)) × (p ≡ length l)
-  by-eleven (here e) eleven = absurd (omega (arith, checked-number b e))
-  by-eleven (there a (here e)) eleven = absurd (omega (arith, long-refused w e .0))
-  by-eleven (there a (there c (here e))) eleven = let h = listing-refused l e in (h .1, h .2)
-
-  -- 10 only for a text over its limit; the place is its length
-  pub ten-only : (place : ℕ) → listingAnswer b w l ≡ Refused 10 place → (textLimit < length w) × (place ≡ length w)
-  ten-only place e = by-ten (order-first (checked b ∷ tooLong w ∷ badListing l ∷ []) (refused-if b w l 10 place e)) refl
-
-  -- 11 only for a listing with an odd byte count or one over the limit; the place is the byte count
-  pub eleven-only : (place : ℕ) → listingAnswer b w l ≡ Refused 11 place → ((length l % 2 ≡ 1) ⊎ (byteLimit < length l)) × (place ≡ length l)
-  eleven-only place e = by-eleven (order-first (checked b ∷ tooLong w ∷ badListing l ∷ []) (refused-if b w l 11 place e)) refl

@@ -1,0 +1,157 @@
+-- The answers of checking a listing, each exactly under its condition: 10, 11, and right.
+use Prim.Native.Nat.{ℕ, _+_, _%_, _≤_, _<_}
+use mathlib.Core.Path.{_≡_, refl, sym, _∙_, ap}
+use mathlib.Core.Bool.{_||_}
+use mathlib.Core.List.{List, [], _∷_, _++_}
+use mathlib.Core.Logic.{_↔_, _⊎_, inl, inr, ⊎-elim}
+use native.Mathlib.Omega.{arith}
+use lib.Dec.{ltb, eqb}
+use lib.ListN.{length, getD}
+use borrow.Author.Tests.{ltb-true, eqb-true, le-ltb, ltb-false, eqb-false, lt-ltb, eq-eqb}
+use Rattle.ccg.specs.Ccg.{Class, Line}
+use Rattle.ccg.specs.Flat.{flatGrammar, plainClass}
+use Rattle.charset.specs.Set.{characters}
+use Rattle.chart.specs.Layout.{textLimit}
+use Rattle.common.proofs.BoolLaws.{or-cases, true-or-false, or-first, or-second, or-first-false, or-second-false}
+use Rattle.grammar.proofs.VerdictLaws.{and-first, and-second, refuse-case, FirstIn, here, there, order-first, refuse-accepted}
+use Rattle.grammar.specs.Layout.{startSort}
+use Rattle.grammar.specs.Verdict.{andThen, inOrder, unlessRefused}
+use Rattle.grammar.specs.declared.Verdict.{Verdict}
+use Rattle.grammar.specs.declared.Verdict.the-variants.{Accepted}
+use Rattle.listing.specs.Answer.{byteLimit, badListing, judged, afterVerdict, listingAnswer}
+use Rattle.listing.specs.Judge.{isRight, dueAfter, textAfter, judge}
+use Rattle.listing.specs.Numbers.{numbersOf}
+use Rattle.listing.specs.declared.ListingAnswer.{ListingAnswer}
+use Rattle.listing.specs.declared.ListingAnswer.the-variants.{Right, Wrong, Refused}
+use Rattle.parse.specs.Outcome.{tooLong}
+use Rattle.parse.specs.Reading.{Reading}
+use Rattle.priority.proofs.RefusalLaws.{checked-number}
+use Rattle.priority.specs.Check.{checked}
+use Rattle.theory.specs.Tree.{Tree, listing}
+use Rattle.grammar.specs.declared.Verdict.the-variants.{Refused as Rejected}
+use Rattle.listing.proofs.ReadingLaws.{refusals, listing-right, listing-accepted}
+
+-- ---- where a refusal comes from
+
+wrong-no-refusal : (k number place : ℕ) → Wrong k ≡ Refused number place → ⊥
+wrong-no-refusal k number place e = let z : _≡_ {A = ℕ} 0 1 = cc in omega arith
+
+-- going through the numbers never refuses
+judge-no-refusal : (g : List Line) (ns : List ℕ) (dues : List Class) (w : List ℕ) (k number place : ℕ) → judge g ns dues w k ≡ Refused number place → ⊥
+unfolding judge
+judge-no-refusal g [] [] [] k number place e = let z : _≡_ {A = ℕ} 0 1 = cc in omega arith
+judge-no-refusal g [] [] (c ∷ w) k number place e = wrong-no-refusal k number place e
+judge-no-refusal g [] (due ∷ dues) w k number place e = wrong-no-refusal k number place e
+judge-no-refusal g (n ∷ ns) [] w k number place e = wrong-no-refusal k number place e
+judge-no-refusal g (n ∷ ns) (due ∷ dues) w k number place e =
+    ⊎-elim
+    (λ t. judge-no-refusal g ns (dueAfter g n ++ dues) (textAfter g w n) (k + 1) number place (rw t at e))
+    (λ t. wrong-no-refusal k number place (rw t at e))
+    (true-or-false (isRight g due w n))
+
+-- a refusal that isn't of the numbers is the verdict's
+refused-by-verdict : (v : Verdict) (a : ListingAnswer) (number place : ℕ) → (a ≡ Refused number place → ⊥) → unlessRefused Refused v a ≡ Refused number place
+    → v ≡ Rejected number place
+refused-by-verdict Accepted a number place h e = absurd (h e)
+refused-by-verdict (Rejected n p) a number place h e = cc
+
+-- A refusal is the first of the grammar's, 10 and 11.
+pub refused-if : (b w l : List ℕ) (number place : ℕ) → listingAnswer b w l ≡ Refused number place
+    → inOrder (checked b ∷ tooLong w ∷ badListing l ∷ []) ≡ Rejected number place
+unfolding listingAnswer afterVerdict judged
+refused-if b w l number place e =
+    refused-by-verdict (refusals b w l) (judged b w l) number place
+    (λ h. judge-no-refusal (flatGrammar b) (numbersOf l) (plainClass b (startSort b) ∷ []) w 0 number place h)
+    e
+
+long-refused : (w : List ℕ) {k p : ℕ} → tooLong w ≡ Rejected k p → (k ≡ 10) × (textLimit < length w) × (p ≡ length w)
+unfolding tooLong
+long-refused w e =
+    refuse-case (λ k p. (k ≡ 10) × (textLimit < length w) × (p ≡ length w)) (ltb textLimit (length w)) 10 (length w) e
+    (λ t. (refl, ltb-true textLimit (length w) t, refl))
+
+listing-refused : (l : List ℕ) {k p : ℕ} → badListing l ≡ Rejected k p → (k ≡ 11) × ((length l % 2 ≡ 1) ⊎ (byteLimit < length l)) × (p ≡ length l)
+unfolding badListing
+listing-refused l e =
+    let odd = eqb (length l % 2) 1 in
+    let tooMany = ltb byteLimit (length l) in
+    refuse-case (λ k p. (k ≡ 11) × ((length l % 2 ≡ 1) ⊎ (byteLimit < length l)) × (p ≡ length l)) (odd || tooMany) 11 (length l) e
+    (λ t. (refl, ⊎-elim (λ o. inl (eqb-true (length l % 2) 1 o)) (λ o. inr (ltb-true byteLimit (length l) o)) (or-cases odd tooMany t), refl))
+
+module _ (b w l : List ℕ) where
+  -- ---- the refusals, each under its condition
+
+  -- the refusals in order
+  abbrev lines : List Verdict
+  lines = checked b ∷ tooLong w ∷ badListing l ∷ []
+
+  abbrev BadListing : Type 0
+  BadListing = (length l % 2 ≡ 1) ⊎ (byteLimit < length l)
+
+  bad-listing : BadListing → badListing l ≡ Rejected 11 (length l)
+  unfolding badListing
+  bad-listing h =
+      let odd = eqb (length l % 2) 1 in
+      let many = ltb byteLimit (length l) in
+      rw (⊎-elim (λ o. or-first odd many (eq-eqb (length l % 2) 1 o)) (λ o. or-second odd many (lt-ltb byteLimit (length l) o)) h) refl
+
+  good-text : length w ≤ textLimit → tooLong w ≡ Accepted
+  unfolding tooLong
+  good-text h = rw (le-ltb textLimit (length w) h) refl
+
+  text-good : tooLong w ≡ Accepted → length w ≤ textLimit
+  unfolding tooLong
+  text-good e = ltb-false textLimit (length w) (refuse-accepted _ 10 (length w) e)
+
+  long-text : textLimit < length w → tooLong w ≡ Rejected 10 (length w)
+  unfolding tooLong
+  long-text h = rw (lt-ltb textLimit (length w) h) refl
+
+  listing-good : badListing l ≡ Accepted → (length l % 2 ≡ 0) × (length l ≤ byteLimit)
+  unfolding badListing
+  listing-good e =
+      let odd = eqb (length l % 2) 1 in
+      let many = ltb byteLimit (length l) in
+      let free = refuse-accepted (odd || many) 11 (length l) e in
+      (omega (arith, eqb-false (length l % 2) 1 (or-first-false odd many free)), ltb-false byteLimit (length l) (or-second-false odd many free))
+
+  -- a refusal of the verdict is the answer
+  refused-answer : (n k : ℕ) → refusals b w l ≡ Rejected n k → listingAnswer b w l ≡ Refused n k
+  unfolding listingAnswer afterVerdict
+  refused-answer n k e = rw e refl
+
+  by-ten : {n k : ℕ} → FirstIn lines n k → n ≡ 10 → (checked b ≡ Accepted) × (textLimit < length w) × (k ≡ length w)
+  by-ten (here e) ten = absurd (omega (arith, checked-number b e))
+  by-ten (there a (here e)) ten = let h = long-refused w e in (a, h .1, h .2)
+  by-ten (there a (there c (here e))) ten = absurd (omega (arith, listing-refused l e .0))
+
+  by-eleven : {n k : ℕ} → FirstIn lines n k → n ≡ 11 → (checked b ≡ Accepted) × (length w ≤ textLimit) × BadListing × (k ≡ length l)
+  by-eleven (here e) eleven = absurd (omega (arith, checked-number b e))
+  by-eleven (there a (here e)) eleven = absurd (omega (arith, long-refused w e .0))
+  by-eleven (there a (there c (here e))) eleven = let h = listing-refused l e in (a, text-good c, h .1, h .2)
+
+  -- 10: the text is over its limit; the place is its length.
+  pub ten-exactly : (k : ℕ) → (listingAnswer b w l ≡ Refused 10 k) ↔ ((checked b ≡ Accepted) × (textLimit < length w) × (k ≡ length w))
+  ten-exactly k = (
+    (λ e. by-ten (order-first lines (refused-if b w l 10 k e)) refl),
+    (λ h. refused-answer 10 (length w) (rw (h .0, long-text (h .1)) refl) ∙ ap (Refused 10) (sym (h .2))),
+  )
+
+  -- 11: the listing has an odd byte count or one over the limit; the place is the byte count.
+  pub eleven-exactly : (k : ℕ) → (listingAnswer b w l ≡ Refused 11 k) ↔ ((checked b ≡ Accepted) × (length w ≤ textLimit) × BadListing × (k ≡ length l))
+  eleven-exactly k = (
+    (λ e. by-eleven (order-first lines (refused-if b w l 11 k e)) refl),
+    (λ h. refused-answer 11 (length l) (rw (h .0, good-text (h .1), bad-listing (h .2)) refl) ∙ ap (Refused 11) (sym (h .3))),
+  )
+
+  -- Right: nothing is refused, and the numbers are the listing of a reading.
+  pub right-exactly : ((k : ℕ) → getD b k 0 < characters)
+      → (listingAnswer b w l ≡ Right)
+      ↔ ((checked b ≡ Accepted) × (length w ≤ textLimit) × (length l % 2 ≡ 0) × (length l ≤ byteLimit) × ((t : Tree) × Reading b w t × (listing t ≡ numbersOf l)))
+  right-exactly bytes = (
+    (λ e. let (free, found) = listing-right b bytes w l .0 e in
+        let later = and-second (checked b) (andThen (tooLong w) (badListing l)) free in
+        let good = listing-good (and-second (tooLong w) (badListing l) later) in
+        (and-first (checked b) (andThen (tooLong w) (badListing l)) free, text-good (and-first (tooLong w) (badListing l) later), good .0, good .1, found)),
+    (λ (e, short, even, few, found). listing-right b bytes w l .1 (rw (e, good-text short) (listing-accepted l even few), found)),
+  )

@@ -1,0 +1,2 @@
+-- The theorems of the page hold.
+pub mod Theorems

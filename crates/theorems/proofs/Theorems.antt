@@ -1,0 +1,126 @@
+-- The theorems of the page, each from the law that proves it.
+use mathlib.Core.Path.{_≡_, sym, subst, subst⁻¹, fun-ext}
+use mathlib.Core.Logic.{⊎-elim, _⊎_}
+use Prim.Native.Nat.{ℕ}
+use mathlib.Core.List.{List}
+use Rattle.ccg.proofs.FlatAnswerLaws.{flat-fits, flat-too-long}
+use Rattle.ccg.proofs.FlatClassLaws.{flat-any, flat-argument}
+use Rattle.ccg.proofs.FlatLaws.{flat-trees}
+use Rattle.ccg.proofs.VisserLaws.{flat-completed, flat-visser}
+use Rattle.ccg.proofs.WrittenLaws.{text-determines, flat-written}
+use Rattle.ccg.specs.Ccg.{Class, Line, Generated}
+use Rattle.ccg.specs.Flat.{flatGrammar, plainClass}
+use Rattle.engine.proofs.AnswerLaws.{none-exactly, none-buffer, several-exactly, several-buffer, one-exactly, one-buffer, long-exactly, long-buffer, refused-is-long}
+use Rattle.extract.specs.Written.{room}
+use Rattle.grammar.specs.Layout.{startSort}
+use Rattle.listing.proofs.ReadingLaws.{one-right}
+use Rattle.listing.proofs.RefusedLaws.{ten-exactly as listing-ten, eleven-exactly, right-exactly}
+use Rattle.marked.proofs.Marked.{marked-outcomes}
+use Rattle.parse.proofs.AnswerLaws.{parsed-outcome, refused-unchanged, grammar-exactly, ten-exactly, twenty-exactly}
+use Rattle.parse.proofs.OutcomeLaws.{outcome-unique}
+use Rattle.parse.specs.Outcome.{Outcome}
+use Rattle.parse.specs.Reading.{Reading}
+use Rattle.engine.specs.declared.Answer.{Answer}
+use Rattle.priority.proofs.CheckLaws.{accepted-formed}
+use Rattle.priority.proofs.ConflictAnswerLaws.{conflict-yes, conflict-no, conflict-absent, conflict-refused}
+use Rattle.priority.proofs.DeclarationLaws.{accepted-declares}
+use Rattle.priority.proofs.RefusalLaws.{refused-first, first-refused, accepted-free, free-accepted}
+use Rattle.theorems.specs.Theorems.{Bytes, AcceptedExactly, RefusedExactly, ConflictExactly, FlatExactly, ReadingRefused, OneOutcome, ListingExactly, OneIsRight, Declares, FlatIsVisser, FlatIsCompleted, FlatTrees, FlatArguments, ReadingsAreFlat, Read, TextDetermines, Archived, FlatIsWritten, MarkedCases}
+
+-- ---- demand 1
+
+pub accepted-exactly : AcceptedExactly
+accepted-exactly b = ((λ e. accepted-free b e), (λ h. free-accepted b h))
+
+pub refused-exactly : RefusedExactly
+refused-exactly b number place = ((λ e. refused-first b e), (λ h. first-refused b h))
+
+pub conflict-exactly : (b : List ℕ) (p i q : ℕ) → ConflictExactly b p i q
+conflict-exactly b p i q =
+    record { yes = conflict-yes b p i q; no = conflict-no b p i q; absent = conflict-absent b p i q; refused = conflict-refused b p i q }
+
+pub flat-exactly : (b : List ℕ) (room : ℕ) → FlatExactly b room
+flat-exactly b room = record { fits = flat-fits b room; tooLong = flat-too-long b room }
+
+pub reading-refused : (b w chart₀ l₀ : List ℕ) (r : Answer) (chart l : List ℕ) → Outcome b w chart₀ l₀ r chart l → ReadingRefused b w chart₀ l₀ r chart l
+reading-refused b w chart₀ l₀ r chart l o =
+    record {
+      grammar = grammar-exactly b w chart₀ l₀ r chart l o;
+      ten = ten-exactly b w chart₀ l₀ r chart l o;
+      twenty = twenty-exactly b w chart₀ l₀ r chart l o;
+      unchanged = refused-unchanged b w chart₀ l₀ r chart l o;
+    }
+
+pub one-outcome : OneOutcome
+one-outcome = outcome-unique
+
+pub listing-exactly : (b w l : List ℕ) → Bytes b → ListingExactly b w l
+listing-exactly b w l bytes = record { right = right-exactly b w l bytes; ten = listing-ten b w l; eleven = eleven-exactly b w l }
+
+pub one-is-right : OneIsRight
+one-is-right = one-right
+
+-- ---- demand 2
+
+pub declares : Declares
+declares = accepted-declares
+
+pub flat-is-visser : FlatIsVisser
+flat-is-visser b bytes e = flat-visser b (accepted-formed b e) bytes
+
+pub flat-is-completed : FlatIsCompleted
+flat-is-completed b bytes e = flat-completed b (accepted-formed b e) bytes
+
+pub flat-trees-exactly : FlatTrees
+flat-trees-exactly b bytes e = flat-any b (accepted-formed b e) bytes
+
+pub flat-arguments-exactly : FlatArguments
+flat-arguments-exactly b bytes e = flat-argument b (accepted-formed b e) bytes
+
+pub readings-are-flat : ReadingsAreFlat
+readings-are-flat b bytes e w t =
+    let trees = flat-trees b (accepted-formed b e) bytes (startSort b) t in
+    ((λ r. (trees .0 (r .built, r .free), r .spells)), (λ h. let (built, free) = trees .1 (h .0) in record { built = built; free = free; spells = h .1 }))
+
+-- ---- demand 3
+
+pub read-exactly : Read
+unfolding room
+read-exactly b w chart₀ l₀ r chart l o e short enough =
+    let parsed = parsed-outcome b w chart₀ l₀ r chart l o (record { accepted = e; short = short; enough = enough }) in
+    let P = Reading b w in
+    let a = parsed .answer in
+    let counts = parsed .chart in
+    record {
+      none = none-exactly P l₀ r l a;
+      several = several-exactly P l₀ r l a;
+      one = one-exactly P l₀ r l a;
+      tooLong = long-exactly P l₀ r l a;
+      noOther = refused-is-long P l₀ r l a;
+      unwritten = ⊎-elim (none-buffer P l₀ r l a) (several-buffer P l₀ r l a);
+      whole = one-buffer P l₀ r l a;
+      front = long-buffer P l₀ r l a;
+      chartCounts = (counts .entries, counts .long, counts .whole, counts .cells);
+    }
+
+-- ---- the archive
+
+pub text-determines-grammar : TextDetermines
+text-determines-grammar = text-determines
+
+pub flat-is-written : FlatIsWritten
+flat-is-written b bytes e = flat-written b (accepted-formed b e) bytes
+
+pub archived : Archived
+archived b bytes e g form text top starts w t =
+    let same : flatGrammar b ≡ g = text-determines (flatGrammar b) g (flat-is-written b bytes e) form (sym text) in
+    let tops : plainClass b (startSort b) ≡ top = fun-ext (λ n. sym (starts n)) in
+    let flat = readings-are-flat b bytes e w t in (
+      (λ h. flat .1 (subst⁻¹ (λ (k : List Line). Generated k (plainClass b (startSort b)) t) same (subst⁻¹ (λ (cc : Class). Generated g cc t) tops (h .0)), h .1)),
+      (λ r. let h = flat .0 r in (subst (λ (cc : Class). Generated g cc t) tops (subst (λ (k : List Line). Generated k (plainClass b (startSort b)) t) same (h .0)), h .1)),
+    )
+
+-- ---- the marked cases
+
+pub marked-cases : MarkedCases
+marked-cases = marked-outcomes

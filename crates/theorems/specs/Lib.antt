@@ -1,0 +1,2 @@
+-- What is proved, on a page.
+pub mod Theorems

@@ -1,0 +1,168 @@
+-- What is proved, on a page. Each statement stands under the sentence of the user's that it answers; `proofs/Theorems.antt` proves each by citing a law.
+--
+-- A list holds what a lent slice holds: b the bytes of a grammar (the user's book), w a text (a line), chart₀ and l₀ the chart and the buffer for a listing
+-- before a call, chart and l afterwards. The contracts of the operations, none of which asks anything of its input, say that
+--     priority::check_grammar      answers  checked b
+--     priority::conflict::conflict answers  conflictAnswer b p i q
+--     ccg::write_flat              answers  flatAnswer b (how long its buffer is), and leaves there  bufferAfter
+--     parse::parse                 answers some r and leaves some chart and l with  Outcome b w chart₀ l₀ r chart l
+--     listing::check_listing       answers  listingAnswer b w l
+-- A call that is proved ends. Productions (rules) are numbered from 0; production p has the number 258 + p.
+use Prim.Native.Nat.{ℕ, _*_, _/_, _%_, _≤_, _<_}
+use mathlib.Core.Path.{_≡_}
+use mathlib.Core.Bool.{true}
+use mathlib.Core.List.{List, _++_}
+use mathlib.Core.Logic.{_↔_, _⊎_}
+use lib.ListN.{length, getD, take, drop}
+use Rattle.ccg.specs.Ccg.{Class, Line, Generated}
+use Rattle.ccg.specs.Flat.{flatClass, flatGrammar, plainClass}
+use Rattle.ccg.specs.Text.{grammarText, flatAnswer}
+use Rattle.ccg.specs.Trees.{Built, ConflictFree, Apart}
+use Rattle.ccg.specs.Visser.{visserGrammar, completedGrammar, SingleHigher}
+use Rattle.ccg.specs.Written.{WrittenForm}
+use Rattle.ccg.specs.declared.FlatAnswer.the-variants.{Written, Refused as NotWritten}
+use Rattle.charset.specs.Set.{characters}
+use Rattle.chart.specs.Layout.{textLimit, rowOf, chartBytes, cellAt}
+use Rattle.engine.specs.declared.Answer.{Answer}
+use Rattle.engine.specs.declared.Answer.the-variants.{None, One, Several, Refused as NotRead}
+use Rattle.extract.specs.Written.{bytesOf}
+use Rattle.grammar.specs.Layout.{productions, startSort, argumentCount, result, argument}
+use Rattle.grammar.specs.declared.Verdict.the-variants.{Accepted, Refused}
+use Rattle.listing.specs.Answer.{byteLimit, listingAnswer}
+use Rattle.listing.specs.Numbers.{numbersOf}
+use Rattle.listing.specs.declared.ListingAnswer.the-variants.{Right, Refused as NotChecked}
+use Rattle.marked.specs.Cases.{All, Promised, table}
+use Rattle.parse.specs.Outcome.{needed, Outcome}
+use Rattle.parse.specs.Reading.{Reading, EntryList}
+use Rattle.priority.specs.Check.{checked}
+use Rattle.priority.specs.Conflict.{Conflict, There, conflictAnswer}
+use Rattle.priority.specs.Priorities.{PriorityDeclaration}
+use Rattle.priority.specs.Refusals.{Holds, First}
+use Rattle.priority.specs.declared.ConflictAnswer.the-variants.{Yes, No, Refused as NotAsked}
+use Rattle.theory.specs.Counts.{Only, Two, Counts}
+use Rattle.theory.specs.Tree.{Tree, node, Forest, productionNumber, yield, listing}
+
+-- The numbers of a list are bytes, as those of a slice are.
+abbrev pub Bytes : List ℕ → Type 0
+Bytes l = (k : ℕ) → getD l k 0 < characters
+
+-- ---- 1. "For every book, line and lent table the software ends with an answer, and it does these things itself: it finds a bad book, an overlong line or a short
+-- table; it names the refusal by number and place; it leaves the lent tables as the paper states for that number."
+
+-- A grammar is accepted exactly if no line of the table of refusals holds (Holds: a constructor to a line).
+abbrev pub AcceptedExactly : Type 0
+AcceptedExactly = (b : List ℕ) → (checked b ≡ Accepted) ↔ ((stage number place : ℕ) → Holds b stage number place → ⊥)
+
+-- It is refused exactly by the first line that holds: the paper's order of lines, and in one stage the lowest place.
+abbrev pub RefusedExactly : Type 0
+RefusedExactly = (b : List ℕ) (number place : ℕ) → (checked b ≡ Refused number place) ↔ First b number place
+
+-- Does production q conflict as argument i of p? Yes, no, and 7 with place 0 if one of them isn't there; no other answer but the grammar's refusal.
+pub record ConflictExactly (b : List ℕ) (p i q : ℕ) : Type 0 where
+  pub yes : (conflictAnswer b p i q ≡ Yes) ↔ ((checked b ≡ Accepted) × There b p i q × Conflict b p i q)
+  pub no : (conflictAnswer b p i q ≡ No) ↔ ((checked b ≡ Accepted) × There b p i q × (Conflict b p i q → ⊥))
+  pub absent : (conflictAnswer b p i q ≡ NotAsked 7 0) ↔ ((checked b ≡ Accepted) × (There b p i q → ⊥))
+  pub refused : (n k : ℕ) → (conflictAnswer b p i q ≡ NotAsked n k) ↔ ((checked b ≡ Refused n k) ⊎ ((checked b ≡ Accepted) × (There b p i q → ⊥) × (n ≡ 7) × (k ≡ 0)))
+
+-- The character class grammar (flat book) is written exactly if it fits, and else refused with 21 and its length.
+pub record FlatExactly (b : List ℕ) (room : ℕ) : Type 0 where
+  pub fits : (n : ℕ) → (flatAnswer b room ≡ Written n) ↔ ((checked b ≡ Accepted) × (n ≡ length (grammarText (flatGrammar b))) × (n ≤ room))
+  pub tooLong : (k : ℕ) → (flatAnswer b room ≡ NotWritten 21 k) ↔ ((checked b ≡ Accepted) × (k ≡ length (grammarText (flatGrammar b))) × (room < k))
+
+-- Reading a text is refused with 1 to 9, 10 and 20 exactly so, and by these refusals nothing is changed. One outcome meets the promise.
+pub record ReadingRefused (b w chart₀ l₀ : List ℕ) (r : Answer) (chart l : List ℕ) : Type 0 where
+  pub grammar : (n k : ℕ) → n ≤ 9 → (r ≡ NotRead n k) ↔ (checked b ≡ Refused n k)
+  pub ten : (k : ℕ) → (r ≡ NotRead 10 k) ↔ ((checked b ≡ Accepted) × (textLimit < length w) × (k ≡ length w))
+  pub twenty : (k : ℕ) → (r ≡ NotRead 20 k) ↔ ((checked b ≡ Accepted) × (length w ≤ textLimit) × (k ≡ needed b (length w)) × (length chart₀ < k))
+  pub unchanged : (n k : ℕ) → (n ≡ 22 → ⊥) → r ≡ NotRead n k → (chart ≡ chart₀) × (l ≡ l₀)
+
+abbrev pub OneOutcome : Type 0
+OneOutcome =
+    (b w chart₀ l₀ : List ℕ) (r r′ : Answer) (chart chart′ l l′ : List ℕ)
+    → Outcome b w chart₀ l₀ r chart l → Outcome b w chart₀ l₀ r′ chart′ l′ → (r ≡ r′) × (chart ≡ chart′) × (l ≡ l′)
+
+-- A listing is found right exactly if it is that of a reading and nothing is refused; 10 and 11 come exactly so. What reading answered with one is found right.
+pub record ListingExactly (b w l : List ℕ) : Type 0 where
+  pub right : (listingAnswer b w l ≡ Right) ↔ ((checked b ≡ Accepted) × (length w ≤ textLimit) × (length l % 2 ≡ 0) × (length l ≤ byteLimit) × ((t : Tree) × Reading b w t × (listing t ≡ numbersOf l)))
+  pub ten : (k : ℕ) → (listingAnswer b w l ≡ NotChecked 10 k) ↔ ((checked b ≡ Accepted) × (textLimit < length w) × (k ≡ length w))
+  pub eleven : (k : ℕ) → (listingAnswer b w l ≡ NotChecked 11 k) ↔ ((checked b ≡ Accepted) × (length w ≤ textLimit) × ((length l % 2 ≡ 1) ⊎ (byteLimit < length l)) × (k ≡ length l))
+
+abbrev pub OneIsRight : Type 0
+OneIsRight =
+    (b : List ℕ) → Bytes b → (w chart₀ l₀ : List ℕ) (n : ℕ) (chart l : List ℕ)
+    → Outcome b w chart₀ l₀ (One n) chart l → 2 * n ≤ byteLimit → listingAnswer b w (take (2 * n) l) ≡ Right
+
+-- ---- 2. "The flat book is the one that Visser's 'From Context-free Grammars with Priorities to Character Class Grammars' defines from the book. Each tree of the
+-- book without a clash is a tree of the flat book under the same rules, and each tree of the flat book is such a tree of the book."
+
+-- The declarations of an accepted grammar are a priority declaration (Definition 2.5).
+abbrev pub Declares : Type 0
+Declares = (b : List ℕ) → checked b ≡ Accepted → PriorityDeclaration b
+
+-- Algorithm 4.1 gives the flat grammar, unless a production of one argument is higher than one that fits it: there the algorithm takes out nothing and
+-- Definition 2.6, which decides, has a conflict. With M taken out there too it always does.
+abbrev pub FlatIsVisser : Type 0
+FlatIsVisser = (b : List ℕ) → Bytes b → checked b ≡ Accepted → (flatGrammar b ≡ visserGrammar b) ↔ (SingleHigher b → ⊥)
+
+abbrev pub FlatIsCompleted : Type 0
+FlatIsCompleted = (b : List ℕ) → Bytes b → checked b ≡ Accepted → flatGrammar b ≡ completedGrammar b
+
+-- The trees of the flat grammar, in any class, are those built at their root's result without a conflict; in the class of an argument, also without one there.
+abbrev pub FlatTrees : Type 0
+FlatTrees =
+    (b : List ℕ) → Bytes b → checked b ≡ Accepted → (cc : Class) (p : ℕ) (f : Forest)
+    → Generated (flatGrammar b) cc (node p f) ↔ ((cc (productionNumber p) ≡ true) × Built b (result b p) (node p f) × ConflictFree b (node p f))
+
+abbrev pub FlatArguments : Type 0
+FlatArguments =
+    (b : List ℕ) → Bytes b → checked b ≡ Accepted → (p i : ℕ) (t : Tree)
+    → Generated (flatGrammar b) (flatClass b p i) t ↔ (Built b (argument b p i) t × ConflictFree b t × Apart b p i t)
+
+-- So the readings of a text are the trees of the flat grammar, in the class of the start sort's productions, that spell it.
+abbrev pub ReadingsAreFlat : Type 0
+ReadingsAreFlat =
+    (b : List ℕ) → Bytes b → checked b ≡ Accepted → (w : List ℕ) (t : Tree)
+    → Reading b w t ↔ (Generated (flatGrammar b) (plainClass b (startSort b)) t × (yield t ≡ w))
+
+-- ---- 3. "'None' comes back exactly when no reading of any size exists, 'several' exactly when two different ones do, and 'one' exactly when there is a single
+-- reading and its listing fits. The length that comes back is then that listing's, and the buffer starts with that listing, whole. Refusal for length comes
+-- exactly when there is a single reading and its listing doesn't fit, and no other answer comes."
+
+pub record ReadExactly (b w chart₀ l₀ : List ℕ) (r : Answer) (chart l : List ℕ) : Type 0 where
+  pub none : (r ≡ None) ↔ ((t : Tree) → Reading b w t → ⊥)
+  pub several : (r ≡ Several) ↔ Two (Reading b w)
+  pub one : (n : ℕ) → (r ≡ One n) ↔ ((t : Tree) × Only (Reading b w) t × (n ≡ length (listing t)) × (2 * n ≤ length l₀))
+  pub tooLong : (k : ℕ) → (r ≡ NotRead 22 k) ↔ ((t : Tree) × Only (Reading b w) t × (length l₀ < 2 * length (listing t)) × (k ≡ length l₀ / 2))
+  pub noOther : (n k : ℕ) → r ≡ NotRead n k → n ≡ 22
+  pub unwritten : ((t : Tree) → Reading b w t → ⊥) ⊎ Two (Reading b w) → l ≡ l₀
+  pub whole : (t : Tree) → Only (Reading b w) t → 2 * length (listing t) ≤ length l₀ → l ≡ bytesOf (listing t) ++ drop (length (bytesOf (listing t))) l₀
+  pub front : (t : Tree) → Only (Reading b w) t → length l₀ < 2 * length (listing t)
+      → let numbers = take (length l₀ / 2) (listing t) in l ≡ bytesOf numbers ++ drop (length (bytesOf numbers)) l₀
+  -- the chart starts with a count for each production p, count d of its arguments, start i and end j; what lies beyond stays
+  pub chartCounts : (entries : List ℕ) × (length entries ≡ chartBytes (argumentCount b) (productions b) (length w)) × (chart ≡ entries ++ drop (length entries) chart₀)
+      × ((p d i j : ℕ) → p < productions b → d ≤ argumentCount b p → i ≤ j → j ≤ length w → Counts (EntryList b w p d i j) (getD entries (cellAt (length w) (rowOf (argumentCount b) p d) i j) 0))
+
+abbrev pub Read : Type 0
+Read =
+    (b w chart₀ l₀ : List ℕ) (r : Answer) (chart l : List ℕ) → Outcome b w chart₀ l₀ r chart l
+    → checked b ≡ Accepted → length w ≤ textLimit → needed b (length w) ≤ length chart₀ → ReadExactly b w chart₀ l₀ r chart l
+
+-- ---- "I need it over trees and not over a search, because what comes next is lodging flat books without our software, and a later reader must find what we found."
+
+-- A text says one grammar: the flat grammars that it can say (line p ends in 258 + p, each class has only characters or only production numbers) are known by it.
+abbrev pub TextDetermines : Type 0
+TextDetermines = (g h : List Line) → WrittenForm g → WrittenForm h → grammarText g ≡ grammarText h → g ≡ h
+
+-- Whoever has a flat grammar whose text is the one lodged, and the numbers of the start sort, finds exactly the readings of every text.
+abbrev pub Archived : Type 0
+Archived =
+    (b : List ℕ) → Bytes b → checked b ≡ Accepted → (g : List Line) → WrittenForm g → grammarText g ≡ grammarText (flatGrammar b)
+    → (top : Class) → ((n : ℕ) → top n ≡ plainClass b (startSort b) n) → (w : List ℕ) (t : Tree) → (Generated g top t × (yield t ≡ w)) ↔ Reading b w t
+
+-- There is one: the flat grammar itself is in that form.
+abbrev pub FlatIsWritten : Type 0
+FlatIsWritten = (b : List ℕ) → Bytes b → checked b ≡ Accepted → WrittenForm (flatGrammar b)
+
+-- ---- The paper's marked cases: any outcome of reading each of them, whatever chart and buffer held, is the one marked.
+abbrev pub MarkedCases : Type 0
+MarkedCases = All Promised table
