@@ -10,7 +10,7 @@ CASE_CRATES := grammar_cases conflict_cases flat_cases listing_cases
 CASES := 100000
 MANY_CASES := 1000000
 
-.PHONY: run test lib viewer second second-long faults examples check-examples bench books check-books cases store-cases check clean
+.PHONY: run test lib programs viewer second second-long faults examples check-examples bench books check-books cases store-cases check clean
 
 # the line 8/4*2 read by book T
 run:
@@ -22,9 +22,14 @@ run:
 lib:
 	rt staticlib meadowsink
 
-test: cases check-books lib viewer check-examples second
+test: cases check-books lib viewer check-examples second programs
 	rt fmt --check
 	rt ci
+
+# the programs flat and reading, run
+programs:
+	rt check flat reading
+	sh tests/programs.sh target/bin
 
 # the C program that uses every call
 viewer: $(LIBRARY)
