@@ -2,7 +2,7 @@
  * The sheet viewer: says how a line is to be taken by a book.
  *
  *     viewer [--names NAMES] BOOK [LINE]    the answer in words, and the tree if there is one reading; without LINE it is read from standard input
- *     viewer --flat BOOK                    the flat book
+ *     viewer --flat BOOK                    the flat book; on standard error the numbers allowed at the top, to be kept beside it
  *
  * NAMES has the name of a rule on each line, as tools/book.rs writes it. A rule without a name is shown as `rule N`, counted from 0 as in the book.
  * The exit status is 0 for an answer, 1 for a refusal, 2 if the viewer was called wrongly, a file can't be read or something doesn't fit the machine.
@@ -21,6 +21,7 @@ enum { ANSWERED = 0, REFUSED = 1, FAILED = 2 };
 /* The format of books, listings and answers. */
 enum {
     HEADER = 6,            /* bytes of a book's header */
+    START = 4,             /* its byte that is the start sort */
     CLASS_BASE = 64,       /* class 0 in an argument byte */
     DECLARATION = 3,       /* bytes of a declaration */
     PRODUCTION_BASE = 258, /* rule 0 in a listing; characters are below */
@@ -372,14 +373,25 @@ static int parse_line(void) {
     return status;
 }
 
+/* The numbers of the rules of the start sort. */
+static void print_tops(FILE *out) {
+    fputs("allowed at the top:", out);
+    for (size_t p = 0; p < production_count(); p++)
+        if (book.bytes[production_start(p)] == book.bytes[START]) fprintf(out, " %zu", PRODUCTION_BASE + p);
+    fputc('\n', out);
+}
+
 static int print_flat(void) {
-    uint8_t none;
-    size_t size = meadowsink_flat_place(book.bytes, book.length, &none, 0);
+    size_t size = meadowsink_flat_place(book.bytes, book.length, NULL, 0);
     uint8_t *text = malloc(size);
     if (text == NULL) return fail("no memory for a flat book of %zu bytes", size);
     uint64_t answer = meadowsink_flat(book.bytes, book.length, text, size);
     int written = answer % 4 == KIND_ONE;
-    if (written) fwrite(text, 1, answer / 4, stdout);
+    if (written) {
+        fwrite(text, 1, answer / 4, stdout);
+        fflush(stdout);
+        print_tops(stderr);
+    }
     free(text);
     return written ? ANSWERED : fail("the flat book doesn't fit the %zu bytes that it was said to need", size);
 }

@@ -1,4 +1,4 @@
-/* Meadowsink: how many parses a text has, proved right for every grammar and every text. */
+/* Meadowsink: how many parses a text has, proved right for every grammar and every text within the limits below. */
 #ifndef MEADOWSINK_H
 #define MEADOWSINK_H
 
@@ -10,11 +10,14 @@ extern "C" {
 #endif
 
 /*
- * Areas. Each area is a pointer and a length in bytes. The areas of a call must not overlap. An area of length 0 may have any pointer that is not NULL.
- * A `const` area is only read. What the others hold before a call doesn't matter.
+ * Limits. A grammar (a "book") has at most 32 sorts, 64 rules of at most 8 arguments, 64 classes of at most 16 ranges, and 255 declarations; a text has at
+ * most 200 bytes. What is over a limit is refused.
  *
- * Stack. The two calls that read a text need about 450 bytes of stack for each level of an only parse, of which there can be 12,864: let a thread that makes
- * them have 6 MB. The other calls need less than 2 MB.
+ * Areas. Each area is a pointer and a length in bytes. A `const` area is only read, and such areas may overlap one another; an area that is written must not
+ * overlap any other. What it holds before a call doesn't matter. An area of length 0 may have any pointer, NULL too.
+ *
+ * Stack. The two calls that read a text need fewer than 500 bytes of stack for each level of an only parse, of which there can be 12,864: let a thread that
+ * makes them have 8 MB. The other calls need less than 2 MB.
  *
  * Two calls to an operation. The first gives its answer, 4 * value + kind, where kind 3 is a refusal and the value its number; meadowsink_check alone gives
  * the number as it is. The second, whose name ends in `_place`, takes the same areas, does the same to them, and gives the place of the refusal; it is 0 if
@@ -80,7 +83,8 @@ uint64_t meadowsink_conflict_place(const uint8_t *book, size_t book_length, size
  *   kind 1   written; the value is how many bytes. They stand at the start of `out`. Bytes beyond them are as they were.
  *   kind 3   refused; the value is the number of the refusal, 1 to 9 or 21. `out` is as it was.
  *
- * To learn how many bytes are needed, ask for the place with an `out` of length 0.
+ * To learn how many bytes are needed, make the call with an `out` of length 0. An accepted book is then always refused with 21, as its text is never empty,
+ * and meadowsink_flat_place gives the bytes; any other number is a fault of the book, whose place it then gives.
  */
 uint64_t meadowsink_flat(const uint8_t *book, size_t book_length, uint8_t *out, size_t out_length);
 
@@ -92,7 +96,9 @@ uint64_t meadowsink_flat_place(const uint8_t *book, size_t book_length, uint8_t 
  *
  *   book     the bytes of the grammar
  *   text     the bytes of the text, at most 200
- *   chart    room to work in
+ *   chart    room to work in; refusal 20 says how much. Afterwards it starts with a byte for each rule in order, each count d of arguments from 0 to all,
+ *            each start i and each end j with 0 <= i <= j <= n, n the text's length, the last changing fastest: how many lists of trees for the rule's first
+ *            d arguments spell the text from i to j, 0, 1, or 2 for more. Bytes beyond these are as they were.
  *   listing  where the numbers of the parse go
  *
  * The result is 4 * value + kind:
@@ -104,8 +110,7 @@ uint64_t meadowsink_flat_place(const uint8_t *book, size_t book_length, uint8_t 
  *   kind 3   refused; the value is the number of the refusal, 1 to 10, 20 or 22. By 22 the first numbers of the listing are written, as many as fit whole:
  *            the smaller of `listing_length` and 65,536, halved.
  *
- * At most the first 65,536 bytes of `listing` are used. After kinds 0 and 2 it is as it was. After a refusal other than 22 all areas are as they were;
- * otherwise the chart holds the counts of the parse table.
+ * At most the first 65,536 bytes of `listing` are used. After kinds 0 and 2 it is as it was. After a refusal other than 22 all areas are as they were.
  */
 uint64_t meadowsink_read(const uint8_t *book, size_t book_length, const uint8_t *text, size_t text_length, uint8_t *chart, size_t chart_length,
                          uint8_t *listing, size_t listing_length);

@@ -163,6 +163,32 @@ static void read_place(void) {
     expect(meadowsink_read_place(book_t, 5, (const uint8_t *)"8", 1, chart, sizeof chart, listing, sizeof listing) == 5, "1: the book's places");
 }
 
+/* ---- areas */
+
+/* An empty area may be NULL. */
+static void empty_areas(void) {
+    static const uint8_t empty_rule[] = {1, 1, 0, 0, 0, 0, 0, 0};
+    expect(meadowsink_check(NULL, 0) == 1 && meadowsink_check_place(NULL, 0) == 0, "1: no book at all");
+    expect(meadowsink_conflict(NULL, 0, 0, 0, 0) == 4 * 1 + 3 && meadowsink_conflict_place(NULL, 0, 0, 0, 0) == 0, "1: no book to ask");
+    expect(meadowsink_flat(NULL, 0, NULL, 0) == 4 * 1 + 3 && meadowsink_flat_place(NULL, 0, NULL, 0) == 0, "1: no book to write");
+    expect(meadowsink_flat(book_t, sizeof book_t, NULL, 0) == 4 * 21 + 3, "21: nowhere to write");
+    expect(meadowsink_read(NULL, 0, NULL, 0, NULL, 0, NULL, 0) == 4 * 1 + 3, "1: no book to read by");
+    expect(meadowsink_read(book_t, sizeof book_t, NULL, 0, NULL, 0, NULL, 0) == 4 * 20 + 3, "20: no chart");
+    expect(meadowsink_read_place(book_t, sizeof book_t, NULL, 0, NULL, 0, NULL, 0) == 10, "20: its place");
+    expect(meadowsink_read(book_t, sizeof book_t, NULL, 0, chart, sizeof chart, NULL, 0) == 0, "no parse of no text");
+    expect(meadowsink_read(empty_rule, sizeof empty_rule, NULL, 0, chart, sizeof chart, NULL, 0) == 4 * 22 + 3, "22: no listing");
+    expect(meadowsink_check_listing(NULL, 0, NULL, 0, NULL, 0) == 4 * 1 + 3, "1: no book to check by");
+    expect(meadowsink_check_listing(book_t, sizeof book_t, NULL, 0, NULL, 0) == 4 * 0 + 1, "no number is wrong at 0");
+}
+
+/* Areas that are only read may overlap. */
+static void shared_areas(void) {
+    memset(listing, 0x5a, sizeof listing);
+    expect(meadowsink_read(book_t, sizeof book_t, book_t + 22, 1, chart, sizeof chart, listing, sizeof listing) == 4 * 2 + 1, "a text inside the book: 0");
+    expect(listing[0] == 2 && listing[1] == 1 && listing[2] == 48 && listing[3] == 0, "its listing");
+    expect(meadowsink_check_listing(book_t, sizeof book_t, listing + 2, 1, listing, 4) == 0, "a text inside the listing");
+}
+
 int main(void) {
     check();
     conflict();
@@ -170,6 +196,8 @@ int main(void) {
     check_listing();
     read_text();
     read_place();
+    empty_areas();
+    shared_areas();
     if (failures == 0) printf("viewer call: all as it should be\n");
     return failures != 0;
 }

@@ -34,6 +34,8 @@ const BYTE_MOST: usize = 255;
 // In an argument byte sorts stand below this, and classes from it on; so there is no more room for either.
 const FIRST_CLASS: usize = 64;
 const CLASSES_MOST: usize = BYTE_MOST + 1 - FIRST_CLASS;
+// The number of rule 0.
+const FIRST_RULE: usize = 258;
 // The words for kinds 1 to 4.
 const KINDS: [&str; 4] = ["higher", "left", "right", "not-together"];
 const RULE_FORM: &str = "a rule is NAME: SORT = ARGUMENT ..";
@@ -518,7 +520,9 @@ fn show_argument(grammar: &Grammar, argument: u8) -> String {
 fn show(grammar: &Grammar) -> String {
     let row = |words: &mut dyn Iterator<Item = String>| words.map(|word| format!(" {word}")).collect::<String>();
     let mut out = String::from("# Rule rN has the number 258 + N, class cN is 64 + N in an argument, and sort sN is N.\n");
+    let starts = grammar.productions.iter().enumerate().filter(|(_, (result, _))| *result == grammar.start);
     // Writing to a string doesn't fail.
+    let _ = writeln!(out, "# Allowed at the top:{}", row(&mut starts.map(|(n, _)| (FIRST_RULE + n).to_string())));
     let _ = writeln!(out, "sorts{}", row(&mut (0..grammar.sorts).map(|n| format!("s{n}"))));
     let _ = writeln!(out, "start s{}", grammar.start);
     for (n, ranges) in grammar.classes.iter().enumerate() {
