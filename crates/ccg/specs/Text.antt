@@ -86,10 +86,11 @@ grammarText g = joined lineText g
 
 -- ---- the operation "writing a character class grammar" (01's writing a flat book)
 
--- the refusals of the grammar, then 21 if the text is longer than the buffer
+-- 21 if the text is longer than the buffer; the place is how many bytes it needs
 unfoldable pub writeAnswer : ℕ → ℕ → FlatAnswer
 writeAnswer needed room = cond (leb needed room) (Written needed) (Refused 21 needed)
 
+-- the refusals of the grammar, then this
 unfoldable pub flatAnswer : List ℕ → ℕ → FlatAnswer
 flatAnswer b room = unlessRefused Refused (checked b) (writeAnswer (length (grammarText (flatGrammar b))) room)
 

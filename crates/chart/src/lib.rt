@@ -1,3 +1,3 @@
-// The chart: where a cell stands, and the sums over its rows.
+// The chart: where a cell stands, get and put; and counts that stop at 2.
 pub mod layout;
 pub mod sums;

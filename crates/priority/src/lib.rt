@@ -55,7 +55,7 @@ pub fn check_grammar(book: &[u8]) -> Verdict
     check_circles(priorities(book), production_count(book))
 }
 
-// "Higher" of an accepted frame, closed: row x, column y says whether x is higher than y.
+// "Higher" of a grammar that refusals 1 to 8 let through, closed: row x, column y says whether x is higher than y.
 pub fn priorities(book: &[u8]) -> [[bool; PRODUCTION_LIMIT]; PRODUCTION_LIMIT]
     requires { ⌜ WellFormed (now book) ⌝ }
     ensures { λ r. ⌜ ((x y : ℕ) → (entry r x y ≡ true) ↔ Higher (now (book .entry)) x y) ⌝ }
