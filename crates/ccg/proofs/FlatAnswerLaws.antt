@@ -99,3 +99,10 @@ flat-too-long b room k = (
   (λ a. ⊎-elim (λ x. absurd (omega (arith, checked-number b x))) (λ x. (x .0, x .2, x .3)) (flat-refused b room 21 k .0 a)),
   (λ h. flat-refused b room 21 k .1 (inr (h .0, refl, h .1, h .2))),
 )
+
+-- 1 to 9 exactly as the grammar is refused.
+pub flat-grammar : (b : List ℕ) (room n k : ℕ) → n ≤ 9 → (flatAnswer b room ≡ Refused n k) ↔ (checked b ≡ Rejected n k)
+flat-grammar b room n k small = (
+  (λ a. ⊎-elim (λ x. x) (λ x. absurd (omega (arith, x .1))) (flat-refused b room n k .0 a)),
+  (λ x. refused-answer b room n k x),
+)

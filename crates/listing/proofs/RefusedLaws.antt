@@ -130,6 +130,15 @@ module _ (b w l : List ℕ) where
   by-eleven (there a (here e)) eleven = absurd (omega (arith, long-refused w e .0))
   by-eleven (there a (there c (here e))) eleven = let h = listing-refused l e in (a, text-good c, h .1, h .2)
 
+  by-grammar : {n k : ℕ} → FirstIn lines n k → n ≤ 9 → checked b ≡ Rejected n k
+  by-grammar (here e) small = e
+  by-grammar (there a (here e)) small = absurd (omega (arith, long-refused w e .0))
+  by-grammar (there a (there c (here e))) small = absurd (omega (arith, listing-refused l e .0))
+
+  -- 1 to 9: as the grammar is refused.
+  pub grammar-exactly : (n k : ℕ) → n ≤ 9 → (listingAnswer b w l ≡ Refused n k) ↔ (checked b ≡ Rejected n k)
+  grammar-exactly n k small = ((λ e. by-grammar (order-first lines (refused-if b w l n k e)) small), (λ h. refused-answer n k (rw h refl)))
+
   -- 10: the text is over its limit; the place is its length.
   pub ten-exactly : (k : ℕ) → (listingAnswer b w l ≡ Refused 10 k) ↔ ((checked b ≡ Accepted) × (textLimit < length w) × (k ≡ length w))
   ten-exactly k = (

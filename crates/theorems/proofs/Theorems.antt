@@ -1,9 +1,10 @@
 -- The theorems of the page, each from the law that proves it.
-use mathlib.Core.Path.{_≡_, sym, subst, subst⁻¹, fun-ext}
+use mathlib.Core.Path.{_≡_, refl, sym, subst, subst⁻¹, fun-ext}
 use mathlib.Core.Logic.{⊎-elim, _⊎_}
 use Prim.Native.Nat.{ℕ}
 use mathlib.Core.List.{List}
-use Rattle.ccg.proofs.FlatAnswerLaws.{flat-fits, flat-too-long}
+use lib.ListN.{length}
+use Rattle.ccg.proofs.FlatAnswerLaws.{flat-fits, flat-too-long, flat-grammar}
 use Rattle.ccg.proofs.FlatClassLaws.{flat-any, flat-argument}
 use Rattle.ccg.proofs.FlatLaws.{flat-trees}
 use Rattle.ccg.proofs.VisserLaws.{flat-completed, flat-visser}
@@ -14,18 +15,16 @@ use Rattle.engine.proofs.AnswerLaws.{none-exactly, none-buffer, several-exactly
 use Rattle.extract.specs.Written.{room}
 use Rattle.grammar.specs.Layout.{startSort}
 use Rattle.listing.proofs.ReadingLaws.{one-right}
-use Rattle.listing.proofs.RefusedLaws.{ten-exactly as listing-ten, eleven-exactly, right-exactly}
+use Rattle.listing.proofs.RefusedLaws.{grammar-exactly as listing-grammar, ten-exactly as listing-ten, eleven-exactly, right-exactly}
 use Rattle.marked.proofs.Marked.{marked-outcomes}
 use Rattle.parse.proofs.AnswerLaws.{parsed-outcome, refused-unchanged, grammar-exactly, ten-exactly, twenty-exactly}
 use Rattle.parse.proofs.OutcomeLaws.{outcome-unique}
-use Rattle.parse.specs.Outcome.{Outcome}
 use Rattle.parse.specs.Reading.{Reading}
-use Rattle.engine.specs.declared.Answer.{Answer}
 use Rattle.priority.proofs.CheckLaws.{accepted-formed}
 use Rattle.priority.proofs.ConflictAnswerLaws.{conflict-yes, conflict-no, conflict-absent, conflict-refused}
 use Rattle.priority.proofs.DeclarationLaws.{accepted-declares}
 use Rattle.priority.proofs.RefusalLaws.{refused-first, first-refused, accepted-free, free-accepted}
-use Rattle.theorems.specs.Theorems.{Bytes, AcceptedExactly, RefusedExactly, ConflictExactly, FlatExactly, ReadingRefused, OneOutcome, ListingExactly, OneIsRight, Declares, FlatIsVisser, FlatIsCompleted, FlatTrees, FlatArguments, ReadingsAreFlat, Read, TextDetermines, Archived, FlatIsWritten, MarkedCases}
+use Rattle.theorems.specs.Theorems.{Bytes, AcceptedExactly, RefusedExactly, ConflictExactly, FlatExactly, Refuses, OneOutcome, ListingExactly, OneIsRight, Declares, FlatIsVisser, FlatIsCompleted, FlatTrees, FlatArguments, ReadingsAreFlat, Read, TextDetermines, Archived, FlatIsWritten, MarkedCases}
 
 -- ---- demand 1
 
@@ -39,10 +38,17 @@ pub conflict-exactly : (b : List ℕ) (p i q : ℕ) → ConflictExactly b p i q
 conflict-exactly b p i q =
     record { yes = conflict-yes b p i q; no = conflict-no b p i q; absent = conflict-absent b p i q; refused = conflict-refused b p i q }
 
-pub flat-exactly : (b : List ℕ) (room : ℕ) → FlatExactly b room
-flat-exactly b room = record { fits = flat-fits b room; tooLong = flat-too-long b room }
+pub flat-exactly : (b out₀ : List ℕ) → FlatExactly b out₀
+flat-exactly b out₀ =
+    record {
+      fits = flat-fits b (length out₀);
+      tooLong = flat-too-long b (length out₀);
+      grammar = flat-grammar b (length out₀);
+      written = λ n text. refl;
+      unwritten = λ n k text. refl;
+    }
 
-pub reading-refused : (b w chart₀ l₀ : List ℕ) (r : Answer) (chart l : List ℕ) → Outcome b w chart₀ l₀ r chart l → ReadingRefused b w chart₀ l₀ r chart l
+pub reading-refused : Refuses
 reading-refused b w chart₀ l₀ r chart l o =
     record {
       grammar = grammar-exactly b w chart₀ l₀ r chart l o;
@@ -55,7 +61,7 @@ pub one-outcome : OneOutcome
 one-outcome = outcome-unique
 
 pub listing-exactly : (b w l : List ℕ) → Bytes b → ListingExactly b w l
-listing-exactly b w l bytes = record { right = right-exactly b w l bytes; ten = listing-ten b w l; eleven = eleven-exactly b w l }
+listing-exactly b w l bytes = record { right = right-exactly b w l bytes; grammar = listing-grammar b w l; ten = listing-ten b w l; eleven = eleven-exactly b w l }
 
 pub one-is-right : OneIsRight
 one-is-right = one-right

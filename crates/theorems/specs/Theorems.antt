@@ -7,7 +7,14 @@
 --     ccg::write_flat              answers  flatAnswer b (how long its buffer is), and leaves there  bufferAfter
 --     parse::parse                 answers some r and leaves some chart and l with  Outcome b w chart₀ l₀ r chart l
 --     listing::check_listing       answers  listingAnswer b w l
--- A call that is proved ends. Productions (rules) are numbered from 0; production p has the number 258 + p.
+-- A call that is proved ends.
+--
+-- Words. A tree (theory/specs/Tree) is a character or a production (rule) with a list of trees; `yield` is what it spells and `listing` its numbers, a
+-- production's number, 258 + p, before its arguments'. `Built b x t`: t is a tree of the grammar at argument byte x, conflicts (clashes) let through
+-- (ccg/specs/Trees); `Conflict b p i q`: production q as argument i of p is a pattern of Definition 2.6 (priority/specs/Conflict); `ConflictFree`: no subtree's root
+-- has one. `Reading b w t`: t is built at the start sort, has no conflict and spells w (parse/specs/Reading); `EntryList b w p d i j f`: f has such trees for the first
+-- d arguments of p, and they spell w from i to j. `Generated g cc t`: t is a tree of the character class grammar g (a list of lines) in the class cc (ccg/specs/Ccg).
+-- `Only P t`: P holds of t and of nothing else; `Two P`: of two different things; `Counts P v`: of none, one or two, as v is 0, 1 or 2 (theory/specs/Counts).
 use Prim.Native.Nat.{ℕ, _*_, _/_, _%_, _≤_, _<_}
 use mathlib.Core.Path.{_≡_}
 use mathlib.Core.Bool.{true}
@@ -16,7 +23,7 @@ use mathlib.Core.Logic.{_↔_, _⊎_}
 use lib.ListN.{length, getD, take, drop}
 use Rattle.ccg.specs.Ccg.{Class, Line, Generated}
 use Rattle.ccg.specs.Flat.{flatClass, flatGrammar, plainClass}
-use Rattle.ccg.specs.Text.{grammarText, flatAnswer}
+use Rattle.ccg.specs.Text.{grammarText, flatAnswer, bufferAfter}
 use Rattle.ccg.specs.Trees.{Built, ConflictFree, Apart}
 use Rattle.ccg.specs.Visser.{visserGrammar, completedGrammar, SingleHigher}
 use Rattle.ccg.specs.Written.{WrittenForm}
@@ -57,36 +64,47 @@ AcceptedExactly = (b : List ℕ) → (checked b ≡ Accepted) ↔ ((stage number
 abbrev pub RefusedExactly : Type 0
 RefusedExactly = (b : List ℕ) (number place : ℕ) → (checked b ≡ Refused number place) ↔ First b number place
 
--- Does production q conflict as argument i of p? Yes, no, and 7 with place 0 if one of them isn't there; no other answer but the grammar's refusal.
+-- Does production q conflict as argument i of p? Yes, no, and 7 with place 0 if one of them isn't there, for every b, p, i and q; no refusal comes but this and
+-- the grammar's.
 pub record ConflictExactly (b : List ℕ) (p i q : ℕ) : Type 0 where
   pub yes : (conflictAnswer b p i q ≡ Yes) ↔ ((checked b ≡ Accepted) × There b p i q × Conflict b p i q)
   pub no : (conflictAnswer b p i q ≡ No) ↔ ((checked b ≡ Accepted) × There b p i q × (Conflict b p i q → ⊥))
   pub absent : (conflictAnswer b p i q ≡ NotAsked 7 0) ↔ ((checked b ≡ Accepted) × (There b p i q → ⊥))
   pub refused : (n k : ℕ) → (conflictAnswer b p i q ≡ NotAsked n k) ↔ ((checked b ≡ Refused n k) ⊎ ((checked b ≡ Accepted) × (There b p i q → ⊥) × (n ≡ 7) × (k ≡ 0)))
 
--- The character class grammar (flat book) is written exactly if it fits, and else refused with 21 and its length.
-pub record FlatExactly (b : List ℕ) (room : ℕ) : Type 0 where
-  pub fits : (n : ℕ) → (flatAnswer b room ≡ Written n) ↔ ((checked b ≡ Accepted) × (n ≡ length (grammarText (flatGrammar b))) × (n ≤ room))
-  pub tooLong : (k : ℕ) → (flatAnswer b room ≡ NotWritten 21 k) ↔ ((checked b ≡ Accepted) × (k ≡ length (grammarText (flatGrammar b))) × (room < k))
+-- The text of the character class grammar (flat book) is written exactly if it fits the buffer, which held out₀, and else refused with 21 and its length; the buffer
+-- then starts with the text, or is unchanged. For every b and out₀.
+pub record FlatExactly (b out₀ : List ℕ) : Type 0 where
+  pub fits : (n : ℕ) → (flatAnswer b (length out₀) ≡ Written n) ↔ ((checked b ≡ Accepted) × (n ≡ length (grammarText (flatGrammar b))) × (n ≤ length out₀))
+  pub tooLong : (k : ℕ) → (flatAnswer b (length out₀) ≡ NotWritten 21 k) ↔ ((checked b ≡ Accepted) × (k ≡ length (grammarText (flatGrammar b))) × (length out₀ < k))
+  pub grammar : (n k : ℕ) → n ≤ 9 → (flatAnswer b (length out₀) ≡ NotWritten n k) ↔ (checked b ≡ Refused n k)
+  pub written : (n : ℕ) (text : List ℕ) → bufferAfter (Written n) text out₀ ≡ text ++ drop (length text) out₀
+  pub unwritten : (n k : ℕ) (text : List ℕ) → bufferAfter (NotWritten n k) text out₀ ≡ out₀
 
--- Reading a text is refused with 1 to 9, 10 and 20 exactly so, and by these refusals nothing is changed. One outcome meets the promise.
+-- Reading a text is refused with 1 to 9, 10 and 20 exactly so, and by these refusals nothing is changed.
 pub record ReadingRefused (b w chart₀ l₀ : List ℕ) (r : Answer) (chart l : List ℕ) : Type 0 where
   pub grammar : (n k : ℕ) → n ≤ 9 → (r ≡ NotRead n k) ↔ (checked b ≡ Refused n k)
   pub ten : (k : ℕ) → (r ≡ NotRead 10 k) ↔ ((checked b ≡ Accepted) × (textLimit < length w) × (k ≡ length w))
   pub twenty : (k : ℕ) → (r ≡ NotRead 20 k) ↔ ((checked b ≡ Accepted) × (length w ≤ textLimit) × (k ≡ needed b (length w)) × (length chart₀ < k))
   pub unchanged : (n k : ℕ) → (n ≡ 22 → ⊥) → r ≡ NotRead n k → (chart ≡ chart₀) × (l ≡ l₀)
 
+abbrev pub Refuses : Type 0
+Refuses = (b w chart₀ l₀ : List ℕ) (r : Answer) (chart l : List ℕ) → Outcome b w chart₀ l₀ r chart l → ReadingRefused b w chart₀ l₀ r chart l
+
+-- What was lent determines the answer and every byte afterwards.
 abbrev pub OneOutcome : Type 0
 OneOutcome =
     (b w chart₀ l₀ : List ℕ) (r r′ : Answer) (chart chart′ l l′ : List ℕ)
     → Outcome b w chart₀ l₀ r chart l → Outcome b w chart₀ l₀ r′ chart′ l′ → (r ≡ r′) × (chart ≡ chart′) × (l ≡ l′)
 
--- A listing is found right exactly if it is that of a reading and nothing is refused; 10 and 11 come exactly so. What reading answered with one is found right.
+-- A listing is found right exactly if it is that of a reading and nothing is refused; the refusals come exactly so. For every w and l, and every b of bytes.
 pub record ListingExactly (b w l : List ℕ) : Type 0 where
   pub right : (listingAnswer b w l ≡ Right) ↔ ((checked b ≡ Accepted) × (length w ≤ textLimit) × (length l % 2 ≡ 0) × (length l ≤ byteLimit) × ((t : Tree) × Reading b w t × (listing t ≡ numbersOf l)))
+  pub grammar : (n k : ℕ) → n ≤ 9 → (listingAnswer b w l ≡ NotChecked n k) ↔ (checked b ≡ Refused n k)
   pub ten : (k : ℕ) → (listingAnswer b w l ≡ NotChecked 10 k) ↔ ((checked b ≡ Accepted) × (textLimit < length w) × (k ≡ length w))
   pub eleven : (k : ℕ) → (listingAnswer b w l ≡ NotChecked 11 k) ↔ ((checked b ≡ Accepted) × (length w ≤ textLimit) × ((length l % 2 ≡ 1) ⊎ (byteLimit < length l)) × (k ≡ length l))
 
+-- What reading answered with one is found right, if it isn't too long to be checked.
 abbrev pub OneIsRight : Type 0
 OneIsRight =
     (b : List ℕ) → Bytes b → (w chart₀ l₀ : List ℕ) (n : ℕ) (chart l : List ℕ)
@@ -124,8 +142,9 @@ ReadingsAreFlat =
     (b : List ℕ) → Bytes b → checked b ≡ Accepted → (w : List ℕ) (t : Tree)
     → Reading b w t ↔ (Generated (flatGrammar b) (plainClass b (startSort b)) t × (yield t ≡ w))
 
--- ---- 3. "'None' comes back exactly when no reading of any size exists, 'several' exactly when two different ones do, and 'one' exactly when there is a single
--- reading and its listing fits. The length that comes back is then that listing's, and the buffer starts with that listing, whole. Refusal for length comes
+-- ---- 3. "For every accepted book, however its rules loop or vanish, every line within the limit, every chart long enough and every listing buffer, whatever chart and
+-- buffer held before: 'none' comes back exactly when no reading of any size exists, 'several' exactly when two different ones do, and 'one' exactly when there is a
+-- single reading and its listing fits. The length that comes back is then that listing's, and the buffer starts with that listing, whole. Refusal for length comes
 -- exactly when there is a single reading and its listing doesn't fit, and no other answer comes."
 
 pub record ReadExactly (b w chart₀ l₀ : List ℕ) (r : Answer) (chart l : List ℕ) : Type 0 where
