@@ -1,6 +1,6 @@
 -- Laws of scattered writes.
 use Prim.Native.Nat.{ℕ, _+_, _<_}
-use mathlib.Core.Path.{_≡_, refl, sym, _∙_, subst⁻¹}
+use mathlib.Core.Path.{_≡_, refl, _∙_, subst⁻¹}
 use mathlib.Core.Bool.{lt}
 use mathlib.Core.List.{List}
 use mathlib.Core.Logic.{by-cases}

@@ -1,16 +1,23 @@
 -- Laws of verdicts: what stands when a check accepts, and where the first refusal of many comes from.
 use Prim.Native.Nat.{ℕ, zero, suc, _+_, _<_}
-use mathlib.Core.Path.{_≡_, refl, sym, _∙_, ap, subst, subst₂}
+use mathlib.Core.Path.{_≡_, refl, sym, _∙_, ap, ap₂, subst, subst₂}
 use mathlib.Core.Bool.{Bool, false, true}
 use mathlib.Core.List.{List, [], _∷_, _++_}
-use mathlib.Core.Logic.{_⊎_, inl, inr, ⊎-elim, by-cases}
+use mathlib.Core.Logic.{_↔_, _⊎_, inl, inr, ⊎-elim, by-cases}
 use native.Mathlib.Omega.{arith}
 use native.Mathlib.Decide.{decLt}
 use native.Mathlib.Numerals.{add-one}
 use borrow.Author.Tests.{lt-ltb, le-ltb, le-leb, lt-leb, eq-eqb, ne-eqb}
-use Rattle.grammar.specs.Verdict.{refuseIf, andThen, firstRefusal, inOrder}
+use Rattle.grammar.specs.Verdict.{refuseIf, andThen, firstRefusal, inOrder, unlessRefused}
 use Rattle.grammar.specs.declared.Verdict.{Verdict}
 use Rattle.grammar.specs.declared.Verdict.the-variants.{Accepted, Refused}
+
+-- equal refusals have one number and one place
+pub same-number : {n k m j : ℕ} → Refused n k ≡ Refused m j → n ≡ m
+same-number e = cc
+
+pub same-place : {n k m j : ℕ} → Refused n k ≡ Refused m j → k ≡ j
+same-place e = cc
 
 -- what the code's tests say, for definitions that go by the same tests
 pub ruleset cases = (lt-ltb, le-ltb, le-leb, lt-leb, eq-eqb, ne-eqb)
@@ -119,3 +126,20 @@ first-of check (suc n) e =
     (λ a. let f = first-of check n a in record { index = f .index; below = omega (arith, f .below); refused = f .refused; before = f .before })
     (λ b. record { index = n; below = omega arith; refused = b .1; before = first-all check n (b .0) })
     (and-refused (firstRefusal n check) (check n) e)
+
+-- ---- an operation that refuses what a verdict refuses
+
+-- Any other answer is the operation's own.
+pub unless-answer : {A : Type 0} (refused : ℕ → ℕ → A) (v : Verdict) (own x : A) → ((n k : ℕ) → refused n k ≡ x → ⊥)
+    → (unlessRefused refused v own ≡ x) ↔ ((v ≡ Accepted) × (own ≡ x))
+unless-answer refused Accepted own x other = ((λ e. (refl, e)), (λ h. h .1))
+unless-answer refused (Refused n k) own x other = ((λ e. absurd (other n k e)), (λ h. refused-not-accepted n k (h .0)))
+
+-- A refusal is the verdict's, or the operation's own.
+pub unless-refused : {A : Type 0} (refused : ℕ → ℕ → A) → ((n k m j : ℕ) → refused n k ≡ refused m j → Refused n k ≡ Refused m j) → (v : Verdict) (own : A) (n k : ℕ)
+    → (unlessRefused refused v own ≡ refused n k) ↔ ((v ≡ Refused n k) ⊎ ((v ≡ Accepted) × (own ≡ refused n k)))
+unless-refused refused same Accepted own n k = ((λ e. inr (refl, e)), ⊎-elim (λ h. refused-not-accepted n k (sym h)) (λ h. h .1))
+unless-refused refused same (Refused m j) own n k = (
+  (λ e. inl (same m j n k e)),
+  ⊎-elim (λ h. ap₂ refused (same-number h) (same-place h)) (λ h. refused-not-accepted m j (h .0)),
+)

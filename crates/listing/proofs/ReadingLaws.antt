@@ -1,7 +1,7 @@
 -- What checking a listing answers, over the grammar's own trees: right exactly if the numbers are the listing of a parse of the text; what parsing answers with one
 -- is found right; and each refusal is given only under its condition.
 use Prim.Native.Nat.{ℕ, _+_, _*_, _/_, _%_, _≤_, _<_}
-use mathlib.Core.Path.{_≡_, refl, sym, _∙_, ap, subst⁻¹}
+use mathlib.Core.Path.{_≡_, refl, sym, subst⁻¹}
 use mathlib.Core.List.{List, [], _∷_}
 use mathlib.Core.Logic.{_↔_}
 use native.Mathlib.Omega.{arith}
@@ -16,17 +16,16 @@ use Rattle.engine.specs.Outcome.{Answered}
 use Rattle.engine.specs.declared.Answer.the-variants.{One}
 use Rattle.extract.proofs.WrittenLaws.{bytes-long}
 use Rattle.extract.specs.Written.{twoBytes, bytesOf}
-use Rattle.grammar.proofs.VerdictLaws.{and-first, and-second}
+use Rattle.grammar.proofs.VerdictLaws.{and-first, and-second, unless-answer}
 use Rattle.grammar.specs.Formed.{WellFormed}
 use Rattle.grammar.specs.Layout.{startSort}
-use Rattle.grammar.specs.Verdict.{andThen, inOrder, unlessRefused}
+use Rattle.grammar.specs.Verdict.{andThen, inOrder}
 use Rattle.grammar.specs.declared.Verdict.{Verdict}
 use Rattle.grammar.specs.declared.Verdict.the-variants.{Accepted}
 use Rattle.listing.proofs.TerminalLaws.{OwnNumbers}
 use Rattle.listing.proofs.TreeLaws.{judge-right}
 use Rattle.listing.specs.Answer.{byteLimit, badListing, judged, afterVerdict, listingAnswer}
 use Rattle.listing.specs.Numbers.{numbersOf}
-use Rattle.listing.specs.declared.ListingAnswer.{ListingAnswer}
 use Rattle.listing.specs.declared.ListingAnswer.the-variants.{Right, Refused}
 use Rattle.parse.specs.Outcome.{tooLong, tooShort, refusal, AfterVerdict, Outcome}
 use Rattle.parse.specs.Reading.{Reading}
@@ -69,37 +68,28 @@ judged-right b formed bytes w l = ((λ e. right-reading b formed bytes w l e), (
 
 -- ---- the whole answer
 
-refused-not-right : {A : Type 0} (n p : ℕ) → Refused n p ≡ Right → A
-refused-not-right n p e = let z : _≡_ {A = ℕ} 0 1 = cc in absurd (omega arith)
-
--- an answer that is "right" is no refusal
-accepted-if-right : (v : Verdict) (a : ListingAnswer) → unlessRefused Refused v a ≡ Right → (v ≡ Accepted) × (a ≡ Right)
-accepted-if-right Accepted a e = (refl, e)
-accepted-if-right (Rejected n p) a e = refused-not-right n p e
+refused-right : (n p : ℕ) → Refused n p ≡ Right → ⊥
+refused-right n p e = let z : _≡_ {A = ℕ} 0 1 = cc in omega arith
 
 module _ (b w l : List ℕ) where
   -- the refusals, in order
   abbrev pub refusals : Verdict
   refusals = inOrder (checked b ∷ tooLong w ∷ badListing l ∷ [])
 
-  -- without a refusal the numbers decide, and the grammar is well-formed
-  answer-judged : refusals ≡ Accepted → listingAnswer b w l ≡ judged b w l
+  -- "right" is no refusal: then the numbers decide
+  right-parts : (listingAnswer b w l ≡ Right) ↔ ((refusals ≡ Accepted) × (judged b w l ≡ Right))
   unfolding listingAnswer afterVerdict
-  answer-judged e = ap (λ (v : Verdict). unlessRefused Refused v (judged b w l)) e
+  right-parts = unless-answer Refused refusals (judged b w l) Right refused-right
 
   refusals-formed : refusals ≡ Accepted → WellFormed b
   refusals-formed e = accepted-formed b (and-first (checked b) (andThen (tooLong w) (badListing l)) e)
-
-  right-parts : listingAnswer b w l ≡ Right → (refusals ≡ Accepted) × (judged b w l ≡ Right)
-  unfolding listingAnswer afterVerdict
-  right-parts e = accepted-if-right refusals (judged b w l) e
 
 -- The answer is "right" exactly if nothing is refused and the numbers are the listing of a parse of the text.
 pub listing-right : (b : List ℕ) → ((k : ℕ) → getD b k 0 < characters) → (w l : List ℕ)
     → (listingAnswer b w l ≡ Right) ↔ ((inOrder (checked b ∷ tooLong w ∷ badListing l ∷ []) ≡ Accepted) × ((t : Tree) × Reading b w t × (listing t ≡ numbersOf l)))
 listing-right b bytes w l = (
-  (λ e. let (accepted, e′) = right-parts b w l e in (accepted, judged-right b (refusals-formed b w l accepted) bytes w l .0 e′)),
-  (λ h. answer-judged b w l (h .0) ∙ judged-right b (refusals-formed b w l (h .0)) bytes w l .1 (h .1)),
+  (λ e. let (accepted, e′) = right-parts b w l .0 e in (accepted, judged-right b (refusals-formed b w l accepted) bytes w l .0 e′)),
+  (λ h. right-parts b w l .1 (h .0, judged-right b (refusals-formed b w l (h .0)) bytes w l .1 (h .1))),
 )
 
 -- ---- what parsing answers with one

@@ -7,24 +7,24 @@ use mathlib.Core.Logic.{_↔_, _⊎_, inl, inr, ⊎-elim}
 use native.Mathlib.Omega.{arith}
 use lib.Dec.{ltb, eqb}
 use lib.ListN.{length, getD}
-use borrow.Author.Tests.{ltb-true, eqb-true, le-ltb, ltb-false, eqb-false, lt-ltb, eq-eqb}
+use borrow.Author.Tests.{ltb-true, eqb-true, ltb-false, eqb-false, lt-ltb, eq-eqb}
 use Rattle.ccg.specs.Ccg.{Class, Line}
 use Rattle.ccg.specs.Flat.{flatGrammar, plainClass}
 use Rattle.charset.specs.Set.{characters}
 use Rattle.chart.specs.Layout.{textLimit}
 use Rattle.common.proofs.BoolLaws.{or-cases, true-or-false, or-first, or-second, or-first-false, or-second-false}
-use Rattle.grammar.proofs.VerdictLaws.{and-first, and-second, refuse-case, FirstIn, here, there, order-first, refuse-accepted}
+use Rattle.grammar.proofs.VerdictLaws.{and-first, and-second, refuse-case, FirstIn, here, there, order-first, refuse-accepted, unless-refused}
 use Rattle.grammar.specs.Layout.{startSort}
-use Rattle.grammar.specs.Verdict.{andThen, inOrder, unlessRefused}
+use Rattle.grammar.specs.Verdict.{andThen, inOrder}
 use Rattle.grammar.specs.declared.Verdict.{Verdict}
 use Rattle.grammar.specs.declared.Verdict.the-variants.{Accepted}
 use Rattle.listing.specs.Answer.{byteLimit, badListing, judged, afterVerdict, listingAnswer}
 use Rattle.listing.specs.Judge.{isRight, dueAfter, textAfter, judge}
 use Rattle.listing.specs.Numbers.{numbersOf}
-use Rattle.listing.specs.declared.ListingAnswer.{ListingAnswer}
 use Rattle.listing.specs.declared.ListingAnswer.the-variants.{Right, Wrong, Refused}
 use Rattle.parse.specs.Outcome.{tooLong}
 use Rattle.parse.specs.Reading.{Reading}
+use Rattle.parse.proofs.RefusalLaws.{long-text, short-text, text-short, text-long}
 use Rattle.priority.proofs.RefusalLaws.{checked-number}
 use Rattle.priority.specs.Check.{checked}
 use Rattle.theory.specs.Tree.{Tree, listing}
@@ -49,26 +49,18 @@ judge-no-refusal g (n ∷ ns) (due ∷ dues) w k number place e =
     (λ t. wrong-no-refusal k number place (rw t at e))
     (true-or-false (isRight g due w n))
 
--- a refusal that isn't of the numbers is the verdict's
-refused-by-verdict : (v : Verdict) (a : ListingAnswer) (number place : ℕ) → (a ≡ Refused number place → ⊥) → unlessRefused Refused v a ≡ Refused number place
-    → v ≡ Rejected number place
-refused-by-verdict Accepted a number place h e = absurd (h e)
-refused-by-verdict (Rejected n p) a number place h e = cc
+rejected : (n k m j : ℕ) → Refused n k ≡ Refused m j → Rejected n k ≡ Rejected m j
+rejected n k m j e = cc
 
 -- A refusal is the first of the grammar's, 10 and 11.
 pub refused-if : (b w l : List ℕ) (number place : ℕ) → listingAnswer b w l ≡ Refused number place
     → inOrder (checked b ∷ tooLong w ∷ badListing l ∷ []) ≡ Rejected number place
 unfolding listingAnswer afterVerdict judged
 refused-if b w l number place e =
-    refused-by-verdict (refusals b w l) (judged b w l) number place
-    (λ h. judge-no-refusal (flatGrammar b) (numbersOf l) (plainClass b (startSort b) ∷ []) w 0 number place h)
-    e
-
-long-refused : (w : List ℕ) {k p : ℕ} → tooLong w ≡ Rejected k p → (k ≡ 10) × (textLimit < length w) × (p ≡ length w)
-unfolding tooLong
-long-refused w e =
-    refuse-case (λ k p. (k ≡ 10) × (textLimit < length w) × (p ≡ length w)) (ltb textLimit (length w)) 10 (length w) e
-    (λ t. (refl, ltb-true textLimit (length w) t, refl))
+    ⊎-elim
+    (λ h. h)
+    (λ h. absurd (judge-no-refusal (flatGrammar b) (numbersOf l) (plainClass b (startSort b) ∷ []) w 0 number place (h .1)))
+    (unless-refused Refused rejected (refusals b w l) (judged b w l) number place .0 e)
 
 listing-refused : (l : List ℕ) {k p : ℕ} → badListing l ≡ Rejected k p → (k ≡ 11) × ((length l % 2 ≡ 1) ⊎ (byteLimit < length l)) × (p ≡ length l)
 unfolding badListing
@@ -95,18 +87,6 @@ module _ (b w l : List ℕ) where
       let many = ltb byteLimit (length l) in
       rw (⊎-elim (λ o. or-first odd many (eq-eqb (length l % 2) 1 o)) (λ o. or-second odd many (lt-ltb byteLimit (length l) o)) h) refl
 
-  good-text : length w ≤ textLimit → tooLong w ≡ Accepted
-  unfolding tooLong
-  good-text h = rw (le-ltb textLimit (length w) h) refl
-
-  text-good : tooLong w ≡ Accepted → length w ≤ textLimit
-  unfolding tooLong
-  text-good e = ltb-false textLimit (length w) (refuse-accepted _ 10 (length w) e)
-
-  long-text : textLimit < length w → tooLong w ≡ Rejected 10 (length w)
-  unfolding tooLong
-  long-text h = rw (lt-ltb textLimit (length w) h) refl
-
   listing-good : badListing l ≡ Accepted → (length l % 2 ≡ 0) × (length l ≤ byteLimit)
   unfolding badListing
   listing-good e =
@@ -122,17 +102,17 @@ module _ (b w l : List ℕ) where
 
   by-ten : {n k : ℕ} → FirstIn lines n k → n ≡ 10 → (checked b ≡ Accepted) × (textLimit < length w) × (k ≡ length w)
   by-ten (here e) ten = absurd (omega (arith, checked-number b e))
-  by-ten (there a (here e)) ten = let h = long-refused w e in (a, h .1, h .2)
+  by-ten (there a (here e)) ten = let h = text-long w e in (a, h .1, h .2)
   by-ten (there a (there c (here e))) ten = absurd (omega (arith, listing-refused l e .0))
 
   by-eleven : {n k : ℕ} → FirstIn lines n k → n ≡ 11 → (checked b ≡ Accepted) × (length w ≤ textLimit) × BadListing × (k ≡ length l)
   by-eleven (here e) eleven = absurd (omega (arith, checked-number b e))
-  by-eleven (there a (here e)) eleven = absurd (omega (arith, long-refused w e .0))
-  by-eleven (there a (there c (here e))) eleven = let h = listing-refused l e in (a, text-good c, h .1, h .2)
+  by-eleven (there a (here e)) eleven = absurd (omega (arith, text-long w e .0))
+  by-eleven (there a (there c (here e))) eleven = let h = listing-refused l e in (a, text-short w c, h .1, h .2)
 
   by-grammar : {n k : ℕ} → FirstIn lines n k → n ≤ 9 → checked b ≡ Rejected n k
   by-grammar (here e) small = e
-  by-grammar (there a (here e)) small = absurd (omega (arith, long-refused w e .0))
+  by-grammar (there a (here e)) small = absurd (omega (arith, text-long w e .0))
   by-grammar (there a (there c (here e))) small = absurd (omega (arith, listing-refused l e .0))
 
   -- 1 to 9: as the grammar is refused.
@@ -143,14 +123,14 @@ module _ (b w l : List ℕ) where
   pub ten-exactly : (k : ℕ) → (listingAnswer b w l ≡ Refused 10 k) ↔ ((checked b ≡ Accepted) × (textLimit < length w) × (k ≡ length w))
   ten-exactly k = (
     (λ e. by-ten (order-first lines (refused-if b w l 10 k e)) refl),
-    (λ h. refused-answer 10 (length w) (rw (h .0, long-text (h .1)) refl) ∙ ap (Refused 10) (sym (h .2))),
+    (λ h. refused-answer 10 (length w) (rw (h .0, long-text w (h .1)) refl) ∙ ap (Refused 10) (sym (h .2))),
   )
 
   -- 11: the listing has an odd byte count or one over the limit; the place is the byte count.
   pub eleven-exactly : (k : ℕ) → (listingAnswer b w l ≡ Refused 11 k) ↔ ((checked b ≡ Accepted) × (length w ≤ textLimit) × BadListing × (k ≡ length l))
   eleven-exactly k = (
     (λ e. by-eleven (order-first lines (refused-if b w l 11 k e)) refl),
-    (λ h. refused-answer 11 (length l) (rw (h .0, good-text (h .1), bad-listing (h .2)) refl) ∙ ap (Refused 11) (sym (h .3))),
+    (λ h. refused-answer 11 (length l) (rw (h .0, short-text w (h .1), bad-listing (h .2)) refl) ∙ ap (Refused 11) (sym (h .3))),
   )
 
   -- Right: nothing is refused, and the numbers are the listing of a reading.
@@ -161,6 +141,6 @@ module _ (b w l : List ℕ) where
     (λ e. let (free, found) = listing-right b bytes w l .0 e in
         let later = and-second (checked b) (andThen (tooLong w) (badListing l)) free in
         let good = listing-good (and-second (tooLong w) (badListing l) later) in
-        (and-first (checked b) (andThen (tooLong w) (badListing l)) free, text-good (and-first (tooLong w) (badListing l) later), good .0, good .1, found)),
-    (λ (e, short, even, few, found). listing-right b bytes w l .1 (rw (e, good-text short) (listing-accepted l even few), found)),
+        (and-first (checked b) (andThen (tooLong w) (badListing l)) free, text-short w (and-first (tooLong w) (badListing l) later), good .0, good .1, found)),
+    (λ (e, short, even, few, found). listing-right b bytes w l .1 (rw (e, short-text w short) (listing-accepted l even few), found)),
   )

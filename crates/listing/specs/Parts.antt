@@ -4,7 +4,7 @@ use mathlib.Core.Path.{_≡_}
 use mathlib.Core.List.{List, _++_}
 use lib.ListN.{length, getD, drop}
 use Rattle.ccg.specs.Ccg.{Class, Line}
-use Rattle.ccg.specs.Tables.{slot, tableClass, slotLine}
+use Rattle.ccg.specs.Tables.{slotLine}
 use Rattle.listing.specs.Judge.{judge}
 use Rattle.listing.specs.declared.ListingAnswer.{ListingAnswer}
 use Rattle.listing.specs.declared.Part.{Part}

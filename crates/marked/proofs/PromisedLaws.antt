@@ -9,9 +9,11 @@ use Rattle.engine.proofs.AnswerLaws.{none-exactly, none-buffer, several-exactly
 use Rattle.engine.specs.declared.Answer.{Answer}
 use Rattle.extract.specs.Written.{bytesOf}
 use Rattle.marked.specs.Cases.{Expected, noReading, oneReading, severalReadings, badGrammar, refused, Says, Case, Statement, Answers, Promised, All}
-use Rattle.parse.proofs.AnswerLaws.{refused-grammar, refused-outcome, accepted-outcome}
+use Rattle.parse.proofs.AnswerLaws.{refused-outcome, accepted-outcome}
+use Rattle.parse.proofs.RefusalLaws.{refusal-grammar}
 use Rattle.parse.specs.Outcome.{tooShort, refusal, Outcome}
 use Rattle.parse.specs.Reading.{Reading}
+use Rattle.priority.proofs.RefusalLaws.{checked-number}
 
 -- of the chart only the length decides on a refusal
 refusal-length : (b w c c′ : List ℕ) → length c ≡ length c′ → refusal b w c ≡ refusal b w c′
@@ -32,7 +34,7 @@ module _ (b w c₀ l₀ : List ℕ) (r : Answer) (c l : List ℕ) (o : Outcome b
   says-answers severalReadings (free, two) =
       let a = accepted-outcome b w c₀ l₀ r c l o free .answer in
       (several-exactly (Reading b w) l₀ r l a .1 two, several-buffer (Reading b w) l₀ r l a two)
-  says-answers (badGrammar number place) e = let a = refused-outcome b w c₀ l₀ r c l o number place (refused-grammar b w c₀ number place e) in (a .0, a .2)
+  says-answers (badGrammar number place) e = let a = refused-outcome b w c₀ l₀ r c l o number place (refusal-grammar b w c₀ number place (checked-number b e) .1 e) in (a .0, a .2)
   says-answers (refused number place) e = let a = refused-outcome b w c₀ l₀ r c l o number place e in (a .0, a .2)
 
 -- what is said of one chart is said of every chart as long

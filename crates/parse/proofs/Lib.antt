@@ -3,5 +3,6 @@ pub mod TestsLaws
 pub mod BookLaws
 pub mod CarryLaws
 pub mod OutcomeLaws
+pub mod RefusalLaws
 pub mod NumberLaws
 pub mod AnswerLaws

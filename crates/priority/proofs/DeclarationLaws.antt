@@ -1,54 +1,49 @@
 -- The declarations of an accepted grammar are a priority declaration (000, Definition 2.5).
-use Prim.Native.Nat.{ℕ, _<_}
-use mathlib.Core.Path.{_≡_, refl, _∙_}
-use mathlib.Core.Bool.{Bool, true, _||_}
+use Prim.Native.Nat.{ℕ}
+use mathlib.Core.Path.{_≡_, _∙_, ap}
+use mathlib.Core.Bool.{Bool, true, _&&_, or-comm}
 use mathlib.Core.List.{List}
-use mathlib.Core.Logic.{⊎-elim}
+use lib.Dec.{eqb}
 use Rattle.common.proofs.BelowLaws.{any-same}
-use Rattle.common.proofs.BoolLaws.{or-cases, or-first, or-second, same-test}
-use Rattle.grammar.specs.Formed.{WellFormed}
-use Rattle.grammar.specs.Layout.{productions, declarations}
+use Rattle.grammar.specs.Layout.{declarations, kind}
 use Rattle.grammar.specs.declared.Verdict.the-variants.{Accepted}
 use Rattle.priority.proofs.ChainLaws.{chain-append}
 use Rattle.priority.proofs.CheckLaws.{accepted-formed}
-use Rattle.priority.proofs.PriorityLaws.{declared-first}
+use Rattle.priority.proofs.PriorityLaws.{declared-there, higher-there}
 use Rattle.priority.proofs.RefusalLaws.{accepted-free}
-use Rattle.priority.specs.Chain.{link, more}
 use Rattle.priority.specs.Check.{checked}
-use Rattle.priority.specs.Priorities.{left, right, nonassoc, namesPair, coversPair, covers, declared, Higher, PriorityDeclaration}
+use Rattle.priority.specs.Priorities.{Kind, higher, left, right, nonassoc, kindNumber, namesPair, coversPair, covers, declared, PriorityDeclaration}
 use Rattle.priority.specs.Refusals.{refusal9}
 
+-- the kinds that hold both ways round
+abbrev BothWays : Kind → Type 0
+BothWays higher = ⊥
+BothWays left = Unit {0}
+BothWays right = Unit {0}
+BothWays nonassoc = Unit {0}
+
 -- a pair named one way round or the other is named either way
-swap : (a c : Bool) → (a || c) ≡ (c || a)
-swap a c = same-test (a || c) (c || a) (λ e. turned a c e) (λ e. turned c a e)
-  where
-    turned : (x y : Bool) → (x || y) ≡ true → (y || x) ≡ true
-    turned x y e = ⊎-elim (λ h. or-second y x h) (λ h. or-first y x h) (or-cases x y e)
+pair-turned : (b : List ℕ) (d : ℕ) (k : Kind) (x y : ℕ) → BothWays k → coversPair b d k x y ≡ coversPair b d k y x
+unfolding coversPair
+pair-turned b d higher x y h = absurd h
+pair-turned b d left x y h = or-comm (namesPair b d x y) (namesPair b d y x)
+pair-turned b d right x y h = or-comm (namesPair b d x y) (namesPair b d y x)
+pair-turned b d nonassoc x y h = or-comm (namesPair b d x y) (namesPair b d y x)
 
-module _ (b : List ℕ) (x y : ℕ) where
-  left-either : declared b left x y ≡ declared b left y x
-  unfolding declared covers coversPair
-  left-either = any-same _ _ (declarations b) (λ d l. rw (swap (namesPair b d x y) (namesPair b d y x)) refl)
-
-  right-either : declared b right x y ≡ declared b right y x
-  unfolding declared covers coversPair
-  right-either = any-same _ _ (declarations b) (λ d l. rw (swap (namesPair b d x y) (namesPair b d y x)) refl)
-
-  nonassoc-either : declared b nonassoc x y ≡ declared b nonassoc y x
-  unfolding declared covers coversPair
-  nonassoc-either = any-same _ _ (declarations b) (λ d l. rw (swap (namesPair b d x y) (namesPair b d y x)) refl)
-
--- what is higher than something is a production
-higher-there : (b : List ℕ) → WellFormed b → {x y : ℕ} → Higher b x y → x < productions b
-higher-there b w (link {x} {y} e) = declared-first b w x y e
-higher-there b w (more c e) = higher-there b w c
+declared-turned : (b : List ℕ) (k : Kind) → BothWays k → (x y : ℕ) → declared b k x y ≡ true → declared b k y x ≡ true
+unfolding declared covers
+declared-turned b k h x y e =
+    any-same (λ d. covers b d k y x) (λ d. covers b d k x y) (declarations b) (λ d l. ap (λ (v : Bool). eqb (kind b d) (kindNumber k) && v) (pair-turned b d k y x h)) ∙ e
 
 pub accepted-declares : (b : List ℕ) → checked b ≡ Accepted → PriorityDeclaration b
 accepted-declares b e =
+    let w = accepted-formed b e in
     record {
-      irreflexive = λ x c. accepted-free b e 7 9 x (refusal9 (record { there = higher-there b (accepted-formed b e) c; circle = c }));
+      higherThere = λ x y c. higher-there b w c;
+      declaredThere = declared-there b w;
+      irreflexive = λ x c. accepted-free b e 7 9 x (refusal9 (record { there = higher-there b w c .0; circle = c }));
       transitive = λ x y z c d. chain-append c d;
-      leftSymmetric = λ x y h. left-either b y x ∙ h;
-      rightSymmetric = λ x y h. right-either b y x ∙ h;
-      nonassocSymmetric = λ x y h. nonassoc-either b y x ∙ h;
+      leftSymmetric = declared-turned b left tt;
+      rightSymmetric = declared-turned b right tt;
+      nonassocSymmetric = declared-turned b nonassoc tt;
     }

@@ -1,16 +1,16 @@
 -- Laws of the declared priorities: a table that takes up one declaration more, and "higher" as a chain and as a test.
 use Prim.Native.Nat.{ℕ, _+_, _≤_, _<_}
 use mathlib.Core.Path.{_≡_, refl, sym, _∙_, ap}
-use mathlib.Core.Bool.{Bool, false, true, _&&_, _||_, and-true, and-false, or-false}
+use mathlib.Core.Bool.{Bool, false, true, _||_, and-true, and-false, or-false}
 use mathlib.Core.List.{List, []}
-use mathlib.Core.Logic.{_↔_}
+use mathlib.Core.Logic.{_↔_, ⊎-elim}
 use native.Mathlib.Omega.{arith}
 use native.Mathlib.Decide.{ℕ-discrete}
 use lib.Dec.{eqb}
 use lib.ListN.{length, getD, set}
 use borrow.Author.Tests.{eqb-true, eq-eqb, ne-eqb}
 use Rattle.common.proofs.BelowLaws.{any-none, any-next, any-found}
-use Rattle.common.proofs.BoolLaws.{and-first-true, and-second-true, same-test}
+use Rattle.common.proofs.BoolLaws.{or-cases, and-first-true, and-second-true, same-test}
 use Rattle.common.specs.Below.{anyBelow}
 use Rattle.grammar.proofs.FormedLaws.{declaration-in}
 use Rattle.grammar.specs.Formed.{WellFormed}
@@ -19,9 +19,9 @@ use Rattle.grammar.specs.Limits.{productionLimit}
 use Rattle.grammar.specs.Verdict.{refuseIf}
 use Rattle.priority.proofs.ChainLaws.{through-chain, chain-through}
 use Rattle.priority.proofs.TableLaws.{entry-put-same, entry-put-other}
-use Rattle.priority.specs.Chain.{entry, Square}
+use Rattle.priority.specs.Chain.{link, more, entry, Square}
 use Rattle.priority.specs.Check.{circle, onDiagonal}
-use Rattle.priority.specs.Priorities.{higher, kindNumber, namesPair, coversPair, covers, declared, Higher, isHigher}
+use Rattle.priority.specs.Priorities.{Kind, higher, left, right, nonassoc, kindNumber, namesPair, coversPair, covers, declared, Higher, isHigher}
 
 covers-here : (b : List ℕ) (d : ℕ) → covers b d higher (first b d) (second b d) ≡ eqb (kind b d) 1
 unfolding covers coversPair namesPair kindNumber
@@ -68,32 +68,42 @@ module _ (n : ℕ) (b : List ℕ) (d : ℕ) (t : List (List Bool)) (q : Square n
         | no h ↦ away (λ p. h (p .0))
       ]
 
--- ---- only productions are higher or lower
+-- ---- only productions are related
 
-module _ (b : List ℕ) (w : WellFormed b) (x y : ℕ) (e : declared b higher x y ≡ true) where
-  witness : (d : ℕ) × (d < declarations b) × (covers b d higher x y ≡ true)
-  unfolding declared
-  witness = any-found (λ d. covers b d higher x y) (declarations b) e
+module _ (b : List ℕ) (w : WellFormed b) where
+  named-there : (d x y : ℕ) → d < declarations b → namesPair b d x y ≡ true → (x < productions b) × (y < productions b)
+  unfolding namesPair
+  named-there d x y l e =
+      let one = eqb-true (first b d) x (and-first-true (eqb (first b d) x) (eqb (second b d) y) e) in
+      let other = eqb-true (second b d) y (and-second-true (eqb (first b d) x) (eqb (second b d) y) e) in
+      (omega (arith, one, w .firstThere d l), omega (arith, other, w .secondThere d l))
 
-  named : (eqb (first b (witness .0)) x && eqb (second b (witness .0)) y) ≡ true
-  unfolding covers coversPair namesPair kindNumber
-  named = and-second-true (eqb (kind b (witness .0)) 1) (eqb (first b (witness .0)) x && eqb (second b (witness .0)) y) (witness .2)
+  either-there : (d x y : ℕ) → d < declarations b → (namesPair b d x y || namesPair b d y x) ≡ true → (x < productions b) × (y < productions b)
+  either-there d x y l e =
+      ⊎-elim (λ h. named-there d x y l h) (λ h. let (q, p) = named-there d y x l h in (p, q)) (or-cases (namesPair b d x y) (namesPair b d y x) e)
 
-  pub declared-first : x < productions b
-  declared-first =
-      let q = eqb-true (first b (witness .0)) x (and-first-true (eqb (first b (witness .0)) x) (eqb (second b (witness .0)) y) named) in
-      omega (arith, w .firstThere (witness .0) (witness .1))
+  pair-there : (d : ℕ) (k : Kind) (x y : ℕ) → d < declarations b → coversPair b d k x y ≡ true → (x < productions b) × (y < productions b)
+  unfolding coversPair
+  pair-there d higher x y l e = named-there d x y l e
+  pair-there d left x y l e = either-there d x y l e
+  pair-there d right x y l e = either-there d x y l e
+  pair-there d nonassoc x y l e = either-there d x y l e
 
-  pub declared-second : y < productions b
-  declared-second =
-      let q = eqb-true (second b (witness .0)) y (and-second-true (eqb (first b (witness .0)) x) (eqb (second b (witness .0)) y) named) in
-      omega (arith, w .secondThere (witness .0) (witness .1))
+  pub declared-there : (k : Kind) (x y : ℕ) → declared b k x y ≡ true → (x < productions b) × (y < productions b)
+  unfolding declared covers
+  declared-there k x y e =
+      let (d, l, h) = any-found (λ d. covers b d k x y) (declarations b) e in
+      pair-there d k x y l (and-second-true (eqb (kind b d) (kindNumber k)) (coversPair b d k x y) h)
+
+  pub higher-there : {x y : ℕ} → Higher b x y → (x < productions b) × (y < productions b)
+  higher-there (link {x} {y} e) = declared-there higher x y e
+  higher-there (more {y = y} {z = z} c e) = (higher-there c .0, declared-there higher y z e .1)
 
 -- The test is the chain.
 pub higher-chain : (b : List ℕ) → WellFormed b → (x y : ℕ) → (isHigher b x y ≡ true) ↔ Higher b x y
 unfolding isHigher
 higher-chain b w x y =
-    ((λ e. through-chain (declared b higher) (productions b) x y e), (λ c. chain-through (declared b higher) (productions b) (declared-first b w) c))
+    ((λ e. through-chain (declared b higher) (productions b) x y e), (λ c. chain-through (declared b higher) (productions b) (λ x y e. declared-there b w higher x y e .0) c))
 
 -- A table that holds "higher" has the test's values, and the circles on its diagonal.
 module _ (b : List ℕ) (w : WellFormed b) (t : List (List Bool)) (h : (x y : ℕ) → (entry t x y ≡ true) ↔ Higher b x y) where

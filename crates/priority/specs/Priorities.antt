@@ -1,5 +1,5 @@
 -- Priority declarations (000, Definition 2.5; 01's ranks) as a grammar's bytes state them.
-use Prim.Native.Nat.{ℕ}
+use Prim.Native.Nat.{ℕ, _<_}
 use mathlib.Core.Path.{_≡_}
 use mathlib.Core.Bool.{Bool, true, _&&_, _||_}
 use mathlib.Core.List.{List}
@@ -46,8 +46,10 @@ Higher b = Chain (declared b higher)
 unfoldable pub isHigher : List ℕ → ℕ → ℕ → Bool
 isHigher b x y = through (declared b higher) (productions b) x y
 
--- A priority declaration as 000, Definition 2.5, wants it.
+-- A priority declaration as 000, Definition 2.5, wants it: four relations between productions, "higher" irreflexive and transitive, the others symmetric.
 pub record PriorityDeclaration (b : List ℕ) : Type 0 where
+  pub higherThere : (x y : ℕ) → Higher b x y → (x < productions b) × (y < productions b)
+  pub declaredThere : (k : Kind) (x y : ℕ) → declared b k x y ≡ true → (x < productions b) × (y < productions b)
   pub irreflexive : (x : ℕ) → Higher b x x → ⊥
   pub transitive : (x y z : ℕ) → Higher b x y → Higher b y z → Higher b x z
   pub leftSymmetric : (x y : ℕ) → declared b left x y ≡ true → declared b left y x ≡ true

@@ -3,7 +3,8 @@ use mathlib.Core.Path.{sym, _∙_}
 use native.Mathlib.Omega.{arith}
 use borrow.Author.Needs.{needs}
 use Rattle.priority.proofs.ChainLaws.{chain-map}
-use Rattle.priority.proofs.PriorityLaws.{declared-first}
+use Rattle.priority.proofs.PriorityLaws.{declared-there}
+use Rattle.priority.specs.Priorities.{higher}
 use Rattle.priority.proofs.priorities.Statement.{statement}
 use Rattle.priority.proofs.priorities.Tie as tie
 
@@ -16,7 +17,7 @@ production-count-requires c κs = search needs
 closed-requires : tie.Need-closed-requires
 closed-requires c κs = (
   omega (arith, c .production-count .ensures, c .before .before .before .pre .framed .fewProductions),
-  λ x y e. let l = declared-first (c .before .before .before .args .book .now) (c .before .before .before .pre) x y (sym (c .before .declared-higher .ensures x y) ∙ e) in omega (arith, c .production-count .ensures),
+  λ x y e. let l = declared-there (c .before .before .before .args .book .now) (c .before .before .before .pre) higher x y (sym (c .before .declared-higher .ensures x y) ∙ e) in omega (arith, c .production-count .ensures, l .0),
 )
 
 returns : tie.Need-returns
