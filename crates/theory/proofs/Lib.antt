@@ -4,3 +4,5 @@ pub mod SoundLaws
 pub mod ClosedLaws
 pub mod CountLaws
 pub mod SplitLaws
+pub mod AroundLaws
+pub mod PathsLaws

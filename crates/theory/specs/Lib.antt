@@ -3,3 +3,4 @@ pub mod Tree
 pub mod Grammar
 pub mod Counts
 pub mod Steps
+pub mod Paths
