@@ -1,2 +1,4 @@
 -- Laws of the chart.
 pub mod LayoutLaws
+pub mod ByEndsLaws
+pub mod TurnLaws

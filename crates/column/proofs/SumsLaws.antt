@@ -8,9 +8,9 @@ use native.Mathlib.Decide.{ℕ-discrete, decLt}
 use native.Mathlib.Nat.{mul-zero, mul-le-mul}
 use lib.ListN.{getD}
 use Rattle.chart.specs.Layout.{places}
-use Rattle.column.proofs.PlaceLaws.{place-next, row-before}
-use Rattle.column.proofs.WrittenLaws.{region-others, front-inside}
-use Rattle.column.specs.ByEnds.{placeAt}
+use Rattle.chart.proofs.ByEndsLaws.{place-next, row-before}
+use Rattle.common.proofs.RegionLaws.{region-others, front-inside}
+use Rattle.chart.specs.ByEnds.{placeAt}
 use Rattle.column.specs.Sums.{ColumnCleared, RowAdded, SplitsAdded}
 use Rattle.common.specs.Region.{Region}
 use Rattle.theory.specs.Steps.{cap}
@@ -36,23 +36,6 @@ module _ (n j : ℕ) (l₀ : List ℕ) where
       }
 
 -- ---- one row
-
--- a cell times what may stand behind it is a byte
-pub product-small : (x y : ℕ) → x ≤ 2 → y ≤ 2 → x * y ≤ 4
-product-small x y h k = omega (arith, mul-le-mul h k)
-
--- the cell that is read
-module _ (chart : List ℕ) (n row m from k : ℕ) (e : from ≡ placeAt n row 0 m) where
-  cell-read : getD chart (from + k) 0 ≡ getD chart (placeAt n row k m) 0
-  cell-read = ap (λ (x : ℕ). getD chart x 0) (omega (arith, e, place-next n row m k))
-
-  pub cell-small : getD chart (placeAt n row k m) 0 ≤ 2 → getD chart (from + k) 0 ≤ 2
-  cell-small h = omega (arith, cell-read)
-
-  -- the sum that is made of it and of the sum so far, which is as it was
-  pub sum-made : (sums₀ sums : List ℕ) (arg at v : ℕ) → v ≡ cap (getD sums (at + k) 0 + getD chart (from + k) 0 * arg) → getD sums (at + k) 0 ≡ getD sums₀ (at + k) 0
-      → v ≡ cap (getD sums₀ (at + k) 0 + getD chart (placeAt n row k m) 0 * arg)
-  sum-made sums₀ sums arg at v h o = h ∙ ap₂ (λ (x y : ℕ). cap (x + y * arg)) o cell-read
 
 module _ (n row m arg : ℕ) (chart sums live : List ℕ) where
   -- nothing to add if nothing may stand behind the cells

@@ -1,5 +1,4 @@
 -- What the contracts of a column cite.
-pub mod ByEnds
 pub mod Sums
 pub mod Scattered
 pub mod Rows

@@ -4,7 +4,7 @@ use mathlib.Core.Path.{_≡_}
 use mathlib.Core.List.{List}
 use lib.ListN.{length, getD}
 use Rattle.chart.specs.Layout.{places}
-use Rattle.column.specs.ByEnds.{placeAt}
+use Rattle.chart.specs.ByEnds.{placeAt}
 use Rattle.theory.specs.Steps.{cap}
 
 -- The cells of the first rows that end at j and start before it are zeros in l; other bytes are as they were in l₀.

@@ -1,11 +1,7 @@
 // A column of the chart: the sums of splits for its spans, by row and start, and what is stored of a span once it is settled.
-pub mod by_ends;
-
-use by_ends::SPANS;
-use by_ends::add_row;
-use by_ends::clear_row;
-use by_ends::store;
-use by_ends::turn_row;
+use chart::by_ends::add_row;
+use chart::by_ends::clear_row;
+use chart::by_ends::store;
 use ccg::tables::slot_has;
 use chart::layout::PLACES;
 use chart::layout::ROW_LIMIT;
@@ -24,7 +20,7 @@ ghost use Rattle.common.specs.Zeros.{AllZero};
 ghost use Rattle.grammar.specs.Limits.{productionLimit, argumentLimit};
 ghost use Rattle.ccg.specs.Tables.{slot, slotHas, charWords};
 ghost use Rattle.chart.specs.Layout.{textLimit, places, rowLimit, spanCount};
-ghost use Rattle.column.specs.ByEnds.{placeAt, Turned};
+ghost use Rattle.chart.specs.ByEnds.{placeAt};
 ghost use Rattle.column.specs.Sums.{ColumnCleared, RowAdded, SplitsAdded};
 ghost use Rattle.column.specs.Scattered.{Scattered};
 ghost use Rattle.column.specs.Rows.{RowsFilled};
@@ -172,20 +168,6 @@ pub fn store_cells(chart: &mut [u8], n: usize, rows: usize, i: usize, j: usize, 
     let mut r = 0;
     while r < rows {
         store(chart, n, r, i, j, cells[r]);
-        r += 1;
-    }
-}
-
-// Turns the rows: all cells stand where the chart has them.
-pub fn turn_rows(chart: &mut [u8], n: usize, rows: usize)
-    requires { ⌜ (n ≤ textLimit) × (rows ≤ rowLimit) ⌝ }
-    requires { ⌜ rows * spanCount n ≤ length (now chart) ⌝ }
-    ensures { λ _. ⌜ Turned n rows (now (chart .entry)) (now (chart .exit)) ⌝ }
-{
-    let mut cells = [0; SPANS];
-    let mut r = 0;
-    while r < rows {
-        turn_row(chart, n, r, &mut cells);
         r += 1;
     }
 }

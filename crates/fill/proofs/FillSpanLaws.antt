@@ -10,7 +10,7 @@ use lib.ListN.{length, getD}
 use Rattle.ccg.specs.Tables.{slot, slotHas}
 use Rattle.chart.proofs.LayoutLaws.{row-in, rows-few}
 use Rattle.chart.specs.Layout.{places, rowLimit, arityIn, rowOf, rowCount}
-use Rattle.column.specs.ByEnds.{placeAt}
+use Rattle.chart.specs.ByEnds.{placeAt}
 use Rattle.column.specs.Rows.{RowsFilled}
 use Rattle.column.specs.Scattered.{Scattered}
 use Rattle.column.specs.Sums.{SplitsAdded}

@@ -12,8 +12,8 @@ use borrow.Author.Tests.{ne-eqb}
 use Rattle.chart.proofs.LayoutLaws.{row-in, row-shift}
 use Rattle.chart.specs.Counted.{Counted}
 use Rattle.chart.specs.Layout.{textLimit, places, rowLimit, rowOf, rowCount, cellAt}
-use Rattle.column.proofs.PlaceLaws.{place-below, place-same}
-use Rattle.column.specs.ByEnds.{placeAt, Turned}
+use Rattle.chart.proofs.ByEndsLaws.{place-below, place-same}
+use Rattle.chart.specs.ByEnds.{placeAt, Turned}
 use Rattle.column.specs.Scattered.{Scattered}
 use Rattle.column.specs.Sums.{ColumnCleared, SplitsAdded}
 use Rattle.common.proofs.BelowLaws.{sum-bound, sum-same, sum-first}

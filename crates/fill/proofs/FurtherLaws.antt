@@ -9,7 +9,7 @@ use Rattle.ccg.specs.Tables.{slot, subAt}
 use Rattle.ccg.specs.Theory.{theoryOf}
 use Rattle.chart.specs.Counted.{Counted}
 use Rattle.chart.specs.Layout.{places, rowLimit, arityIn, rowCount, spanCount, chartBytes}
-use Rattle.column.specs.ByEnds.{placeAt, Turned}
+use Rattle.chart.specs.ByEnds.{placeAt, Turned}
 use Rattle.column.specs.Scattered.{Scattered}
 use Rattle.column.specs.Sums.{ColumnCleared}
 use Rattle.empty.specs.Empty.{EmptyRight}

@@ -7,9 +7,9 @@ use native.Mathlib.Omega.{arith}
 use native.Mathlib.Decide.{ℕ-discrete, decLt}
 use lib.ListN.{getD}
 use Rattle.chart.specs.Layout.{places, rowLimit}
-use Rattle.column.proofs.PlaceLaws.{place-same}
-use Rattle.column.proofs.WrittenLaws.{front-inside}
-use Rattle.column.specs.ByEnds.{placeAt}
+use Rattle.chart.proofs.ByEndsLaws.{place-same}
+use Rattle.common.proofs.RegionLaws.{front-inside}
+use Rattle.chart.specs.ByEnds.{placeAt}
 use Rattle.column.specs.Scattered.{Scattered}
 use Rattle.column.specs.Sums.{ColumnCleared, SplitsAdded}
 use Rattle.common.specs.Region.{Region}

@@ -12,7 +12,7 @@ use lib.Seq.{set-out, getD-set-same, getD-set-other}
 use borrow.Author.Tests.{eq-eqb, ne-eqb}
 use Rattle.chart.proofs.LayoutLaws.{row-in, row-same, row-shift}
 use Rattle.chart.specs.Layout.{rowLimit, rowOf, rowCount}
-use Rattle.column.specs.ByEnds.{placeAt}
+use Rattle.chart.specs.ByEnds.{placeAt}
 use Rattle.common.proofs.BelowLaws.{sum-same}
 use Rattle.common.specs.Below.{sumBelow, bitOf}
 use Rattle.common.specs.Zeros.{AllZero}

@@ -6,7 +6,7 @@ use mathlib.Core.List.{List}
 use lib.Dec.{eqb}
 use lib.ListN.{length, getD}
 use Rattle.chart.specs.Layout.{places, rowLimit, rowOf, rowCount, chartBytes}
-use Rattle.column.specs.ByEnds.{placeAt}
+use Rattle.chart.specs.ByEnds.{placeAt}
 use Rattle.common.specs.Below.{sumBelow}
 use Rattle.theory.specs.Counts.{Shown}
 use Rattle.theory.specs.Grammar.{Grammar, Spells}

@@ -1,4 +1,4 @@
--- Counts determine the number; and a chart that is sound and closed counts the lists of trees of each entry, and the parses.
+-- Counts determine the number; and a chart that is sound and closed counts the lists of trees of each wanted entry, and the parses.
 use Prim.Native.Nat.{ℕ, zero, suc, _*_, _≤_, _<_}
 use mathlib.Core.Path.{_≡_, refl, sym, _∙_, ap₂, subst⁻¹}
 use mathlib.Core.Bool.{Bool, true}
@@ -17,7 +17,7 @@ use Rattle.theory.proofs.SoundLaws.{bit-one, bit-small, node-forest, no
 use Rattle.theory.proofs.SpellsLaws.{spells-yield, spells-derived, derived-spells}
 use Rattle.theory.specs.Counts.{Two, Counts}
 use Rattle.theory.specs.Grammar.{Grammar, Spells, Parse}
-use Rattle.theory.specs.Steps.{Chart, cap, Sound, Closed, rootSum}
+use Rattle.theory.specs.Steps.{Chart, cap, Wanted, DueWanted, Sound, Closed, rootSum}
 use Rattle.theory.specs.Tree.{Tree, leaf, node, Forest}
 
 -- ---- counts
@@ -78,16 +78,16 @@ counts-same P Q (suc (suc (suc v))) e a = a
 
 -- ---- each entry
 
-module _ (g : Grammar) (w : List ℕ) (c : Chart) (sound : Sound g w c) (closed : Closed g w c) where
-  pub entry-counts : (p d i j : ℕ) → p < g .count → d ≤ g .arity p → i ≤ j → j ≤ length w → c p d i j ≤ 2 → Counts (λ (f : Forest). Spells g w p f d i j) (c p d i j)
-  entry-counts p d i j lp ld ij jw small =
+module _ (g : Grammar) (w : List ℕ) (wanted : Wanted) (dues : DueWanted g w wanted) (c : Chart) (sound : Sound g w c) (closed : Closed g w wanted c) where
+  pub entry-counts : (p d i j : ℕ) → p < g .count → d ≤ g .arity p → i ≤ j → j ≤ length w → wanted p i ≡ true → c p d i j ≤ 2 → Counts (λ (f : Forest). Spells g w p f d i j) (c p d i j)
+  entry-counts p d i j lp ld ij jw wp small =
       bounds-counts (λ (f : Forest). Spells g w p f d i j) (c p d i j)
       (record {
         atMostTwo = small;
         one = sound .shown p d i j lp ld ij jw .one;
         two = sound .shown p d i j lp ld ij jw .two;
-        some = λ f s. spells-counted g w c closed p f d i j lp ld s;
-        same = λ h f k s r. spells-same g w c closed p f k d i j lp ld h s r;
+        some = λ f s. spells-counted g w wanted dues c closed p f d i j lp ld wp s;
+        same = λ h f k s r. spells-same g w wanted dues c closed p f k d i j lp ld wp h s r;
       })
 
 -- ---- the parses

@@ -1,6 +1,7 @@
 -- The equations of a chart: what an entry should be if the entries it rests on are right. They say nothing of the order in which a chart is filled.
 use Prim.Native.Nat.{ℕ, _+_, _-_, _*_, min, _≤_, _<_}
-use mathlib.Core.Bool.{Bool, _&&_}
+use mathlib.Core.Path.{_≡_}
+use mathlib.Core.Bool.{Bool, true, _&&_}
 use mathlib.Core.List.{List}
 use lib.Dec.{eqb}
 use lib.ListN.{length, getD}
@@ -29,14 +30,25 @@ argumentSum g w c p d m j = charEntry g w p d m j + sumBelow (g .count) (λ q. b
 unfoldable pub splitSum : Grammar → List ℕ → Chart → ℕ → ℕ → ℕ → ℕ → ℕ
 splitSum g w c p d i j = sumBelow (j - i + 1) (λ k. c p d i (i + k) * argumentSum g w c p d (i + k) j)
 
+-- Which productions are wanted at which start of the text: a chart need have their entries only.
+abbrev pub Wanted : Type 0
+Wanted = ℕ → ℕ → Bool
+
+abbrev pub everything : Wanted
+everything p i = true
+
+-- What is due next is wanted: where a list of trees for some arguments of a wanted production ends, so is each production that may stand as the argument behind them.
+pub record DueWanted (g : Grammar) (w : List ℕ) (wanted : Wanted) : Type 0 where
+  pub due : (p d i m q : ℕ) (f : Forest) → p < g .count → d < g .arity p → wanted p i ≡ true → Spells g w p f d i m → q < g .count → g .subs p d q ≡ true → wanted q m ≡ true
+
 -- Entries in range have their lists of trees.
 pub record Sound (g : Grammar) (w : List ℕ) (c : Chart) : Type 0 where
   pub shown : (p d i j : ℕ) → p < g .count → d ≤ g .arity p → i ≤ j → j ≤ length w → Shown (λ (f : Forest). Spells g w p f d i j) (c p d i j)
 
--- No entry in range is below what the entries that it rests on say.
-pub record Closed (g : Grammar) (w : List ℕ) (c : Chart) : Type 0 where
-  pub empty : (p i : ℕ) → p < g .count → i ≤ length w → 1 ≤ c p 0 i i
-  pub step : (p d i j : ℕ) → p < g .count → d < g .arity p → i ≤ j → j ≤ length w → cap (splitSum g w c p d i j) ≤ c p (d + 1) i j
+-- No wanted entry in range is below what the entries that it rests on say.
+pub record Closed (g : Grammar) (w : List ℕ) (wanted : Wanted) (c : Chart) : Type 0 where
+  pub empty : (p i : ℕ) → p < g .count → i ≤ length w → wanted p i ≡ true → 1 ≤ c p 0 i i
+  pub step : (p d i j : ℕ) → p < g .count → d < g .arity p → i ≤ j → j ≤ length w → wanted p i ≡ true → cap (splitSum g w c p d i j) ≤ c p (d + 1) i j
 
 -- how many parses there are, if production p has v p trees for the whole text: over all productions allowed at the root
 unfoldable pub rootSum : Grammar → (ℕ → Bool) → (ℕ → ℕ) → ℕ

@@ -6,9 +6,9 @@ use native.Mathlib.Omega.{arith}
 use native.Mathlib.Nat.{mul-le-mul-right}
 use lib.ListN.{length, getD, set}
 use Rattle.chart.specs.Layout.{spanCount}
-use Rattle.column.proofs.PlaceLaws.{place-below, place-same}
+use Rattle.chart.proofs.ByEndsLaws.{place-below, place-same}
 use Rattle.column.proofs.ScatteredLaws.{scattered-none, scattered-more}
-use Rattle.column.specs.ByEnds.{placeAt}
+use Rattle.chart.specs.ByEnds.{placeAt}
 use Rattle.column.specs.Scattered.{Scattered}
 use Rattle.column.proofs.store_cells.Statement.{statement}
 use Rattle.column.proofs.store_cells.Tie as tie

@@ -1,19 +1,19 @@
 // The chart while it is filled: the cells of a row that end at one place stand side by side. Nothing outside this module knows where.
-use chart::layout::PLACES;
-use chart::layout::put;
-use chart::layout::span_count;
-use chart::sums::larger;
+use crate::layout::PLACES;
+use crate::layout::put;
+use crate::layout::span_count;
+use crate::sums::larger;
 ghost use mathlib.Core.Path.{_≡_};
 ghost use mathlib.Core.List.{List};
 ghost use Prim.Native.Nat.{ℕ, _+_, _-_, _*_, _<_, _≤_, max};
 ghost use lib.ListN.{length, getD, set};
 ghost use Rattle.common.specs.Region.{Region};
 ghost use Rattle.theory.specs.Steps.{cap};
 ghost use Rattle.chart.specs.Layout.{textLimit, places, rowLimit, spanCount, cellAt};
-ghost use Rattle.column.specs.ByEnds.{columnAt, placeAt, RowTurned};
+ghost use Rattle.chart.specs.ByEnds.{columnAt, placeAt, RowTurned, Turned};
 
 // Most spans of a text.
-pub const SPANS: usize = PLACES * (PLACES + 1) / 2;
+const SPANS: usize = PLACES * (PLACES + 1) / 2;
 
 // How many spans end before j.
 fn column_at(j: usize) -> usize
@@ -125,7 +125,7 @@ fn turn_start(chart: &mut [u8], n: usize, row: usize, i: usize, cells: &[u8])
 }
 
 // Turns a row: its cells stand where the chart has them. `cells` has room for a copy of the row, and holds it afterwards.
-pub fn turn_row(chart: &mut [u8], n: usize, row: usize, cells: &mut [u8])
+fn turn_row(chart: &mut [u8], n: usize, row: usize, cells: &mut [u8])
     requires { ⌜ (n ≤ textLimit) × (row < rowLimit) ⌝ }
     requires { ⌜ ((row + 1) * spanCount n ≤ length (now chart)) × (spanCount n ≤ length (now cells)) ⌝ }
     ensures { λ _. ⌜ RowTurned n row (now (chart .entry)) (now (chart .exit)) ⌝ }
@@ -136,5 +136,19 @@ pub fn turn_row(chart: &mut [u8], n: usize, row: usize, cells: &mut [u8])
     while i <= n {
         turn_start(chart, n, row, i, cells);
         i += 1;
+    }
+}
+
+// Turns the rows: all cells stand where the chart has them.
+pub fn turn_rows(chart: &mut [u8], n: usize, rows: usize)
+    requires { ⌜ (n ≤ textLimit) × (rows ≤ rowLimit) ⌝ }
+    requires { ⌜ rows * spanCount n ≤ length (now chart) ⌝ }
+    ensures { λ _. ⌜ Turned n rows (now (chart .entry)) (now (chart .exit)) ⌝ }
+{
+    let mut cells = [0; SPANS];
+    let mut r = 0;
+    while r < rows {
+        turn_row(chart, n, r, &mut cells);
+        r += 1;
     }
 }

@@ -4,10 +4,10 @@ use mathlib.Core.Path.{sym}
 use native.Mathlib.Omega.{arith}
 use native.Mathlib.Nat.{mul-le-mul}
 use borrow.Author.Needs.{needs}
 use Rattle.chart.specs.Layout.{places}
-use Rattle.column.proofs.PlaceLaws.{column-closed}
-use Rattle.column.proofs.by_ends.column_at.Statement.{statement}
-use Rattle.column.proofs.by_ends.column_at.Tie as tie
+use Rattle.chart.proofs.ByEndsLaws.{column-closed}
+use Rattle.chart.proofs.by_ends.column_at.Statement.{statement}
+use Rattle.chart.proofs.by_ends.column_at.Tie as tie
 
 add-result : tie.Need-add-result
 add-result c = search needs

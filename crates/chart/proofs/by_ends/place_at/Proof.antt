@@ -3,10 +3,10 @@ use Prim.Native.Nat.{ℕ, _*_}
 use mathlib.Core.Path.{ap}
 use native.Mathlib.Omega.{arith}
 use borrow.Author.Needs.{needs}
-use Rattle.column.proofs.PlaceLaws.{place-few}
-use Rattle.column.specs.ByEnds.{placeAt}
-use Rattle.column.proofs.by_ends.place_at.Statement.{statement}
-use Rattle.column.proofs.by_ends.place_at.Tie as tie
+use Rattle.chart.proofs.ByEndsLaws.{place-few}
+use Rattle.chart.specs.ByEnds.{placeAt}
+use Rattle.chart.proofs.by_ends.place_at.Statement.{statement}
+use Rattle.chart.proofs.by_ends.place_at.Tie as tie
 
 span-count-requires : tie.Need-span-count-requires
 span-count-requires c κs = search needs

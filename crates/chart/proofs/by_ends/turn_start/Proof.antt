@@ -2,11 +2,11 @@
 use Prim.Native.Nat.{ℕ, _+_, _-_, _≤_}
 use mathlib.Core.Path.{_≡_, subst}
 use native.Mathlib.Omega.{arith}
 use Rattle.chart.proofs.LayoutLaws.{span-few}
-use Rattle.column.proofs.PlaceLaws.{column-in}
-use Rattle.column.proofs.TurnLaws.{EndsTurned, ends-none, ends-more}
-use Rattle.column.proofs.by_ends.turn_start.Statement.{statement}
-use Rattle.column.proofs.by_ends.turn_start.Tie as tie
+use Rattle.chart.proofs.ByEndsLaws.{column-in}
+use Rattle.chart.proofs.TurnLaws.{EndsTurned, ends-none, ends-more}
+use Rattle.chart.proofs.by_ends.turn_start.Statement.{statement}
+use Rattle.chart.proofs.by_ends.turn_start.Tie as tie
 
 abbrev Inv-loop : tie.InvT-loop
 Inv-loop chart₀ n row i cells j₀ chart j = EndsTurned n row i j cells chart₀ chart × (i ≤ j) × (j ≤ n + 1)

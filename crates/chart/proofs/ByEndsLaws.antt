@@ -1,15 +1,18 @@
 -- Where cells stand while the chart is filled: apart, each row behind the one before it.
 use Prim.Native.Nat.{ℕ, zero, suc, _+_, _*_, _/_, _≤_, _<_}
-use mathlib.Core.Path.{_≡_, refl, ap}
+use mathlib.Core.Path.{_≡_, refl, _∙_, ap, ap₂}
+use mathlib.Core.List.{List}
 use mathlib.Core.Logic.{by-cases}
 use native.Mathlib.Omega.{arith}
 use native.Mathlib.Decide.{decLt}
-use native.Mathlib.Nat.{mul-le-mul-right}
+use native.Mathlib.Nat.{mul-le-mul, mul-le-mul-right}
+use lib.ListN.{getD}
 use Rattle.chart.proofs.LayoutLaws.{span-few}
 use Rattle.chart.specs.Layout.{textLimit, places, rowLimit, spanCount}
-use Rattle.column.specs.ByEnds.{columnAt, placeAt}
+use Rattle.chart.specs.ByEnds.{columnAt, placeAt}
 use Rattle.common.proofs.BelowLaws.{sum-grows}
 use Rattle.common.specs.Below.{sumBelow}
+use Rattle.theory.specs.Steps.{cap}
 
 -- ---- columns
 
@@ -96,3 +99,22 @@ place-same n row row′ i i′ j j′ h k h′ k′ e = (same-row, same-start, s
 
     same-start : i ≡ i′
     same-start = omega (arith, at-row, same-end, ap columnAt same-end)
+
+-- ---- the inner loop
+
+-- a cell times what may stand behind it is a byte
+pub product-small : (x y : ℕ) → x ≤ 2 → y ≤ 2 → x * y ≤ 4
+product-small x y h k = omega (arith, mul-le-mul h k)
+
+-- the cell that is read
+module _ (chart : List ℕ) (n row m from k : ℕ) (e : from ≡ placeAt n row 0 m) where
+  cell-read : getD chart (from + k) 0 ≡ getD chart (placeAt n row k m) 0
+  cell-read = ap (λ (x : ℕ). getD chart x 0) (omega (arith, e, place-next n row m k))
+
+  pub cell-small : getD chart (placeAt n row k m) 0 ≤ 2 → getD chart (from + k) 0 ≤ 2
+  cell-small h = omega (arith, cell-read)
+
+  -- the sum that is made of it and of the sum so far, which is as it was
+  pub sum-made : (sums₀ sums : List ℕ) (arg at v : ℕ) → v ≡ cap (getD sums (at + k) 0 + getD chart (from + k) 0 * arg) → getD sums (at + k) 0 ≡ getD sums₀ (at + k) 0
+      → v ≡ cap (getD sums₀ (at + k) 0 + getD chart (placeAt n row k m) 0 * arg)
+  sum-made sums₀ sums arg at v h o = h ∙ ap₂ (λ (x y : ℕ). cap (x + y * arg)) o cell-read

@@ -4,8 +4,8 @@ use mathlib.Core.Path.{_≡_, refl, subst}
 use native.Mathlib.Omega.{arith}
 use Rattle.common.proofs.RegionLaws.{region-none, region-more}
 use Rattle.common.specs.Region.{Region}
-use Rattle.column.proofs.by_ends.clear.Statement.{statement}
-use Rattle.column.proofs.by_ends.clear.Tie as tie
+use Rattle.chart.proofs.by_ends.clear.Statement.{statement}
+use Rattle.chart.proofs.by_ends.clear.Tie as tie
 
 abbrev Inv-loop : tie.InvT-loop
 Inv-loop bytes₀ at count k₀ bytes k = Region (λ (k v : ℕ). v ≡ 0) 0 at k bytes₀ bytes × (k ≤ count)

@@ -3,10 +3,10 @@ use Prim.Native.Nat.{ℕ}
 use mathlib.Core.Path.{_≡_, subst}
 use native.Mathlib.Omega.{arith}
 use borrow.Author.Needs.{needs}
-use Rattle.column.proofs.PlaceLaws.{place-in, place-next}
+use Rattle.chart.proofs.ByEndsLaws.{place-in, place-next}
 use Rattle.common.specs.Region.{Region}
-use Rattle.column.proofs.by_ends.clear_row.Statement.{statement}
-use Rattle.column.proofs.by_ends.clear_row.Tie as tie
+use Rattle.chart.proofs.by_ends.clear_row.Statement.{statement}
+use Rattle.chart.proofs.by_ends.clear_row.Tie as tie
 
 place-at-requires : tie.Need-place-at-requires
 place-at-requires c κs = search needs

@@ -4,11 +4,11 @@ use mathlib.Core.Path.{_≡_, refl, subst}
 use mathlib.Core.List.{List}
 use native.Mathlib.Omega.{arith}
 use lib.ListN.{getD}
-use Rattle.column.proofs.WrittenLaws.{front-more}
+use Rattle.common.proofs.RegionLaws.{front-more}
 use Rattle.common.proofs.RegionLaws.{region-none}
 use Rattle.common.specs.Region.{Region}
-use Rattle.column.proofs.by_ends.copy.Statement.{statement}
-use Rattle.column.proofs.by_ends.copy.Tie as tie
+use Rattle.chart.proofs.by_ends.copy.Statement.{statement}
+use Rattle.chart.proofs.by_ends.copy.Tie as tie
 
 -- byte k of the part
 Byte : (bytes : List ℕ) (at k v : ℕ) → Type 0

@@ -5,14 +5,13 @@ use mathlib.Core.List.{List}
 use native.Mathlib.Omega.{arith}
 use native.Mathlib.Decide.{ℕ-discrete}
 use lib.ListN.{length, getD, set}
 use Rattle.chart.proofs.LayoutLaws.{cell-in, cell-below, cell-next, cell-same}
 use Rattle.chart.specs.Layout.{spanCount, cellAt}
-use Rattle.column.proofs.PlaceLaws.{column-in, place-in, place-of-row}
-use Rattle.column.proofs.WrittenLaws.{region-others, front-inside}
-use Rattle.column.specs.ByEnds.{columnAt, placeAt, RowTurned, Turned}
+use Rattle.chart.proofs.ByEndsLaws.{column-in, place-in, place-of-row}
+use Rattle.common.proofs.RegionLaws.{region-others, front-inside}
+use Rattle.chart.specs.ByEnds.{columnAt, placeAt, RowTurned, Turned}
 use Rattle.common.proofs.RegionLaws.{region-none, region-more}
 use Rattle.common.specs.Region.{Region}
-use Rattle.priority.specs.Chain.{more}
 
 -- ---- one start
 

@@ -3,11 +3,11 @@ use Prim.Native.Nat.{ℕ, _+_, _-_, _*_, _≤_}
 use mathlib.Core.Path.{_≡_, ap, subst, subst₂}
 use native.Mathlib.Omega.{arith}
 use lib.ListN.{getD}
-use Rattle.column.proofs.PlaceLaws.{place-in, place-few}
-use Rattle.column.proofs.TurnLaws.{row-copied, StartsTurned, starts-none, starts-all, starts-more}
+use Rattle.chart.proofs.ByEndsLaws.{place-in, place-few}
+use Rattle.chart.proofs.TurnLaws.{row-copied, StartsTurned, starts-none, starts-all, starts-more}
 use Rattle.common.specs.Region.{Region}
-use Rattle.column.proofs.by_ends.turn_row.Statement.{statement}
-use Rattle.column.proofs.by_ends.turn_row.Tie as tie
+use Rattle.chart.proofs.by_ends.turn_row.Statement.{statement}
+use Rattle.chart.proofs.by_ends.turn_row.Tie as tie
 
 abbrev Inv-loop : tie.InvT-loop
 Inv-loop chart₀ n row cells i₀ chart i = StartsTurned n row i chart₀ chart × (i ≤ n + 1)

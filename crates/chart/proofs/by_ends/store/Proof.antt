@@ -4,9 +4,9 @@ use mathlib.Core.Path.{ap}
 use native.Mathlib.Omega.{arith}
 use lib.ListN.{set}
 use borrow.Author.Needs.{needs}
-use Rattle.column.proofs.PlaceLaws.{place-in}
-use Rattle.column.proofs.by_ends.store.Statement.{statement}
-use Rattle.column.proofs.by_ends.store.Tie as tie
+use Rattle.chart.proofs.ByEndsLaws.{place-in}
+use Rattle.chart.proofs.by_ends.store.Statement.{statement}
+use Rattle.chart.proofs.by_ends.store.Tie as tie
 
 place-at-requires : tie.Need-place-at-requires
 place-at-requires c κs = search needs

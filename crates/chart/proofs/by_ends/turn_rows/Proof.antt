@@ -4,12 +4,12 @@ use mathlib.Core.Path.{_≡_, sym, _∙_, subst}
 use native.Mathlib.Omega.{arith}
 use native.Mathlib.Nat.{mul-le-mul-right}
 use lib.ListN.{length, length-replicate}
 use Rattle.chart.proofs.LayoutLaws.{span-few}
 use Rattle.chart.specs.Layout.{spanCount}
-use Rattle.column.proofs.TurnLaws.{turned-none, turned-more}
-use Rattle.column.specs.ByEnds.{Turned}
-use Rattle.column.proofs.turn_rows.Statement.{statement}
-use Rattle.column.proofs.turn_rows.Tie as tie
+use Rattle.chart.proofs.TurnLaws.{turned-none, turned-more}
+use Rattle.chart.specs.ByEnds.{Turned}
+use Rattle.chart.proofs.by_ends.turn_rows.Statement.{statement}
+use Rattle.chart.proofs.by_ends.turn_rows.Tie as tie
 
 abbrev Inv-loop : tie.InvT-loop
 Inv-loop chart₀ n rows cells₀ r₀ chart cells r = Turned n r chart₀ chart × (length cells ≡ 20301) × (r ≤ rows)
