@@ -8,7 +8,7 @@ use native.Mathlib.Decide.{decLt}
 use native.Mathlib.Nat.{mul-le-mul, mul-le-mul-right}
 use lib.ListN.{getD}
 use Rattle.chart.proofs.LayoutLaws.{span-few}
-use Rattle.chart.specs.Layout.{textLimit, places, rowLimit, spanCount}
+use Rattle.chart.specs.Layout.{textLimit, places, rowLimit, spanCount, entryAt}
 use Rattle.chart.specs.ByEnds.{columnAt, placeAt}
 use Rattle.common.proofs.BelowLaws.{sum-grows}
 use Rattle.common.specs.Below.{sumBelow}
@@ -108,13 +108,14 @@ product-small x y h k = omega (arith, mul-le-mul h k)
 
 -- the cell that is read
 module _ (chart : List ℕ) (n row m from k : ℕ) (e : from ≡ placeAt n row 0 m) where
-  cell-read : getD chart (from + k) 0 ≡ getD chart (placeAt n row k m) 0
+  cell-read : getD chart (from + k) 0 ≡ entryAt chart (placeAt n row k m)
+  unfolding entryAt
   cell-read = ap (λ (x : ℕ). getD chart x 0) (omega (arith, e, place-next n row m k))
 
-  pub cell-small : getD chart (placeAt n row k m) 0 ≤ 2 → getD chart (from + k) 0 ≤ 2
+  pub cell-small : entryAt chart (placeAt n row k m) ≤ 2 → getD chart (from + k) 0 ≤ 2
   cell-small h = omega (arith, cell-read)
 
   -- the sum that is made of it and of the sum so far, which is as it was
   pub sum-made : (sums₀ sums : List ℕ) (arg at v : ℕ) → v ≡ cap (getD sums (at + k) 0 + getD chart (from + k) 0 * arg) → getD sums (at + k) 0 ≡ getD sums₀ (at + k) 0
-      → v ≡ cap (getD sums₀ (at + k) 0 + getD chart (placeAt n row k m) 0 * arg)
+      → v ≡ cap (getD sums₀ (at + k) 0 + entryAt chart (placeAt n row k m) * arg)
   sum-made sums₀ sums arg at v h o = h ∙ ap₂ (λ (x y : ℕ). cap (x + y * arg)) o cell-read

@@ -6,7 +6,7 @@ use native.Mathlib.Omega.{arith}
 use native.Mathlib.Decide.{ℕ-discrete}
 use lib.ListN.{length, getD, set}
 use Rattle.chart.proofs.LayoutLaws.{cell-in, cell-below, cell-next, cell-same}
-use Rattle.chart.specs.Layout.{spanCount, cellAt}
+use Rattle.chart.specs.Layout.{spanCount, cellAt, entryAt}
 use Rattle.chart.proofs.ByEndsLaws.{column-in, place-in, place-of-row}
 use Rattle.common.proofs.RegionLaws.{region-others, front-inside}
 use Rattle.chart.specs.ByEnds.{columnAt, placeAt, RowTurned, Turned}
@@ -50,7 +50,7 @@ row-copied n row s₁ s₂ l₀ out copy e₁ e₂ r k h = front-inside (λ (k v
 -- The cells of a row that start before i are turned; other rows are as they were.
 pub record StartsTurned (n row i : ℕ) (l₀ l : List ℕ) : Type 0 where
   pub long : length l ≡ length l₀
-  pub cells : (k j : ℕ) → k < i → k ≤ j → j ≤ n → getD l (cellAt n row k j) 0 ≡ getD l₀ (placeAt n row k j) 0
+  pub cells : (k j : ℕ) → k < i → k ≤ j → j ≤ n → entryAt l (cellAt n row k j) ≡ entryAt l₀ (placeAt n row k j)
   pub below : (k : ℕ) → k < row * spanCount n → getD l k 0 ≡ getD l₀ k 0
   pub above : (k : ℕ) → (row + 1) * spanCount n ≤ k → getD l k 0 ≡ getD l₀ k 0
 
@@ -68,7 +68,8 @@ module _ (n row : ℕ) (l₀ : List ℕ) where
     cell-of-start k = omega (arith, cell-next n row i i k (omega arith))
 
     -- the cells of this start
-    written : (j : ℕ) → i ≤ j → j ≤ n → getD l′ (cellAt n row i j) 0 ≡ getD l₀ (placeAt n row i j) 0
+    written : (j : ℕ) → i ≤ j → j ≤ n → entryAt l′ (cellAt n row i j) ≡ entryAt l₀ (placeAt n row i j)
+    unfolding entryAt
     written j h o =
         let back : i + (j - i) ≡ j = omega arith in
         let place : cellAt n row i j ≡ cellAt n row i i + (j - i) = omega (arith, cell-of-start (j - i), ap (cellAt n row i) back) in
@@ -80,6 +81,7 @@ module _ (n row : ℕ) (l₀ : List ℕ) where
     apart k j x h o p q e = omega (arith, cell-same n row row k i j (i + x) o p (omega arith) (omega arith) (e ∙ cell-of-start x) .1)
 
     pub starts-more : StartsTurned n row (i + 1) l₀ l′
+    unfolding entryAt
     starts-more =
         record {
           long = w .long ∙ s .long;
@@ -99,6 +101,7 @@ module _ (n : ℕ) (l₀ : List ℕ) where
   turned-none = record { long = refl; cells = λ r i j h. absurd (omega arith); beyond = λ k h. refl }
 
   pub turned-more : (r : ℕ) (l l′ : List ℕ) → Turned n r l₀ l → RowTurned n r l l′ → Turned n (r + 1) l₀ l′
+  unfolding entryAt
   turned-more r l l′ s w =
       record {
         long = w .long ∙ s .long;

@@ -4,7 +4,7 @@ use Prim.Native.Nat.{ℕ, _+_, _*_, _≤_, _<_}
 use mathlib.Core.Path.{_≡_}
 use mathlib.Core.List.{List}
 use lib.ListN.{length, getD}
-use Rattle.chart.specs.Layout.{spanCount, cellAt}
+use Rattle.chart.specs.Layout.{spanCount, cellAt, entryAt}
 use Rattle.common.specs.Below.{sumBelow}
 
 -- how many spans end before j: k + 1 end at k
@@ -18,12 +18,12 @@ placeAt n row i j = row * spanCount n + columnAt j + i
 -- The cells of one row stood by ends in l₀, and stand where the chart has them in l; other rows are as they were.
 pub record RowTurned (n row : ℕ) (l₀ l : List ℕ) : Type 0 where
   pub long : length l ≡ length l₀
-  pub cells : (i j : ℕ) → i ≤ j → j ≤ n → getD l (cellAt n row i j) 0 ≡ getD l₀ (placeAt n row i j) 0
+  pub cells : (i j : ℕ) → i ≤ j → j ≤ n → entryAt l (cellAt n row i j) ≡ entryAt l₀ (placeAt n row i j)
   pub below : (k : ℕ) → k < row * spanCount n → getD l k 0 ≡ getD l₀ k 0
   pub above : (k : ℕ) → (row + 1) * spanCount n ≤ k → getD l k 0 ≡ getD l₀ k 0
 
 -- So do the cells of the first rows; bytes beyond them are as they were.
 pub record Turned (n rows : ℕ) (l₀ l : List ℕ) : Type 0 where
   pub long : length l ≡ length l₀
-  pub cells : (r i j : ℕ) → r < rows → i ≤ j → j ≤ n → getD l (cellAt n r i j) 0 ≡ getD l₀ (placeAt n r i j) 0
+  pub cells : (r i j : ℕ) → r < rows → i ≤ j → j ≤ n → entryAt l (cellAt n r i j) ≡ entryAt l₀ (placeAt n r i j)
   pub beyond : (k : ℕ) → rows * spanCount n ≤ k → getD l k 0 ≡ getD l₀ k 0

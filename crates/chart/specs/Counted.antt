@@ -3,11 +3,11 @@
 use Prim.Native.Nat.{ℕ, _≤_, _<_}
 use mathlib.Core.List.{List}
 use lib.ListN.{length, getD}
-use Rattle.chart.specs.Layout.{rowOf, cellAt}
+use Rattle.chart.specs.Layout.{rowOf, cellAt, entryAt}
 use Rattle.theory.specs.Counts.{Counts}
 use Rattle.theory.specs.Grammar.{Grammar, Spells}
 use Rattle.theory.specs.Tree.{Forest}
 
 pub record Counted (g : Grammar) (w bytes : List ℕ) : Type 0 where
   pub cells : (p d i j : ℕ) → p < g .count → d ≤ g .arity p → i ≤ j → j ≤ length w
-      → Counts (λ (f : Forest). Spells g w p f d i j) (getD bytes (cellAt (length w) (rowOf (g .arity) p d) i j) 0)
+      → Counts (λ (f : Forest). Spells g w p f d i j) (entryAt bytes (cellAt (length w) (rowOf (g .arity) p d) i j))

@@ -45,3 +45,7 @@ startAt n i = sumBelow i (λ k. n + 1 - k)
 -- the place of the cell of a row for the span from i to j
 unfoldable pub cellAt : ℕ → ℕ → ℕ → ℕ → ℕ
 cellAt n row i j = row * spanCount n + startAt n i + (j - i)
+
+-- The entry at a place of the chart: the byte there. This is the only way in which an entry is read.
+unfoldable pub entryAt : List ℕ → ℕ → ℕ
+entryAt chart k = getD chart k 0

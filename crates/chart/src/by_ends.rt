@@ -9,7 +9,7 @@ ghost use Prim.Native.Nat.{ℕ, _+_, _-_, _*_, _<_, _≤_, max};
 ghost use lib.ListN.{length, getD, set};
 ghost use Rattle.common.specs.Region.{Region};
 ghost use Rattle.theory.specs.Steps.{cap};
-ghost use Rattle.chart.specs.Layout.{textLimit, places, rowLimit, spanCount, cellAt};
+ghost use Rattle.chart.specs.Layout.{textLimit, places, rowLimit, spanCount, cellAt, entryAt};
 ghost use Rattle.chart.specs.ByEnds.{columnAt, placeAt, RowTurned, Turned};
 
 // Most spans of a text.
@@ -85,9 +85,9 @@ pub fn add_row(
 )
     requires { ⌜ (n ≤ textLimit) × (row < rowLimit) × (m ≤ n) × (argument ≤ 2) ⌝ }
     requires { ⌜ ((row + 1) * spanCount n ≤ length (now chart)) × (at + m ≤ length (now sums)) × (m ≤ length (now live)) ⌝ }
-    requires { ⌜ ((k : ℕ) → k < m → getD (now sums) (at + k) 0 ≤ 2) × ((k : ℕ) → k < m → getD (now chart) (placeAt n row k m) 0 ≤ 2) ⌝ }
-    ensures { λ _. ⌜ Region (λ (k : ℕ) (v : ℕ). v ≡ cap (getD (now (sums .entry)) (at + k) 0 + getD (now (chart .entry)) (placeAt n row k m) 0 * argument)) 0 at m (now (sums .entry)) (now (sums .exit)) ⌝ }
-    ensures { λ _. ⌜ Region (λ (k : ℕ) (v : ℕ). v ≡ max (getD (now (live .entry)) k 0) (cap (getD (now (sums .entry)) (at + k) 0 + getD (now (chart .entry)) (placeAt n row k m) 0 * argument))) 0 0 m (now (live .entry)) (now (live .exit)) ⌝ }
+    requires { ⌜ ((k : ℕ) → k < m → getD (now sums) (at + k) 0 ≤ 2) × ((k : ℕ) → k < m → entryAt (now chart) (placeAt n row k m) ≤ 2) ⌝ }
+    ensures { λ _. ⌜ Region (λ (k : ℕ) (v : ℕ). v ≡ cap (getD (now (sums .entry)) (at + k) 0 + entryAt (now (chart .entry)) (placeAt n row k m) * argument)) 0 at m (now (sums .entry)) (now (sums .exit)) ⌝ }
+    ensures { λ _. ⌜ Region (λ (k : ℕ) (v : ℕ). v ≡ max (getD (now (live .entry)) k 0) (cap (getD (now (sums .entry)) (at + k) 0 + entryAt (now (chart .entry)) (placeAt n row k m) * argument))) 0 0 m (now (live .entry)) (now (live .exit)) ⌝ }
 {
     let from = place_at(n, row, 0, m);
     let mut k = 0;

@@ -6,7 +6,7 @@ ghost use mathlib.Core.Path.{_≡_};
 ghost use Prim.Native.Nat.{ℕ, _+_, _*_, _<_, _≤_};
 ghost use lib.ListN.{length, getD, set};
 ghost use Rattle.grammar.specs.Limits.{productionLimit};
-ghost use Rattle.chart.specs.Layout.{textLimit, arityIn, rowCount, rowLimit, spanCount, startAt, cellAt};
+ghost use Rattle.chart.specs.Layout.{textLimit, arityIn, rowCount, rowLimit, spanCount, startAt, cellAt, entryAt};
 
 // Most characters of a text.
 pub const TEXT_LIMIT: usize = 200;
@@ -57,7 +57,7 @@ fn cell_at(n: usize, row: usize, i: usize, j: usize) -> usize
 pub fn get(chart: &[u8], n: usize, row: usize, i: usize, j: usize) -> u8
     requires { ⌜ (n ≤ textLimit) × (row < rowLimit) × (i ≤ j) × (j ≤ n) ⌝ }
     requires { ⌜ (row + 1) * spanCount n ≤ length (now chart) ⌝ }
-    ensures { λ r. ⌜ r ≡ getD (now (chart .entry)) (cellAt n row i j) 0 ⌝ }
+    ensures { λ r. ⌜ r ≡ entryAt (now (chart .entry)) (cellAt n row i j) ⌝ }
 {
     chart[cell_at(n, row, i, j)]
 }

@@ -7,7 +7,7 @@ use native.Mathlib.Omega.{arith}
 use native.Mathlib.Decide.{ℕ-discrete, decLt}
 use native.Mathlib.Nat.{mul-zero, mul-le-mul}
 use lib.ListN.{getD}
-use Rattle.chart.specs.Layout.{places}
+use Rattle.chart.specs.Layout.{places, entryAt}
 use Rattle.chart.proofs.ByEndsLaws.{place-next, row-before}
 use Rattle.common.proofs.RegionLaws.{region-others, front-inside}
 use Rattle.chart.specs.ByEnds.{placeAt}
@@ -22,6 +22,7 @@ module _ (n j : ℕ) (l₀ : List ℕ) where
   cleared-none = record { long = refl; zeros = λ r i h. absurd (omega arith); others = λ k apart. refl }
 
   pub cleared-more : (r : ℕ) (l l′ : List ℕ) → j ≤ n → ColumnCleared n r j l₀ l → Region (λ (k v : ℕ). v ≡ 0) 0 (placeAt n r 0 j) j l l′ → ColumnCleared n (r + 1) j l₀ l′
+  unfolding entryAt
   cleared-more r l l′ within s w =
       record {
         long = w .long ∙ s .long;
@@ -50,12 +51,12 @@ module _ (n row m arg : ℕ) (chart sums live : List ℕ) where
         quiet = λ i o h z. z;
       }
     where
-      nothing : (i : ℕ) → getD chart (placeAt n row i m) 0 * cap arg ≡ 0
-      nothing i = ap (λ (x : ℕ). getD chart (placeAt n row i m) 0 * cap x) e ∙ mul-zero (getD chart (placeAt n row i m) 0)
+      nothing : (i : ℕ) → entryAt chart (placeAt n row i m) * cap arg ≡ 0
+      nothing i = ap (λ (x : ℕ). entryAt chart (placeAt n row i m) * cap x) e ∙ mul-zero (entryAt chart (placeAt n row i m))
 
   -- the new sum of start k, if v is what may stand behind its cell
   abbrev newSum : ℕ → ℕ → ℕ
-  newSum v k = cap (getD sums (row * places + k) 0 + getD chart (placeAt n row k m) 0 * v)
+  newSum v k = cap (getD sums (row * places + k) 0 + entryAt chart (placeAt n row k m) * v)
 
   pub row-added : (v : ℕ) (sums′ live′ : List ℕ) → v ≡ cap arg → Region (λ (k x : ℕ). x ≡ newSum v k) 0 (row * places) m sums sums′
       → Region (λ (k x : ℕ). x ≡ max (getD live k 0) (newSum v k)) 0 0 m live live′ → RowAdded n row m arg chart sums live sums′ live′
@@ -97,7 +98,7 @@ module _ (n m : ℕ) (chart args sums live : List ℕ) where
           sumsLong = a .sumsLong ∙ s .sumsLong;
           liveLong = a .liveLong ∙ s .liveLong;
           added = λ q i h o. elim (ℕ-discrete q r) [
-            | yes e ↦ rw (e) (a .added i o ∙ ap (λ (x : ℕ). cap (x + getD chart (placeAt n r i m) 0 * cap (getD args r 0))) (splits-next i o))
+            | yes e ↦ rw (e) (a .added i o ∙ ap (λ (x : ℕ). cap (x + entryAt chart (placeAt n r i m) * cap (getD args r 0))) (splits-next i o))
             | no e ↦ a .others (q * places + i) (λ k l d. e (omega arith)) ∙ s .added q i (omega arith) o
           ];
           others = λ k apart. a .others k (λ i o. apart r i (omega arith) o) ∙ s .others k (λ q i h. apart q i (omega arith));

@@ -1,8 +1,8 @@
 // A column of the chart: the sums of splits for its spans, by row and start, and what is stored of a span once it is settled.
+use ccg::tables::slot_has;
 use chart::by_ends::add_row;
 use chart::by_ends::clear_row;
 use chart::by_ends::store;
-use ccg::tables::slot_has;
 use chart::layout::PLACES;
 use chart::layout::ROW_LIMIT;
 use chart::sums::capped;
@@ -19,7 +19,7 @@ ghost use Rattle.common.specs.Region.{Region};
 ghost use Rattle.common.specs.Zeros.{AllZero};
 ghost use Rattle.grammar.specs.Limits.{productionLimit, argumentLimit};
 ghost use Rattle.ccg.specs.Tables.{slot, slotHas, charWords};
-ghost use Rattle.chart.specs.Layout.{textLimit, places, rowLimit, spanCount};
+ghost use Rattle.chart.specs.Layout.{textLimit, places, rowLimit, spanCount, entryAt};
 ghost use Rattle.chart.specs.ByEnds.{placeAt};
 ghost use Rattle.column.specs.Sums.{ColumnCleared, RowAdded, SplitsAdded};
 ghost use Rattle.column.specs.Scattered.{Scattered};
@@ -67,7 +67,7 @@ fn add_split(
 )
     requires { ⌜ (n ≤ textLimit) × (row < rowLimit) × (m ≤ n) ⌝ }
     requires { ⌜ ((row + 1) * spanCount n ≤ length (now chart)) × (length (now sums) ≡ rowLimit * places) × (length (now live) ≡ places) ⌝ }
-    requires { ⌜ ((i : ℕ) → i < m → getD (now sums) (row * places + i) 0 ≤ 2) × ((i : ℕ) → i < m → getD (now chart) (placeAt n row i m) 0 ≤ 2) ⌝ }
+    requires { ⌜ ((i : ℕ) → i < m → getD (now sums) (row * places + i) 0 ≤ 2) × ((i : ℕ) → i < m → entryAt (now chart) (placeAt n row i m) ≤ 2) ⌝ }
     ensures { λ _. ⌜ RowAdded n row m argument (now (chart .entry)) (now (sums .entry)) (now (live .entry)) (now (sums .exit)) (now (live .exit)) ⌝ }
 {
     if argument == 0 {
@@ -97,7 +97,7 @@ pub fn add_splits(
 )
     requires { ⌜ (n ≤ textLimit) × (rows ≤ rowLimit) × (m ≤ n) × (length (now args) ≡ rowLimit) ⌝ }
     requires { ⌜ (rows * spanCount n ≤ length (now chart)) × (length (now sums) ≡ rowLimit * places) × (length (now live) ≡ places) ⌝ }
-    requires { ⌜ ((r i : ℕ) → r < rows → i < m → getD (now sums) (r * places + i) 0 ≤ 2) × ((r i : ℕ) → r < rows → i < m → getD (now chart) (placeAt n r i m) 0 ≤ 2) ⌝ }
+    requires { ⌜ ((r i : ℕ) → r < rows → i < m → getD (now sums) (r * places + i) 0 ≤ 2) × ((r i : ℕ) → r < rows → i < m → entryAt (now chart) (placeAt n r i m) ≤ 2) ⌝ }
     ensures { λ _. ⌜ SplitsAdded n rows m (now (chart .entry)) (now (args .entry)) (now (sums .entry)) (now (live .entry)) (now (sums .exit)) (now (live .exit)) ⌝ }
 {
     let mut r = 0;

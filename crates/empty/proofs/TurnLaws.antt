@@ -75,25 +75,25 @@ module _ {counts users args cells back : List ℕ} {changed : Bool} (t : Turning
       (λ l. omega (arith, List·getD-eq-default back 0 {n = r} (omega (arith, held-long))))
 
   -- the cells are settled, and the arguments taken up
-  module _ {uses wanted zeros args′ cells′ back′ : List ℕ} {changed′ : Bool} (links : Links counts users uses) (z : AllZero rowLimit zeros)
-      (s : Settled (heldSpan counts users zeros back) wanted cells args′ cells′) (long : length args′ ≡ length args) (f : Followed back args′ back′ changed′) where
+  module _ {uses zeros args′ cells′ back′ : List ℕ} {changed′ : Bool} (links : Links counts users uses) (z : AllZero rowLimit zeros)
+      (s : Settled (heldSpan counts users zeros back) cells args′ cells′) (long : length args′ ≡ length args) (f : Followed back args′ back′ changed′) where
     settled-right : Right counts users cells′ × ((k : ℕ) → getD cells k 0 ≤ getD cells′ k 0)
     settled-right = grown-right counts users zeros back z links (t .right) held-less (s .came)
 
     -- the arguments have not changed: the cells are closed with those that were held
-    settled-closed : ((p : ℕ) → p < length counts → 1 ≤ getD wanted p 0) → changed′ ≡ false → ClosedWith counts args′ cells′
+    settled-closed : changed′ ≡ false → ClosedWith counts args′ cells′
     unfolding spanOf
-    settled-closed all e p d l m =
-        rw (← f .stayed e, ← step-held counts users zeros back z cells′ (rowOf (arityIn counts) p d)) (s .closedAll p l (all p l) .closed d m)
+    settled-closed e p d l m =
+        rw (← f .stayed e, ← step-held counts users zeros back z cells′ (rowOf (arityIn counts) p d)) (s .closedAll p l .closed d m)
 
-    pub turning-next : ((p : ℕ) → p < length counts → 1 ≤ getD wanted p 0) → Turning counts users args′ cells′ back′ changed′
-    turning-next all =
+    pub turning-next : Turning counts users args′ cells′ back′ changed′
+    turning-next =
         record {
           right = settled-right .0;
           argsLong = long ∙ t .argsLong;
           agree = exact-empty counts users zeros back (s .agree);
           taken = f .taken;
-          closed = settled-closed all;
+          closed = settled-closed;
         }
 
     -- if no count rose, neither did an argument

@@ -61,12 +61,10 @@ pub fn settle_empty(
     counts: &[u8],
     users: &[u8],
     uses: &[u8],
-    wanted: &[u8],
     args: &mut [u8],
     cells: &mut [u8],
 )
     requires { ⌜ Links (now counts) (now users) (now uses) ⌝ }
-    requires { ⌜ (length (now wanted) ≡ productionLimit) × ((p : ℕ) → p < length (now counts) → 1 ≤ getD (now wanted) p 0) ⌝ }
     requires { ⌜ AllZero rowLimit (now args) × AllZero rowLimit (now cells) ⌝ }
     ensures { λ _. ⌜ ((chars subs : ℕ → ℕ → ℕ → Bool) → UsersAre (now (counts .entry)) (now (users .entry)) subs → EmptyRight (grammarOf (now (counts .entry)) chars subs) (now (cells .exit)) (now (args .exit))) ⌝ }
 {
@@ -81,7 +79,6 @@ pub fn settle_empty(
             rows,
             users,
             uses,
-            wanted,
             &zeros,
             &zeros,
             &back,

@@ -9,7 +9,7 @@ use native.Mathlib.Nat.{mod-lt, div-add-mod', div-lt-iff-lt-mul}
 use lib.ListN.{length, getD, take}
 use lib.Seq.{ext-getD}
 use Rattle.chart.proofs.LayoutLaws.{start-end}
-use Rattle.chart.specs.Layout.{rowOf, rowCount, spanCount, startAt, cellAt, chartBytes}
+use Rattle.chart.specs.Layout.{rowOf, rowCount, spanCount, startAt, cellAt, chartBytes, entryAt}
 use Rattle.common.specs.Below.{sumBelow}
 use Rattle.common.specs.Lists.{overwritten}
 use Rattle.engine.specs.Outcome.{Answered, ChartAfter, Parsed}
@@ -67,7 +67,7 @@ module _ (E : ℕ → ℕ → ℕ → ℕ → Forest → Type 0) (arity : ℕ �
     (a : ChartAfter E arity count n c₀ c) (b : ChartAfter E arity count n c₀ c′) where
   -- an entry is the count of the same lists of trees
   cell-unique : (p d i j : ℕ) → p < count → d ≤ arity p → i ≤ j → j ≤ n
-      → getD (a .entries) (cellAt n (rowOf arity p d) i j) 0 ≡ getD (b .entries) (cellAt n (rowOf arity p d) i j) 0
+      → entryAt (a .entries) (cellAt n (rowOf arity p d) i j) ≡ entryAt (b .entries) (cellAt n (rowOf arity p d) i j)
   cell-unique p d i j lp ld ij jn = counts-unique (E p d i j) _ _ (a .cells p d i j lp ld ij jn) (b .cells p d i j lp ld ij jn)
 
   -- so all entries are the same

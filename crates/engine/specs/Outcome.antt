@@ -3,7 +3,7 @@ use Prim.Native.Nat.{ℕ, _*_, _≤_, _<_}
 use mathlib.Core.Path.{_≡_}
 use mathlib.Core.List.{List}
 use lib.ListN.{length, getD, take}
-use Rattle.chart.specs.Layout.{rowOf, cellAt, chartBytes}
+use Rattle.chart.specs.Layout.{rowOf, cellAt, chartBytes, entryAt}
 use Rattle.common.specs.Lists.{overwritten}
 use Rattle.engine.specs.declared.Answer.{Answer}
 use Rattle.engine.specs.declared.Answer.the-variants.{None, One, Several, Refused}
@@ -26,7 +26,7 @@ Answered P l₀ (Refused number place) l =
 pub record ChartAfter (E : ℕ → ℕ → ℕ → ℕ → Forest → Type 0) (arity : ℕ → ℕ) (count n : ℕ) (c₀ c : List ℕ) : Type 0 where
   pub entries : List ℕ
   pub long : length entries ≡ chartBytes arity count n
-  pub cells : (p d i j : ℕ) → p < count → d ≤ arity p → i ≤ j → j ≤ n → Counts (E p d i j) (getD entries (cellAt n (rowOf arity p d) i j) 0)
+  pub cells : (p d i j : ℕ) → p < count → d ≤ arity p → i ≤ j → j ≤ n → Counts (E p d i j) (entryAt entries (cellAt n (rowOf arity p d) i j))
   pub whole : c ≡ overwritten entries c₀
 
 pub record Parsed (P : Tree → Type 0) (E : ℕ → ℕ → ℕ → ℕ → Forest → Type 0) (arity : ℕ → ℕ) (count n : ℕ) (c₀ l₀ : List ℕ) (r : Answer) (c l : List ℕ) : Type 0 where

@@ -11,7 +11,7 @@ use lib.ListN.{length, getD, List·getD-eq-default}
 use borrow.Author.Tests.{ne-eqb}
 use Rattle.chart.proofs.LayoutLaws.{row-in, row-shift}
 use Rattle.chart.specs.Counted.{Counted}
-use Rattle.chart.specs.Layout.{textLimit, places, rowLimit, rowOf, rowCount, cellAt}
+use Rattle.chart.specs.Layout.{textLimit, places, rowLimit, rowOf, rowCount, cellAt, entryAt}
 use Rattle.chart.proofs.ByEndsLaws.{place-below, place-same}
 use Rattle.chart.specs.ByEnds.{placeAt, Turned}
 use Rattle.column.specs.Scattered.{Scattered}
@@ -87,7 +87,7 @@ module _ (g : Grammar) (w empty bytes bytes′ x : List ℕ) (i j : ℕ) (ij : i
   o = over (g .arity) view i j x
 
   -- other cells are as they were
-  other-cell : (r i′ j′ : ℕ) → i′ ≤ j′ → j′ ≤ length w → (i′ ≡ i → j′ ≡ j → ⊥) → getD bytes′ (placeAt (length w) r i′ j′) 0 ≡ getD bytes (placeAt (length w) r i′ j′) 0
+  other-cell : (r i′ j′ : ℕ) → i′ ≤ j′ → j′ ≤ length w → (i′ ≡ i → j′ ≡ j → ⊥) → entryAt bytes′ (placeAt (length w) r i′ j′) ≡ entryAt bytes (placeAt (length w) r i′ j′)
   other-cell r i′ j′ l h apart =
       stored .others (placeAt (length w) r i′ j′)
       (λ k o e. let (a, b, c) = place-same (length w) r k i′ i j′ j l h (omega arith) jw e in apart b c)
@@ -238,7 +238,7 @@ module _ (g : Grammar) (w empty back : List ℕ) (bottom : EmptyRight g empty ba
           let row = rowOf (g .arity) p d in
           let f : ℕ → ℕ = λ k. c′ p d i′ (i + k) * argumentSum g w c′ p d (i + k) j in
           let old : ℕ → ℕ = λ k. c p d i′ (i + 1 + k) * argumentSum g w c p d (i + 1 + k) j in
-          let cell : getD bytes′ (placeAt (length w) row i′ i) 0 ≡ c′ p d i′ i = sym (view-cell (g .arity) (length w) empty bytes′ p d i′ i l) in
+          let cell : entryAt bytes′ (placeAt (length w) row i′ i) ≡ c′ p d i′ i = sym (view-cell (g .arity) (length w) empty bytes′ p d i′ i l) in
           let start : f 0 ≡ c′ p d i′ i * argumentSum g w c′ p d i j = ap (λ (m : ℕ). c′ p d i′ m * argumentSum g w c′ p d m j) (add-zero i) in
           let rest : sumBelow (j - i - 1) (λ k. f (suc k)) ≡ sumBelow (j - i - 1) old = sum-same (λ k. f (suc k)) old (j - i - 1)
           (λ k h. let e : i + suc k ≡ i + 1 + k = omega arith in
@@ -322,8 +322,8 @@ module _ (g : Grammar) (w empty back : List ℕ) (bottom : EmptyRight g empty ba
       record {
         sumsLong = refl;
         liveLong = refl;
-        added = λ r i′ lr l. let product : getD bytes (placeAt (length w) r i′ i) 0 * cap (getD zeros r 0) ≡ 0 =
-            ap (λ (n : ℕ). getD bytes (placeAt (length w) r i′ i) 0 * cap n) (zeros-are .zeros r) ∙ mul-zero (getD bytes (placeAt (length w) r i′ i) 0) in
+        added = λ r i′ lr l. let product : entryAt bytes (placeAt (length w) r i′ i) * cap (getD zeros r 0) ≡ 0 =
+            ap (λ (n : ℕ). entryAt bytes (placeAt (length w) r i′ i) * cap n) (zeros-are .zeros r) ∙ mul-zero (entryAt bytes (placeAt (length w) r i′ i)) in
             omega (arith, product, small .smallSums r i′ lr (omega arith));
         others = λ k h. refl;
         kept = λ i′ e. e;
@@ -375,7 +375,7 @@ module _ (g : Grammar) (w empty before bytes bytes′ : List ℕ) (j : ℕ) (jw 
   abbrev new-view : Chart
   new-view = viewOf (g .arity) (length w) empty bytes′
 
-  apart-cell : (r i′ j′ : ℕ) → i′ ≤ j′ → j′ ≤ length w → (i′ ≡ j → j′ ≡ j → ⊥) → getD bytes′ (placeAt (length w) r i′ j′) 0 ≡ getD bytes (placeAt (length w) r i′ j′) 0
+  apart-cell : (r i′ j′ : ℕ) → i′ ≤ j′ → j′ ≤ length w → (i′ ≡ j → j′ ≡ j → ⊥) → entryAt bytes′ (placeAt (length w) r i′ j′) ≡ entryAt bytes (placeAt (length w) r i′ j′)
   apart-cell r i′ j′ l h apart =
       stored .others (placeAt (length w) r i′ j′)
       (λ k o e. let (a, b, c) = place-same (length w) r k i′ j j′ j l h (le-refl j) jw e in apart b c)
@@ -412,7 +412,7 @@ module _ (g : Grammar) (w empty before bytes bytes′ : List ℕ) (j : ℕ) (jw 
         steps = λ p d i′ j′ lp ld dn. subst₂ (λ (u v : ℕ). cap u ≤ v) (sym (same-split p d i′ j′ (dn .rises) (dn .within))) (sym (same-view p (d + 1) i′ j′ (dn .rises) (dn .within)))
             (fill .steps p d i′ j′ lp ld (done-column i′ j′ dn));
         diagonal = λ r j′ lr l. elim (ℕ-discrete j′ j) [
-          | yes e ↦ subst⁻¹ (λ (n : ℕ). getD bytes′ (placeAt (length w) r n n) 0 ≡ getD empty r 0) e (stored .here r lr)
+          | yes e ↦ subst⁻¹ (λ (n : ℕ). entryAt bytes′ (placeAt (length w) r n n) ≡ getD empty r 0) e (stored .here r lr)
           | no e ↦ apart-cell r j′ j′ (le-refl j′) (omega arith) (λ u v. e u) ∙ fill .diagonal r j′ lr (by-cases (decLt j′ j) (λ h. h) (λ h. absurd (e (omega arith))))
         ];
       }
@@ -431,7 +431,7 @@ module _ (g : Grammar) (w empty before bytes bytes′ sums live : List ℕ) (j :
   done-earlier : (i′ j′ : ℕ) → Done (length w) j j i′ j′ → i′ < j′ → j′ < j
   done-earlier i′ j′ dn l = by-cases (decLt j′ j) (λ h. h) (λ h. absurd (omega (arith, dn .column l, dn .start l (omega (arith, dn .column l)))))
 
-  kept-place : (r i′ j′ : ℕ) → i′ ≤ j′ → j′ ≤ length w → (j′ ≡ j → i′ ≡ j′) → getD bytes′ (placeAt (length w) r i′ j′) 0 ≡ getD bytes (placeAt (length w) r i′ j′) 0
+  kept-place : (r i′ j′ : ℕ) → i′ ≤ j′ → j′ ≤ length w → (j′ ≡ j → i′ ≡ j′) → entryAt bytes′ (placeAt (length w) r i′ j′) ≡ entryAt bytes (placeAt (length w) r i′ j′)
   kept-place r i′ j′ l h apart =
       clear .others (placeAt (length w) r i′ j′)
       (λ r′ k lr lk e. let (a, b, c) = place-same (length w) r r′ i′ k j′ j l h (omega arith) jw e in omega (arith, apart c))
@@ -487,12 +487,12 @@ module _ (g : Grammar) (w empty back : List ℕ) (bottom : EmptyRight g empty ba
   last-view = viewOf (g .arity) (length w) empty bytes
 
   abbrev entry : Chart
-  entry p d i j = getD turned (cellAt (length w) (rowOf (g .arity) p d) i j) 0
+  entry p d i j = entryAt turned (cellAt (length w) (rowOf (g .arity) p d) i j)
 
   all-done : (i j : ℕ) → i ≤ j → j ≤ length w → Done (length w) (length w + 1) (length w + 1) i j
   all-done i j l h = record { rises = l; within = h; column = λ o. omega arith; start = λ o e. absurd (omega arith) }
 
-  turned-entry : (p d i j : ℕ) → p < g .count → d ≤ g .arity p → i ≤ j → j ≤ length w → getD bytes (placeAt (length w) (rowOf (g .arity) p d) i j) 0 ≡ entry p d i j
+  turned-entry : (p d i j : ℕ) → p < g .count → d ≤ g .arity p → i ≤ j → j ≤ length w → entryAt bytes (placeAt (length w) (rowOf (g .arity) p d) i j) ≡ entry p d i j
   turned-entry p d i j lp ld l h = sym (turn .cells (rowOf (g .arity) p d) i j (row-in (g .arity) p d (g .count) lp ld) l h)
 
   entry-view : (p d i j : ℕ) → p < g .count → d ≤ g .arity p → i ≤ j → j ≤ length w → last-view p d i j ≡ entry p d i j

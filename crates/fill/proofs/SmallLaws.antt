@@ -6,7 +6,7 @@ use mathlib.Core.Logic.{by-cases}
 use native.Mathlib.Omega.{arith}
 use native.Mathlib.Decide.{ℕ-discrete, decLt}
 use lib.ListN.{getD}
-use Rattle.chart.specs.Layout.{places, rowLimit}
+use Rattle.chart.specs.Layout.{places, rowLimit, entryAt}
 use Rattle.chart.proofs.ByEndsLaws.{place-same}
 use Rattle.common.proofs.RegionLaws.{front-inside}
 use Rattle.chart.specs.ByEnds.{placeAt}
@@ -31,14 +31,14 @@ module _ (n rows j : ℕ) (jn : j ≤ n) where
       record {
         smallCells = λ r i′ j′ lr l h. elim (ℕ-discrete i′ i) [
           | yes a ↦ elim (ℕ-discrete j′ j) [
-            | yes b ↦ subst₂ (λ (u v : ℕ). getD chart′ (placeAt n r u v) 0 ≤ 2) (sym a) (sym b) (omega (arith, stored .here r lr, small r))
+            | yes b ↦ subst₂ (λ (u v : ℕ). entryAt chart′ (placeAt n r u v) ≤ 2) (sym a) (sym b) (omega (arith, stored .here r lr, small r))
             | no b ↦ omega (arith, kept r i′ j′ l (omega arith) (λ u v. b v), cells .smallCells r i′ j′ lr l h)
           ]
           | no a ↦ omega (arith, kept r i′ j′ l (omega arith) (λ u v. a u), cells .smallCells r i′ j′ lr l h)
         ];
       }
     where
-      kept : (r i′ j′ : ℕ) → i′ < j′ → j′ ≤ n → (i′ ≡ i → j′ ≡ j → ⊥) → getD chart′ (placeAt n r i′ j′) 0 ≡ getD chart (placeAt n r i′ j′) 0
+      kept : (r i′ j′ : ℕ) → i′ < j′ → j′ ≤ n → (i′ ≡ i → j′ ≡ j → ⊥) → entryAt chart′ (placeAt n r i′ j′) ≡ entryAt chart (placeAt n r i′ j′)
       kept r i′ j′ l h apart =
           stored .others (placeAt n r i′ j′)
           (λ k o e. let (a, b, c) = place-same n r k i′ i j′ j (omega arith) h ij jn e in apart b c)
@@ -60,7 +60,7 @@ module _ (n rows j : ℕ) (jn : j ≤ n) where
   small-cleared chart chart′ clear cells =
       record {
         smallCells = λ r i′ j′ lr l h. elim (ℕ-discrete j′ j) [
-          | yes e ↦ subst⁻¹ (λ (m : ℕ). getD chart′ (placeAt n r i′ m) 0 ≤ 2) e (omega (arith, clear .zeros r i′ lr (omega arith)))
+          | yes e ↦ subst⁻¹ (λ (m : ℕ). entryAt chart′ (placeAt n r i′ m) ≤ 2) e (omega (arith, clear .zeros r i′ lr (omega arith)))
           | no e ↦ let earlier : j′ < j = by-cases (decLt j′ j) (λ o. o) (λ o. absurd (e (omega arith))) in
               omega (arith, clear .others (placeAt n r i′ j′) (λ r′ k lr′ lk f. let (a, b, c) = place-same n r r′ i′ k j′ j (omega arith) (omega arith) (omega arith) jn f in e c), cells .smallCells r i′ j′ lr l earlier)
         ];

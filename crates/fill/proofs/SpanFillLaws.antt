@@ -11,7 +11,7 @@ use lib.ListN.{length, getD, set, length-set}
 use lib.Seq.{set-out, getD-set-same, getD-set-other}
 use borrow.Author.Tests.{eq-eqb, ne-eqb}
 use Rattle.chart.proofs.LayoutLaws.{row-in, row-same, row-shift}
-use Rattle.chart.specs.Layout.{rowLimit, rowOf, rowCount}
+use Rattle.chart.specs.Layout.{rowLimit, rowOf, rowCount, entryAt}
 use Rattle.chart.specs.ByEnds.{placeAt}
 use Rattle.common.proofs.BelowLaws.{sum-same}
 use Rattle.common.specs.Below.{sumBelow, bitOf}
@@ -53,7 +53,7 @@ module _ (arity : ℕ → ℕ) (n : ℕ) (empty bytes : List ℕ) where
   unfolding viewOf
   view-empty p d i = rw (eq-eqb i i refl) refl
 
-  pub view-cell : (p d i j : ℕ) → i < j → viewOf arity n empty bytes p d i j ≡ getD bytes (placeAt n (rowOf arity p d) i j) 0
+  pub view-cell : (p d i j : ℕ) → i < j → viewOf arity n empty bytes p d i j ≡ entryAt bytes (placeAt n (rowOf arity p d) i j)
   unfolding viewOf
   view-cell p d i j l = rw (ne-eqb i j (λ e. omega arith)) refl
 

@@ -5,7 +5,7 @@ use mathlib.Core.Bool.{cond, _&&_}
 use mathlib.Core.List.{List}
 use lib.Dec.{eqb}
 use lib.ListN.{length, getD}
-use Rattle.chart.specs.Layout.{places, rowLimit, rowOf, rowCount, chartBytes}
+use Rattle.chart.specs.Layout.{places, rowLimit, rowOf, rowCount, chartBytes, entryAt}
 use Rattle.chart.specs.ByEnds.{placeAt}
 use Rattle.common.specs.Below.{sumBelow}
 use Rattle.theory.specs.Counts.{Shown}
@@ -15,7 +15,7 @@ use Rattle.theory.specs.Tree.{Forest}
 
 -- The entries so far. Those of empty spans are known from the beginning, though they are stored last in their column.
 unfoldable pub viewOf : (ℕ → ℕ) → ℕ → (empty bytes : List ℕ) → Chart
-viewOf arity n empty bytes p d i j = cond (eqb i j) (getD empty (rowOf arity p d) 0) (getD bytes (placeAt n (rowOf arity p d) i j) 0)
+viewOf arity n empty bytes p d i j = cond (eqb i j) (getD empty (rowOf arity p d) 0) (entryAt bytes (placeAt n (rowOf arity p d) i j))
 
 -- The same entries, but for the span from i to j, whose cells are x.
 unfoldable pub over : (ℕ → ℕ) → Chart → ℕ → ℕ → List ℕ → Chart
@@ -30,7 +30,7 @@ pub record Done (n i j i′ j′ : ℕ) : Type 0 where
 
 -- No cell of a column before j is above 2.
 pub record SmallCells (n rows j : ℕ) (bytes : List ℕ) : Type 0 where
-  pub smallCells : (r i′ j′ : ℕ) → r < rows → i′ < j′ → j′ < j → getD bytes (placeAt n r i′ j′) 0 ≤ 2
+  pub smallCells : (r i′ j′ : ℕ) → r < rows → i′ < j′ → j′ < j → entryAt bytes (placeAt n r i′ j′) ≤ 2
 
 -- No sum for a start before j is.
 pub record SmallSums (rows j : ℕ) (sums : List ℕ) : Type 0 where
@@ -46,14 +46,14 @@ pub record Filling (g : Grammar) (w empty before bytes : List ℕ) (i j : ℕ) :
   pub steps : (p d i′ j′ : ℕ) → p < g .count → d < g .arity p → Done (length w) i j i′ j′
       → cap (splitSum g w (viewOf (g .arity) (length w) empty bytes) p d i′ j′) ≤ viewOf (g .arity) (length w) empty bytes p (d + 1) i′ j′
   -- the empty spans of the columns before j are stored
-  pub diagonal : (r j′ : ℕ) → r < rowCount (g .arity) (g .count) → j′ < j → getD bytes (placeAt (length w) r j′ j′) 0 ≡ getD empty r 0
+  pub diagonal : (r j′ : ℕ) → r < rowCount (g .arity) (g .count) → j′ < j → entryAt bytes (placeAt (length w) r j′ j′) ≡ getD empty r 0
 
 -- Column j is done from its end down to start i. Before i its cells are zeros, and `sums` has for each row and start the splits at i and later;
 -- `live` is 0 only where all of them are.
 pub record Summing (g : Grammar) (w empty bytes sums live : List ℕ) (i j : ℕ) : Type 0 where
   pub sumsLong : length sums ≡ rowLimit * places
   pub liveLong : length live ≡ places
-  pub cleared : (r i′ : ℕ) → r < rowCount (g .arity) (g .count) → i′ < i → getD bytes (placeAt (length w) r i′ j) 0 ≡ 0
+  pub cleared : (r i′ : ℕ) → r < rowCount (g .arity) (g .count) → i′ < i → entryAt bytes (placeAt (length w) r i′ j) ≡ 0
   pub splits : (p d i′ : ℕ) → p < g .count → d < g .arity p → i′ < i
       → getD sums (rowOf (g .arity) p d * places + i′) 0
       ≡ cap (sumBelow (j - i) (λ k. viewOf (g .arity) (length w) empty bytes p d i′ (i + k) * argumentSum g w (viewOf (g .arity) (length w) empty bytes) p d (i + k) j))

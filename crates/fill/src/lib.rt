@@ -1,15 +1,15 @@
 // Fills a chart: columns rising, in each the starts falling, so that every span inside one is done before it.
+use chart::by_ends::clear;
+use chart::by_ends::turn_rows;
 use chart::layout::PLACES;
 use chart::layout::row_count;
 use chart::sums::zero_row;
 use column::SUMS;
 use column::add_splits;
 use column::bare_args;
-use chart::by_ends::clear;
 use column::clear_column;
 use column::store_cells;
 use column::sums_at;
-use chart::by_ends::turn_rows;
 use empty::settle_empty;
 use grammar::limits::PRODUCTION_LIMIT;
 use links::link;

@@ -18,9 +18,9 @@ use Rattle.span.specs.Tables.{spanOf, Loads, Exact, Founded, Resting, Vi
 -- ---- visits
 
 -- visits one after the other
-pub visited-join : {s : Span} {wanted : List ℕ} {i j k : ℕ} {pending args x pending′ args′ x′ pending″ args″ x″ : List ℕ} {a b : Bool}
-    → Visited s wanted i j pending args x pending′ args′ x′ a → Visited s wanted j k pending′ args′ x′ pending″ args″ x″ b
-    → Visited s wanted i k pending args x pending″ args″ x″ (a || b)
+pub visited-join : {s : Span} {i j k : ℕ} {pending args x pending′ args′ x′ pending″ args″ x″ : List ℕ} {a b : Bool}
+    → Visited s i j pending args x pending′ args′ x′ a → Visited s j k pending′ args′ x′ pending″ args″ x″ b
+    → Visited s i k pending args x pending″ args″ x″ (a || b)
 visited-join {j = j} {a = a} {b = b} v w =
     record {
       small = w .small;
@@ -63,27 +63,27 @@ founded-kept f v = let w = v (f .bare) (f .agree) in record { bare = f .bare; li
 -- ---- rounds
 
 -- Between two rounds the cells x came about from x₀, and what is not pending is closed. If no count rose, nothing is pending.
-pub record Settling (s : Span) (wanted x₀ pending args x : List ℕ) (rose : Bool) : Type 0 where
+pub record Settling (s : Span) (x₀ pending args x : List ℕ) (rose : Bool) : Type 0 where
   pub small : (r : ℕ) → getD x r 0 ≤ 2
   pub agree : Exact s x args
   pub came : Raised s x₀ x
-  pub resting : Resting s wanted pending x
+  pub resting : Resting s pending x
   pub calm : rose ≡ false → (p : ℕ) → p < s .count → getD pending p 0 ≡ 0
 
 -- at first all are pending
-pub settling-first : {s : Span} {wanted args x : List ℕ} (n : ℕ) → s .count ≤ n → ((r : ℕ) → getD x r 0 ≤ 2) → Exact s x args → Settling s wanted x (replicate n 1) args x true
+pub settling-first : {s : Span} {args x : List ℕ} (n : ℕ) → s .count ≤ n → ((r : ℕ) → getD x r 0 ≤ 2) → Exact s x args → Settling s x (replicate n 1) args x true
 settling-first n l small agree =
     record {
       small = small;
       agree = agree;
       came = asBefore;
-      resting = record { rest = λ p k w z. absurd (omega (arith, getD-replicate {A = ℕ} n p 1 0 (omega arith))) };
+      resting = record { rest = λ p k z. absurd (omega (arith, getD-replicate {A = ℕ} n p 1 0 (omega arith))) };
       calm = λ e. absurd (true≢false e);
     }
 
 -- a round later
-pub settling-next : {s : Span} {wanted x₀ pending args x pending′ args′ x′ : List ℕ} {a b : Bool}
-    → Settling s wanted x₀ pending args x a → Visited s wanted 0 (s .count) pending args x pending′ args′ x′ b → Settling s wanted x₀ pending′ args′ x′ b
+pub settling-next : {s : Span} {x₀ pending args x pending′ args′ x′ : List ℕ} {a b : Bool}
+    → Settling s x₀ pending args x a → Visited s 0 (s .count) pending args x pending′ args′ x′ b → Settling s x₀ pending′ args′ x′ b
 settling-next g v =
     record {
       small = v .small;
@@ -93,9 +93,9 @@ settling-next g v =
       calm = λ e p l. v .done e p (omega arith) l;
     }
 
--- in the end all wanted productions are closed
-pub settling-last : {s : Span} {wanted x₀ pending args x : List ℕ} {rose : Bool} → rose ≡ false → Settling s wanted x₀ pending args x rose → Settled s wanted x₀ args x
-settling-last e g = record { agree = g .agree; came = g .came; closedAll = λ p l w. g .resting .rest p l w (g .calm e p l) }
+-- in the end all productions are closed
+pub settling-last : {s : Span} {x₀ pending args x : List ℕ} {rose : Bool} → rose ≡ false → Settling s x₀ pending args x rose → Settled s x₀ args x
+settling-last e g = record { agree = g .agree; came = g .came; closedAll = λ p l. g .resting .rest p l (g .calm e p l) }
 
 -- each round but the last leaves less to spare, whatever the characters count for
 pub settling-less : (counts users inner front back : List ℕ) (bare : ℕ → ℕ) (x x′ : List ℕ) (rose₀ rose : Bool) → rose₀ ≡ true

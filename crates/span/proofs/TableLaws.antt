@@ -65,7 +65,7 @@ module _ {counts users uses inner front back args x : List ℕ} (q base : ℕ)
       let h : getD (take ((q + 1) * rowLimit - q * rowLimit) (drop (q * rowLimit) users)) r 0 ≤ 1 = rw (part-at users q rowLimit r l) (links .bits (q * rowLimit + r)) in
       omega (arith, table-few r l, mul-le-mul g h)
 
-  module _ (wanted pending : List ℕ) (bare : ℕ → ℕ) (agree : Exact (spanOf counts users inner front back bare) x args) where
+  module _ (pending : List ℕ) (bare : ℕ → ℕ) (agree : Exact (spanOf counts users inner front back bare) x args) where
     -- the lists are those of the span
     table-steps : (y : List ℕ) (r : ℕ) → getD args r 0 ≡ argumentOf (spanOf counts users inner front back bare) y r
         → stepIn inner front back args y r ≡ stepOf (spanOf counts users inner front back bare) y r
@@ -73,7 +73,7 @@ module _ {counts users uses inner front back args x : List ℕ} (q base : ℕ)
     table-steps y r e = rw e refl
 
     -- a visit ends at once if the production is not pending
-    pub table-idle : getD pending q 0 ≡ 0 → Visited (spanOf counts users inner front back bare) wanted q (q + 1) pending args x pending args x false
+    pub table-idle : getD pending q 0 ≡ 0 → Visited (spanOf counts users inner front back bare) q (q + 1) pending args x pending args x false
     table-idle e = visited-idle q (q + 1) (founded .small) agree (λ p l k. let f : p ≡ q = omega arith in rw f e)
 
     module _ (m n : ℕ) (y : List ℕ) (e : m ≡ arityIn counts q) (f : n ≡ arityIn counts q) (g : y ≡ advanced inner front back args base n x) where
@@ -87,23 +87,23 @@ module _ {counts users uses inner front back args x : List ℕ} (q base : ℕ)
 
       -- or when its count has stayed
       pub table-same : q < length pending → getD y (base + m) 0 ≡ getD x (base + m) 0
-          → Visited (spanOf counts users inner front back bare) wanted q (q + 1) pending args x (set pending q 0) args y false
+          → Visited (spanOf counts users inner front back bare) q (q + 1) pending args x (set pending q 0) args y false
       unfolding spanOf
       table-same l k =
           rw table-cells
           (visited-same (spanOf counts users inner front back bare) inner front back args x q base table-steps agree (founded .small) (loads .cellsLong) (place .0) (place .1) (table-room (arityIn counts q) refl)
-          wanted pending l (rw (table-whole, ← table-cells) k))
+          pending l (rw (table-whole, ← table-cells) k))
 
       -- or when its count rose, and that was spread and marked
       pub table-rose : (pending′ args′ : List ℕ) → getD y (base + m) 0 ≢ getD x (base + m) 0
           → ((r : ℕ) → r < rowLimit → getD args′ r 0 ≡ getD args r 0 + (getD y (base + m) 0 - getD x (base + m) 0) * getD (take ((q + 1) * rowLimit - q * rowLimit) (drop (q * rowLimit) users)) r 0)
-          → ((p : ℕ) → p < productionLimit → getD pending′ p 0 ≡ max (getD (set pending q 0) p 0) (min (getD (take ((q + 1) * productionLimit - q * productionLimit) (drop (q * productionLimit) uses)) p 0) (getD wanted p 0)))
-          → Visited (spanOf counts users inner front back bare) wanted q (q + 1) pending args x pending′ args′ y true
+          → ((p : ℕ) → p < productionLimit → getD pending′ p 0 ≡ max (getD (set pending q 0) p 0) (getD (take ((q + 1) * productionLimit - q * productionLimit) (drop (q * productionLimit) uses)) p 0))
+          → Visited (spanOf counts users inner front back bare) q (q + 1) pending args x pending′ args′ y true
       unfolding spanOf userAt useAt
       table-rose pending′ args′ k spread marks =
           rw table-cells
           (visited-rose (spanOf counts users inner front back bare) inner front back args x q base table-steps agree (founded .small) (loads .cellsLong) (place .0) (place .1) (table-room (arityIn counts q) refl)
-          wanted pending pending′ args′ (λ p. getD uses (useAt q p) 0) (getD y (base + m) 0 - getD x (base + m) 0)
+          pending pending′ args′ (λ p. getD uses (useAt q p) 0) (getD y (base + m) 0 - getD x (base + m) 0)
           (omega (arith, table-within n y f g (base + m) .0, k))
           (rw (table-whole, ← table-cells) (omega (arith, table-within n y f g (base + m) .0)))
           (λ p d l h u. links .unused q p d (place .0) l h u)

@@ -19,8 +19,8 @@ use Rattle.span.specs.Tables.{Exact, stepIn, raisedAt, advanced, Visited
 -- ---- nothing to do
 
 -- productions that are not pending are passed over
-pub visited-idle : {s : Span} {wanted pending args x : List ℕ} (i j : ℕ) → ((r : ℕ) → getD x r 0 ≤ 2) → Exact s x args
-    → ((p : ℕ) → i ≤ p → p < j → getD pending p 0 ≡ 0) → Visited s wanted i j pending args x pending args x false
+pub visited-idle : {s : Span} {pending args x : List ℕ} (i j : ℕ) → ((r : ℕ) → getD x r 0 ≤ 2) → Exact s x args
+    → ((p : ℕ) → i ≤ p → p < j → getD pending p 0 ≡ 0) → Visited s i j pending args x pending args x false
 visited-idle {pending = pending} i j small agree done =
     record {
       small = small;
@@ -89,11 +89,11 @@ module _ (s : Span) (inner front back args x : List ℕ) (q base : ℕ)
 
   -- ---- a visit
 
-  module _ (wanted pending : List ℕ) where
+  module _ (pending : List ℕ) where
     -- of a production whose count stays
     pub visited-same : q < length pending
         → getD (advanced inner front back args base (s .arity q) x) (whole (s .arity) q) 0 ≡ getD x (whole (s .arity) q) 0
-        → Visited s wanted q (q + 1) pending args x (set pending q 0) args (advanced inner front back args base (s .arity q) x) false
+        → Visited s q (q + 1) pending args x (set pending q 0) args (advanced inner front back args base (s .arity q) x) false
     unfolding whole
     visited-same l e =
         record {
@@ -101,9 +101,9 @@ module _ (s : Span) (inner front back args x : List ℕ) (q base : ℕ)
           agree = exact-same s x y args alike agree;
           came = advanced-raised (s .arity q) (le-refl (s .arity q));
           rests = λ r. record {
-            rest = λ p k w z. elim (ℕ-discrete p q) [
+            rest = λ p k z. elim (ℕ-discrete p q) [
               | yes f ↦ rw f (advanced-closes (λ d m. argument-same s x y alike (rowOf (s .arity) q d)))
-              | no n ↦ closed-kept s x y p (λ d m. advanced-apart p d n m) (λ d m. argument-same s x y alike (rowOf (s .arity) p d)) (r .rest p k w (sym (getD-set-other pending q p 0 0 n) ∙ z))
+              | no n ↦ closed-kept s x y p (λ d m. advanced-apart p d n m) (λ d m. argument-same s x y alike (rowOf (s .arity) p d)) (r .rest p k (sym (getD-set-other pending q p 0 0 n) ∙ z))
             ];
           };
           less = omega (arith, spare-same s x y alike);
@@ -125,8 +125,8 @@ module _ (s : Span) (inner front back args x : List ℕ) (q base : ℕ)
         → getD (advanced inner front back args base (s .arity q) x) (whole (s .arity) q) 0 ≡ getD x (whole (s .arity) q) 0 + m
         → ((p d : ℕ) → p < s .count → d < s .arity p → uses p ≡ 0 → s .users q (rowOf (s .arity) p d) ≡ 0)
         → ((r : ℕ) → r < rowLimit → getD args′ r 0 ≡ getD args r 0 + m * s .users q r)
-        → ((p : ℕ) → p < s .count → getD pending′ p 0 ≡ max (getD (set pending q 0) p 0) (min (uses p) (getD wanted p 0)))
-        → Visited s wanted q (q + 1) pending args x pending′ args′ (advanced inner front back args base (s .arity q) x) true
+        → ((p : ℕ) → p < s .count → getD pending′ p 0 ≡ max (getD (set pending q 0) p 0) (uses p))
+        → Visited s q (q + 1) pending args x pending′ args′ (advanced inner front back args base (s .arity q) x) true
     unfolding whole
     visited-rose pending′ args′ uses m l e unused spread marks =
         record {
@@ -134,9 +134,9 @@ module _ (s : Span) (inner front back args x : List ℕ) (q base : ℕ)
           agree = record { exact = λ r k. spread r k ∙ omega (arith, agree .exact r k, argument-rise s x y q m rise r) };
           came = advanced-raised (s .arity q) (le-refl (s .arity q));
           rests = λ r. record {
-            rest = λ p k w z. elim (ℕ-discrete p q) [
-              | yes f ↦ rw f (advanced-closes (λ d i. calm q d among (rw f at w) (rw f at z) i))
-              | no n ↦ closed-kept s x y p (λ d i. advanced-apart p d n i) (λ d i. calm p d k w z i) (r .rest p k w (omega (arith, marks p k, getD-set-other pending q p 0 0 n)))
+            rest = λ p k z. elim (ℕ-discrete p q) [
+              | yes f ↦ rw f (advanced-closes (λ d i. calm q d among (rw f at z) i))
+              | no n ↦ closed-kept s x y p (λ d i. advanced-apart p d n i) (λ d i. calm p d k z i) (r .rest p k (omega (arith, marks p k, getD-set-other pending q p 0 0 n)))
             ];
           };
           less = omega (arith, spare-fall s x y q m rise (advanced-small (whole (s .arity) q)));
@@ -150,8 +150,8 @@ module _ (s : Span) (inner front back args x : List ℕ) (q base : ℕ)
         rise : Rise s x y q m
         rise = record { among = among; by = e; others = λ p k n. advanced-apart p (s .arity p) n (le-refl (s .arity p)) }
 
-        -- a wanted production that is not pending has no row that takes q
-        calm : (p d : ℕ) → p < s .count → 1 ≤ getD wanted p 0 → getD pending′ p 0 ≡ 0 → d < s .arity p → argumentOf s y (rowOf (s .arity) p d) ≡ argumentOf s x (rowOf (s .arity) p d)
-        calm p d k w z i =
+        -- a production that is not pending has no row that takes q
+        calm : (p d : ℕ) → p < s .count → getD pending′ p 0 ≡ 0 → d < s .arity p → argumentOf s y (rowOf (s .arity) p d) ≡ argumentOf s x (rowOf (s .arity) p d)
+        calm p d k z i =
             let f : uses p ≡ 0 = omega (arith, marks p k) in
             omega (arith, argument-rise s x y q m rise (rowOf (s .arity) p d), ap (λ (n : ℕ). m * n) (unused p d k i f))

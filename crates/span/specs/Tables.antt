@@ -88,23 +88,23 @@ unfoldable pub advanced : (inner front back args : List ℕ) → ℕ → ℕ →
 advanced inner front back args base zero x = x
 advanced inner front back args base (suc d) x = raisedAt inner front back args (advanced inner front back args base d x) (base + d)
 
--- Every wanted production that is not pending is closed.
-pub record Resting (s : Span) (wanted pending x : List ℕ) : Type 0 where
-  pub rest : (p : ℕ) → p < s .count → 1 ≤ getD wanted p 0 → getD pending p 0 ≡ 0 → ClosedAt s x p
+-- Every production that is not pending is closed.
+pub record Resting (s : Span) (pending x : List ℕ) : Type 0 where
+  pub rest : (p : ℕ) → p < s .count → getD pending p 0 ≡ 0 → ClosedAt s x p
 
 -- The productions from `from` on and before `to` were looked at: the cells came about by raising, and the arguments say what they say.
 -- If a count rose there is less to spare; otherwise those productions are no longer pending, and no other became so.
-pub record Visited (s : Span) (wanted : List ℕ) (from to : ℕ) (pending args x pending′ args′ x′ : List ℕ) (rose : Bool) : Type 0 where
+pub record Visited (s : Span) (from to : ℕ) (pending args x pending′ args′ x′ : List ℕ) (rose : Bool) : Type 0 where
   pub small : (r : ℕ) → getD x′ r 0 ≤ 2
   pub agree : Exact s x′ args′
   pub came : Raised s x x′
-  pub rests : Resting s wanted pending x → Resting s wanted pending′ x′
+  pub rests : Resting s pending x → Resting s pending′ x′
   pub less : bitOf rose + spare s x′ ≤ spare s x
   pub calm : rose ≡ false → (p : ℕ) → getD pending′ p 0 ≤ getD pending p 0
   pub done : rose ≡ false → (p : ℕ) → from ≤ p → p < to → getD pending′ p 0 ≡ 0
 
--- The span is settled: every wanted production is closed.
-pub record Settled (s : Span) (wanted x args′ x′ : List ℕ) : Type 0 where
+-- The span is settled: every production is closed.
+pub record Settled (s : Span) (x args′ x′ : List ℕ) : Type 0 where
   pub agree : Exact s x′ args′
   pub came : Raised s x x′
-  pub closedAll : (p : ℕ) → p < s .count → 1 ≤ getD wanted p 0 → ClosedAt s x′ p
+  pub closedAll : (p : ℕ) → p < s .count → ClosedAt s x′ p

@@ -11,7 +11,7 @@ use grammar::limits::PRODUCTION_LIMIT;
 ghost use mathlib.Core.Path.{_≡_};
 ghost use mathlib.Core.Bool.{Bool, true, false, _||_};
 ghost use mathlib.Core.List.{List};
-ghost use Prim.Native.Nat.{ℕ, _+_, _*_, _<_, _≤_, min, max};
+ghost use Prim.Native.Nat.{ℕ, _+_, _*_, _<_, _≤_, max};
 ghost use lib.ListN.{length, getD};
 ghost use Rattle.theory.specs.Steps.{cap};
 ghost use Rattle.grammar.specs.Limits.{productionLimit};
@@ -22,15 +22,6 @@ ghost use Rattle.span.specs.Tables.{spanOf, advanced, Exact, Founded, Li
 pub const USERS: usize = PRODUCTION_LIMIT * ROW_LIMIT;
 // The length of the table of uses.
 pub const USES: usize = PRODUCTION_LIMIT * PRODUCTION_LIMIT;
-
-fn smaller(a: u8, b: u8) -> u8
-    ensures { λ r. ⌜ r ≡ min a b ⌝ }
-{
-    if a < b {
-        return a;
-    }
-    b
-}
 
 pub fn either(a: bool, b: bool) -> bool
     ensures { λ r. ⌜ r ≡ (a || b) ⌝ }
@@ -89,14 +80,14 @@ pub fn spread(args: &mut [u8], users: &[u8], rows: usize, by: u8)
     }
 }
 
-// The wanted productions that use it are to be looked at again.
-fn mark(pending: &mut [u8], uses: &[u8], wanted: &[u8])
-    requires { ⌜ (length (now pending) ≡ productionLimit) × (length (now uses) ≡ productionLimit) × (length (now wanted) ≡ productionLimit) ⌝ }
-    ensures { λ _. ⌜ ((p : ℕ) → p < productionLimit → getD (now (pending .exit)) p 0 ≡ max (getD (now (pending .entry)) p 0) (min (getD (now (uses .entry)) p 0) (getD (now (wanted .entry)) p 0))) ⌝ }
+// The productions that use it are to be looked at again.
+fn mark(pending: &mut [u8], uses: &[u8])
+    requires { ⌜ (length (now pending) ≡ productionLimit) × (length (now uses) ≡ productionLimit) ⌝ }
+    ensures { λ _. ⌜ ((p : ℕ) → p < productionLimit → getD (now (pending .exit)) p 0 ≡ max (getD (now (pending .entry)) p 0) (getD (now (uses .entry)) p 0)) ⌝ }
 {
     let mut p = 0;
     while p < PRODUCTION_LIMIT {
-        pending[p] = larger(pending[p], smaller(uses[p], wanted[p]));
+        pending[p] = larger(pending[p], uses[p]);
         p += 1;
     }
 }
@@ -107,7 +98,6 @@ fn visit(
     rows: usize,
     users: &[u8],
     uses: &[u8],
-    wanted: &[u8],
     inner: &[u8],
     front: &[u8],
     back: &[u8],
@@ -120,9 +110,9 @@ fn visit(
     requires { ⌜ Links (now counts) (now users) (now uses) ⌝ }
     requires { ⌜ Loads (now inner) (now front) (now back) (now args) (now cells) ⌝ }
     requires { ⌜ Founded (now counts) (now users) (now inner) (now front) (now back) (now args) (now cells) ⌝ }
-    requires { ⌜ (length (now pending) ≡ productionLimit) × (length (now wanted) ≡ productionLimit) × (rows ≡ rowCount (arityIn (now counts)) (length (now counts))) ⌝ }
+    requires { ⌜ (length (now pending) ≡ productionLimit) × (rows ≡ rowCount (arityIn (now counts)) (length (now counts))) ⌝ }
     requires { ⌜ (q < length (now counts)) × (base ≡ rowOf (arityIn (now counts)) q 0) ⌝ }
-    ensures { λ r. ⌜ ((bare : ℕ → ℕ) → Exact (spanOf (now (counts .entry)) (now (users .entry)) (now (inner .entry)) (now (front .entry)) (now (back .entry)) bare) (now (cells .entry)) (now (args .entry)) → Visited (spanOf (now (counts .entry)) (now (users .entry)) (now (inner .entry)) (now (front .entry)) (now (back .entry)) bare) (now (wanted .entry)) q (q + 1) (now (pending .entry)) (now (args .entry)) (now (cells .entry)) (now (pending .exit)) (now (args .exit)) (now (cells .exit)) r) ⌝ }
+    ensures { λ r. ⌜ ((bare : ℕ → ℕ) → Exact (spanOf (now (counts .entry)) (now (users .entry)) (now (inner .entry)) (now (front .entry)) (now (back .entry)) bare) (now (cells .entry)) (now (args .entry)) → Visited (spanOf (now (counts .entry)) (now (users .entry)) (now (inner .entry)) (now (front .entry)) (now (back .entry)) bare) q (q + 1) (now (pending .entry)) (now (args .entry)) (now (cells .entry)) (now (pending .exit)) (now (args .exit)) (now (cells .exit)) r) ⌝ }
 {
     if pending[q] == 0 {
         return false;
@@ -143,7 +133,6 @@ fn visit(
     mark(
         pending,
         &uses[q * PRODUCTION_LIMIT..(q + 1) * PRODUCTION_LIMIT],
-        wanted,
     );
     true
 }
@@ -154,7 +143,6 @@ fn round(
     rows: usize,
     users: &[u8],
     uses: &[u8],
-    wanted: &[u8],
     inner: &[u8],
     front: &[u8],
     back: &[u8],
@@ -165,8 +153,8 @@ fn round(
     requires { ⌜ Links (now counts) (now users) (now uses) ⌝ }
     requires { ⌜ Loads (now inner) (now front) (now back) (now args) (now cells) ⌝ }
     requires { ⌜ Founded (now counts) (now users) (now inner) (now front) (now back) (now args) (now cells) ⌝ }
-    requires { ⌜ (length (now pending) ≡ productionLimit) × (length (now wanted) ≡ productionLimit) × (rows ≡ rowCount (arityIn (now counts)) (length (now counts))) ⌝ }
-    ensures { λ r. ⌜ ((bare : ℕ → ℕ) → Exact (spanOf (now (counts .entry)) (now (users .entry)) (now (inner .entry)) (now (front .entry)) (now (back .entry)) bare) (now (cells .entry)) (now (args .entry)) → Visited (spanOf (now (counts .entry)) (now (users .entry)) (now (inner .entry)) (now (front .entry)) (now (back .entry)) bare) (now (wanted .entry)) 0 (length (now (counts .entry))) (now (pending .entry)) (now (args .entry)) (now (cells .entry)) (now (pending .exit)) (now (args .exit)) (now (cells .exit)) r) ⌝ }
+    requires { ⌜ (length (now pending) ≡ productionLimit) × (rows ≡ rowCount (arityIn (now counts)) (length (now counts))) ⌝ }
+    ensures { λ r. ⌜ ((bare : ℕ → ℕ) → Exact (spanOf (now (counts .entry)) (now (users .entry)) (now (inner .entry)) (now (front .entry)) (now (back .entry)) bare) (now (cells .entry)) (now (args .entry)) → Visited (spanOf (now (counts .entry)) (now (users .entry)) (now (inner .entry)) (now (front .entry)) (now (back .entry)) bare) 0 (length (now (counts .entry))) (now (pending .entry)) (now (args .entry)) (now (cells .entry)) (now (pending .exit)) (now (args .exit)) (now (cells .exit)) r) ⌝ }
 {
     let mut rose = false;
     let mut base = 0;
@@ -177,7 +165,6 @@ fn round(
             rows,
             users,
             uses,
-            wanted,
             inner,
             front,
             back,
@@ -194,13 +181,12 @@ fn round(
     rose
 }
 
-// Raises the cells until each wanted production is closed.
+// Raises the cells until each production is closed.
 pub fn settle(
     counts: &[u8],
     rows: usize,
     users: &[u8],
     uses: &[u8],
-    wanted: &[u8],
     inner: &[u8],
     front: &[u8],
     back: &[u8],
@@ -210,8 +196,8 @@ pub fn settle(
     requires { ⌜ Links (now counts) (now users) (now uses) ⌝ }
     requires { ⌜ Loads (now inner) (now front) (now back) (now args) (now cells) ⌝ }
     requires { ⌜ Founded (now counts) (now users) (now inner) (now front) (now back) (now args) (now cells) ⌝ }
-    requires { ⌜ (length (now wanted) ≡ productionLimit) × (rows ≡ rowCount (arityIn (now counts)) (length (now counts))) ⌝ }
-    ensures { λ _. ⌜ ((bare : ℕ → ℕ) → Exact (spanOf (now (counts .entry)) (now (users .entry)) (now (inner .entry)) (now (front .entry)) (now (back .entry)) bare) (now (cells .entry)) (now (args .entry)) → Settled (spanOf (now (counts .entry)) (now (users .entry)) (now (inner .entry)) (now (front .entry)) (now (back .entry)) bare) (now (wanted .entry)) (now (cells .entry)) (now (args .exit)) (now (cells .exit))) ⌝ }
+    requires { ⌜ (rows ≡ rowCount (arityIn (now counts)) (length (now counts))) ⌝ }
+    ensures { λ _. ⌜ ((bare : ℕ → ℕ) → Exact (spanOf (now (counts .entry)) (now (users .entry)) (now (inner .entry)) (now (front .entry)) (now (back .entry)) bare) (now (cells .entry)) (now (args .entry)) → Settled (spanOf (now (counts .entry)) (now (users .entry)) (now (inner .entry)) (now (front .entry)) (now (back .entry)) bare) (now (cells .entry)) (now (args .exit)) (now (cells .exit))) ⌝ }
 {
     let mut pending = [1; PRODUCTION_LIMIT];
     let mut rose = true;
@@ -221,7 +207,6 @@ pub fn settle(
             rows,
             users,
             uses,
-            wanted,
             inner,
             front,
             back,

@@ -5,7 +5,7 @@ use native.Mathlib.Omega.{arith}
 use native.Mathlib.Nat.{le-refl, mul-le-mul}
 use lib.ListN.{length, getD}
 use borrow.Author.Needs.{needs}
-use Rattle.chart.specs.Layout.{arityIn, rowOf, spanCount, cellAt}
+use Rattle.chart.specs.Layout.{arityIn, rowOf, spanCount, cellAt, entryAt}
 use Rattle.engine.proofs.RootLaws.{whole-row, whole-few, whole-room}
 use Rattle.engine.specs.Roots.{rootTerm}
 use Rattle.extract.specs.Places.{cellOf}
@@ -59,7 +59,7 @@ unfolding rootTerm cellOf
 returns c =
     let row = whole-row (c .before .before .before .before .before .before .before .before .before .before .before .before .args .counts .now) (c .before .before .before .before .before .before .before .before .before .before .before .before .args .bases .now) (c .before .before .before .before .before .before .before .before .before .before .before .before .args .roots .now) (c .before .before .before .before .before .before .before .before .before .before .before .before .args .text .now) (c .before .before .before .before .before .before .before .before .before .before .before .before .args .chart .now) (c .before .before .before .before .before .before .before .before .before .before .before .before .pre .0) (c .before .before .before .before .before .before .before .before .before .before .before .before .args .p) (c .before .before .before .before .before .before .before .before .before .before .before .before .pre .1) in
     let e : getD (c .before .before .before .before .before .before .before .before .before .before .before .before .args .bases .now) (c .before .before .before .before .before .before .before .before .before .before .before .before .args .p) 0 + c .before .before .wide2 .result ≡ rowOf (arityIn (c .before .before .before .before .before .before .before .before .before .before .before .before .args .counts .now)) (c .before .before .before .before .before .before .before .before .before .before .before .before .args .p) (arityIn (c .before .before .before .before .before .before .before .before .before .before .before .before .args .counts .now) (c .before .before .before .before .before .before .before .before .before .before .before .before .args .p)) = omega (arith, c .before .before .wide2 .ensures, row) in (
-      ap₂ _*_ (c .before .before .before .before .before .wide .ensures) (c .wide3 .ensures ∙ c .before .get .ensures ∙ ap (λ (n : ℕ). getD (c .before .before .before .before .before .before .before .before .before .before .before .before .args .chart .now) (cellAt (length (c .before .before .before .before .before .before .before .before .before .before .before .before .args .text .now)) n 0 (length (c .before .before .before .before .before .before .before .before .before .before .before .before .args .text .now))) 0) e),
+      ap₂ _*_ (c .before .before .before .before .before .wide .ensures) (c .wide3 .ensures ∙ c .before .get .ensures ∙ ap (λ (n : ℕ). entryAt (c .before .before .before .before .before .before .before .before .before .before .before .before .args .chart .now) (cellAt (length (c .before .before .before .before .before .before .before .before .before .before .before .before .args .text .now)) n 0 (length (c .before .before .before .before .before .before .before .before .before .before .before .before .args .text .now)))) e),
       product-few (c .before .before .before .before .before .wide .ensures) (c .wide3 .ensures) (omega (arith, c .before .before .before .before .before .before .shared-slice-known6 .given (c .before .before .before .before .before .before .before .before .before .before .before .before .args .p))) (omega arith),
     )
 

@@ -11,19 +11,19 @@ use Rattle.span.proofs.settle.Statement.{statement}
 use Rattle.span.proofs.settle.Tie as tie
 
 abbrev Inv-loop : tie.InvT-loop
-Inv-loop counts rows users uses wanted inner front back args₀ cells₀ pending₀ rose₀ args cells pending rose =
-    ((bare : ℕ → ℕ) → Exact (spanOf counts users inner front back bare) cells₀ args₀ → Settling (spanOf counts users inner front back bare) wanted cells₀ pending args cells rose)
+Inv-loop counts rows users uses inner front back args₀ cells₀ pending₀ rose₀ args cells pending rose =
+    ((bare : ℕ → ℕ) → Exact (spanOf counts users inner front back bare) cells₀ args₀ → Settling (spanOf counts users inner front back bare) cells₀ pending args cells rose)
     × (length pending ≡ productionLimit)
     × (length args ≡ length args₀)
     × (length cells ≡ length cells₀)
 
 abbrev μ-loop : tie.MeasureT-loop
-μ-loop counts rows users uses wanted inner front back args₀ cells₀ pending₀ rose₀ args cells pending rose = 2 * spare (spanOf counts users inner front back (λ r. 0)) cells + bitOf rose
+μ-loop counts rows users uses inner front back args₀ cells₀ pending₀ rose₀ args cells pending rose = 2 * spare (spanOf counts users inner front back (λ r. 0)) cells + bitOf rose
 
 loop-holds : tie.Need-loop-holds Inv-loop μ-loop
 unfolding spanOf
 loop-holds c =
-    let p = c .before .before .before .before .before .before .before .before .before .pre in
+    let p = c .before .before .before .before .before .before .before .before .pre in
     (λ bare agree. settling-first productionLimit (p .0 .fewProductions) (p .1 .1 .0 .small) agree, refl, refl, refl)
 
 slice-aggregate-round : tie.Need-slice-aggregate-round Inv-loop μ-loop
@@ -32,14 +32,14 @@ slice-aggregate-round c = sym (c .before .before .loop .inv .1)
 round-requires : tie.Need-round-requires Inv-loop μ-loop
 round-requires c κs =
     let h = c .before .before .before .before .loop in
-    let p = c .before .before .before .before .before .before .before .before .before .before .before .before .before .before .pre in
-    (p .0, (loads-kept (h .args) (h .cells) (p .1 .0) (h .inv .2) (h .inv .3), (founded-kept (p .1 .1 .0) (λ bare agree. let v = h .inv .0 bare agree in (v .small, v .agree)), (h .inv .1, p .1 .1 .1 .0, p .1 .1 .1 .1))))
+    let p = c .before .before .before .before .before .before .before .before .before .before .before .before .before .pre in
+    (p .0, (loads-kept (h .args) (h .cells) (p .1 .0) (h .inv .2) (h .inv .3), (founded-kept (p .1 .1 .0) (λ bare agree. let v = h .inv .0 bare agree in (v .small, v .agree)), (h .inv .1, p .1 .1 .1))))
 
 loop-less : tie.Need-loop-less Inv-loop μ-loop
 loop-less c =
-    let a = c .before .before .before .before .before .before .before .before .before .before .before .before .before .before .before .before .before .before .before .before .args in
+    let a = c .before .before .before .before .before .before .before .before .before .before .before .before .before .before .before .before .before .before .before .args in
     let h = c .before .before .before .before .before .before .before .before .before .before .loop in
-    let p = c .before .before .before .before .before .before .before .before .before .before .before .before .before .before .before .before .before .before .before .before .pre in
+    let p = c .before .before .before .before .before .before .before .before .before .before .before .before .before .before .before .before .before .before .before .pre in
     let f = p .1 .1 .0 in
     settling-less (a .counts .now) (a .users .now) (a .inner .now) (a .front .now) (a .back .now) (f .bare) (h .cells) _ (h .rose) (c .before .before .before .before .before .round .result) (c .before .before .before .before .before .before .before .before .before .loop-test .taken) (c .before .before .before .before .before .round .ensures (f .bare) (h .inv .0 (f .bare) (f .agree) .agree) .less)
 

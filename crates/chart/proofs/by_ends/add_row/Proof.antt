@@ -12,13 +12,14 @@ use Rattle.common.specs.Region.{Region}
 use Rattle.theory.specs.Steps.{cap}
 use Rattle.chart.proofs.by_ends.add_row.Statement.{statement}
 use Rattle.chart.proofs.by_ends.add_row.Tie as tie
+use Rattle.chart.specs.Layout.{entryAt}
 
 -- the sum of start k, and the largest of it and what is live
 Sum : (chart sums : List ℕ) (n row m arg at k v : ℕ) → Type 0
-Sum chart sums n row m arg at k v = v ≡ cap (getD sums (at + k) 0 + getD chart (placeAt n row k m) 0 * arg)
+Sum chart sums n row m arg at k v = v ≡ cap (getD sums (at + k) 0 + entryAt chart (placeAt n row k m) * arg)
 
 Live : (chart sums live : List ℕ) (n row m arg at k v : ℕ) → Type 0
-Live chart sums live n row m arg at k v = v ≡ max (getD live k 0) (cap (getD sums (at + k) 0 + getD chart (placeAt n row k m) 0 * arg))
+Live chart sums live n row m arg at k v = v ≡ max (getD live k 0) (cap (getD sums (at + k) 0 + entryAt chart (placeAt n row k m) * arg))
 
 abbrev Inv-loop : tie.InvT-loop
 Inv-loop chart n row m arg sums₀ at live₀ from k₀ sums live k = Region (Sum chart sums₀ n row m arg at) 0 at k sums₀ sums × Region (Live chart sums₀ live₀ n row m arg at) 0 0 k live₀ live × (k ≤ m)
