@@ -50,8 +50,8 @@ zero-founded v counts users inner front back args cells r z =
       agree = zero-exact counts users inner front back args cells z;
     }
 
-module _ (counts chars users uses wanted empty back w chart sums live : List ℕ) (rows i j : ℕ) (links : Links counts users uses)
-    (ready : Ready counts chars wanted empty back sums live w chart rows) (ij : i < j) (jw : j ≤ length w) where
+module _ (counts chars users uses empty back w chart sums live : List ℕ) (rows i j : ℕ) (links : Links counts users uses)
+    (ready : Ready counts chars empty back sums live w chart rows) (ij : i < j) (jw : j ≤ length w) where
   few-rows : rowCount (arityIn counts) (length counts) ≤ rowLimit
   few-rows = rows-few (arityIn counts) (length counts) (links .fewProductions) (links .fewArguments)
 
@@ -60,7 +60,7 @@ module _ (counts chars users uses wanted empty back w chart sums live : List ℕ
   module _ (inner args₀ x₀ x args chart′ sums′ live′ : List ℕ)
       (gathered : (r : ℕ) → r < rows → getD inner r 0 ≡ getD sums (r * places + i) 0)
       (bare : RowsFilled (λ (p d : ℕ). bitOf (eqb (i + 1) j && slotHas chars (slot p d) (getD w i 0))) counts (length counts) args₀)
-      (zeros : AllZero rowLimit x₀) (settled : Settled (spanOf counts users inner empty back (λ k. getD args₀ k 0)) wanted x₀ args x)
+      (zeros : AllZero rowLimit x₀) (settled : Settled (spanOf counts users inner empty back (λ k. getD args₀ k 0)) x₀ args x)
       (stored : Scattered (λ (r : ℕ). placeAt (length w) r i j) (λ (r : ℕ). getD x r 0) rows chart chart′)
       (added : SplitsAdded (length w) rows i chart′ args sums live sums′ live′) where
     module _ (subs : ℕ → ℕ → ℕ → Bool) (takes : UsersAre counts users subs) (bottom : EmptyRight (grammarBy counts chars subs) empty back) (before : List ℕ)
@@ -88,9 +88,9 @@ module _ (counts chars users uses wanted empty back w chart sums live : List ℕ
       unfolding spanOf
       span-filled = (
         filling-next g w empty back bottom few-rows (ready .short) before chart sums live i j ij jw fill summing (λ q r. getD users (userAt q r) 0) (λ k. getD args₀ k 0) (λ k. getD inner k 0)
-            known x₀ x args zeros (settled .came) (λ p l. settled .closedAll p l (ready .wantedAll p l)) (settled .agree) chart′ stored-all,
+            known x₀ x args zeros (settled .came) (settled .closedAll) (settled .agree) chart′ stored-all,
         summing-next g w empty back bottom few-rows (ready .short) before chart sums live i j ij jw fill summing (λ q r. getD users (userAt q r) 0) (λ k. getD args₀ k 0) (λ k. getD inner k 0)
-            known x₀ x args zeros (settled .came) (λ p l. settled .closedAll p l (ready .wantedAll p l)) (settled .agree) chart′ stored-all sums′ live′ added-all,
+            known x₀ x args zeros (settled .came) (settled .closedAll) (settled .agree) chart′ stored-all sums′ live′ added-all,
       )
 
     pub span-further : Further counts chars users empty back w chart sums live (i + 1) j chart′ sums′ live′ i

@@ -1,7 +1,7 @@
 -- Laws of a chart while it is filled: each span settled and stored leaves it filled so much further, and filled to the end it counts.
 use Prim.Native.Nat.{ℕ, zero, suc, _+_, _-_, _*_, _≤_, _<_}
 use mathlib.Core.Path.{_≡_, refl, sym, _∙_, ap, ap₂, subst, subst⁻¹, subst₂}
-use mathlib.Core.Bool.{lt}
+use mathlib.Core.Bool.{true≢false}
 use mathlib.Core.List.{List}
 use mathlib.Core.Logic.{by-cases}
 use native.Mathlib.Omega.{arith}
@@ -10,7 +10,7 @@ use native.Mathlib.Nat.{add-zero, mul-zero, zero-add, zero-mul, le-refl}
 use lib.ListN.{length, getD, List·getD-eq-default}
 use borrow.Author.Tests.{ne-eqb}
 use Rattle.chart.proofs.LayoutLaws.{row-in, row-shift}
-use Rattle.chart.specs.Counted.{Counted}
+use Rattle.chart.specs.Counted.{entryOf, CountedBy}
 use Rattle.chart.specs.Layout.{textLimit, places, rowLimit, rowOf, rowCount, cellAt, entryAt}
 use Rattle.chart.proofs.ByEndsLaws.{place-below, place-same}
 use Rattle.chart.specs.ByEnds.{placeAt, Turned}
@@ -29,11 +29,12 @@ use Rattle.grammar.proofs.VerdictLaws.{here}
 use Rattle.grammar.specs.Layout.{argument}
 use Rattle.span.specs.Span.{Span, whole, usedSum, argumentOf, stepOf, ClosedAt, Raised, asBefore}
 use Rattle.span.specs.Tables.{Exact}
+use Rattle.theory.proofs.ClosedLaws.{everything-due}
 use Rattle.theory.proofs.CountLaws.{entry-counts}
 use Rattle.theory.proofs.SplitLaws.{argument-same, split-same}
 use Rattle.theory.specs.Counts.{Shown}
 use Rattle.theory.specs.Grammar.{Grammar, Spells}
-use Rattle.theory.specs.Steps.{Chart, cap, charEntry, argumentSum, splitSum, Sound, Closed}
+use Rattle.theory.specs.Steps.{Chart, cap, charEntry, argumentSum, splitSum, everything, Sound, Closed}
 use Rattle.theory.specs.Tree.{Forest}
 
 -- ---- sums
@@ -88,12 +89,14 @@ module _ (g : Grammar) (w empty bytes bytes′ x : List ℕ) (i j : ℕ) (ij : i
 
   -- other cells are as they were
   other-cell : (r i′ j′ : ℕ) → i′ ≤ j′ → j′ ≤ length w → (i′ ≡ i → j′ ≡ j → ⊥) → entryAt bytes′ (placeAt (length w) r i′ j′) ≡ entryAt bytes (placeAt (length w) r i′ j′)
+  unfolding entryAt
   other-cell r i′ j′ l h apart =
       stored .others (placeAt (length w) r i′ j′)
       (λ k o e. let (a, b, c) = place-same (length w) r k i′ i j′ j l h (omega arith) jw e in apart b c)
 
   -- the view is the one before with the span put in
   stored-view : (p d i′ j′ : ℕ) → p < g .count → d ≤ g .arity p → i′ ≤ j′ → j′ ≤ length w → view′ p d i′ j′ ≡ o p d i′ j′
+  unfolding entryAt
   stored-view p d i′ j′ lp ld rises within =
       elim (ℕ-discrete i′ j′) [
         | yes e ↦ subst (λ (m : ℕ). view′ p d i′ m ≡ o p d i′ m) e
@@ -315,6 +318,7 @@ module _ (g : Grammar) (w empty back : List ℕ) (bottom : EmptyRight g empty ba
   dead-exact = record { exact = λ r l. zeros-are .zeros r ∙ sym (no-argument r) }
 
   dead-stored : Scattered (λ (r : ℕ). placeAt (length w) r i j) (λ (r : ℕ). getD zeros r 0) (rowCount (g .arity) (g .count)) bytes bytes
+  unfolding entryAt
   dead-stored = record { long = refl; here = λ r l. summing .cleared r i l (omega arith) ∙ sym (zeros-are .zeros r); others = λ k h. refl }
 
   dead-added : SplitsAdded (length w) (rowCount (g .arity) (g .count)) i bytes zeros sums live sums live
@@ -376,6 +380,7 @@ module _ (g : Grammar) (w empty before bytes bytes′ : List ℕ) (j : ℕ) (jw 
   new-view = viewOf (g .arity) (length w) empty bytes′
 
   apart-cell : (r i′ j′ : ℕ) → i′ ≤ j′ → j′ ≤ length w → (i′ ≡ j → j′ ≡ j → ⊥) → entryAt bytes′ (placeAt (length w) r i′ j′) ≡ entryAt bytes (placeAt (length w) r i′ j′)
+  unfolding entryAt
   apart-cell r i′ j′ l h apart =
       stored .others (placeAt (length w) r i′ j′)
       (λ k o e. let (a, b, c) = place-same (length w) r k i′ j j′ j l h (le-refl j) jw e in apart b c)
@@ -404,6 +409,7 @@ module _ (g : Grammar) (w empty before bytes bytes′ : List ℕ) (j : ℕ) (jw 
       }
 
   pub filling-column : Filling g w empty before bytes′ (j + 1) (j + 1)
+  unfolding entryAt
   filling-column =
       record {
         long = stored .long ∙ fill .long;
@@ -432,6 +438,7 @@ module _ (g : Grammar) (w empty before bytes bytes′ sums live : List ℕ) (j :
   done-earlier i′ j′ dn l = by-cases (decLt j′ j) (λ h. h) (λ h. absurd (omega (arith, dn .column l, dn .start l (omega (arith, dn .column l)))))
 
   kept-place : (r i′ j′ : ℕ) → i′ ≤ j′ → j′ ≤ length w → (j′ ≡ j → i′ ≡ j′) → entryAt bytes′ (placeAt (length w) r i′ j′) ≡ entryAt bytes (placeAt (length w) r i′ j′)
+  unfolding entryAt
   kept-place r i′ j′ l h apart =
       clear .others (placeAt (length w) r i′ j′)
       (λ r′ k lr lk e. let (a, b, c) = place-same (length w) r r′ i′ k j′ j l h (omega arith) jw e in omega (arith, apart c))
@@ -517,11 +524,11 @@ module _ (g : Grammar) (w empty back : List ℕ) (bottom : EmptyRight g empty ba
         shown = λ p d i j lp ld l h. subst (λ (v : ℕ). Shown (λ (f : Forest). Spells g w p f d i j) v) (entry-view p d i j lp ld l h) (fill .shown p d i j lp ld (all-done i j l h));
       }
 
-  closed : Closed g w entry
+  closed : Closed g w everything entry
   closed =
       record {
-        empty = λ p i lp l. omega (arith, entry-view p 0 i i lp (omega arith) (le-refl i) l, view-empty (g .arity) (length w) empty bytes p 0 i, bottom .begins p lp);
-        step = λ p d i j lp ld l h. subst₂ (λ (u v : ℕ). cap u ≤ v)
+        empty = λ p i lp l wp. omega (arith, entry-view p 0 i i lp (omega arith) (le-refl i) l, view-empty (g .arity) (length w) empty bytes p 0 i, bottom .begins p lp);
+        step = λ p d i j lp ld l h wp. subst₂ (λ (u v : ℕ). cap u ≤ v)
             (split-same g w last-view entry p d i j l
             (λ m a b. entry-view p d i m lp (omega arith) a (omega arith))
             (λ q m o a b. entry-view q (g .arity q) m j o (le-refl (g .arity q)) b h))
@@ -529,9 +536,11 @@ module _ (g : Grammar) (w empty back : List ℕ) (bottom : EmptyRight g empty ba
       }
 
   -- the chart counts
-  pub filling-end : Counted g w turned
+  pub filling-end : CountedBy g w everything turned
+  unfolding entryOf
   filling-end =
       record {
-        cells = λ p d i j lp ld l h. entry-counts g w entry sound closed p d i j lp ld l h
+        counts = λ p d i j lp ld l h wp. entry-counts g w everything (everything-due g w) entry sound closed p d i j lp ld l h wp
             (subst (λ (v : ℕ). v ≤ 2) (entry-view p d i j lp ld l h) (small-entry p d i j lp ld l h));
+        unwanted = λ p d i j lp ld l h no. absurd (true≢false no);
       }

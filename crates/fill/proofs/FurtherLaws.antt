@@ -7,7 +7,7 @@ use lib.Dec.{eqb}
 use lib.ListN.{length, getD}
 use Rattle.ccg.specs.Tables.{slot, subAt}
 use Rattle.ccg.specs.Theory.{theoryOf}
-use Rattle.chart.specs.Counted.{Counted}
+use Rattle.chart.specs.Counted.{CountedBy}
 use Rattle.chart.specs.Layout.{places, rowLimit, arityIn, rowCount, spanCount, chartBytes}
 use Rattle.chart.specs.ByEnds.{placeAt, Turned}
 use Rattle.column.specs.Scattered.{Scattered}
@@ -18,6 +18,7 @@ use Rattle.fill.specs.Filling.{SmallCells, SmallSums, Filling}
 use Rattle.fill.specs.Tables.{grammarBy, Ready, Further, Onward}
 use Rattle.span.specs.Tables.{UsersAre}
 use Rattle.theory.specs.Tree.{further}
+use Rattle.theory.specs.Steps.{everything}
 
 module _ {counts chars users empty args w : List ℕ} where
   -- ---- starts of a column
@@ -134,16 +135,14 @@ module _ {counts chars users empty args w chart₀ sums₀ live₀ : List ℕ} {
   )
 
 -- tables of the same lengths will do
-pub ready-kept : {counts chars wanted empty args sums live w chart : List ℕ} {rows : ℕ} (sums′ live′ chart′ : List ℕ) → length sums′ ≡ length sums → length live′ ≡ length live
-    → length chart′ ≡ length chart → Ready counts chars wanted empty args sums live w chart rows → Ready counts chars wanted empty args sums′ live′ w chart′ rows
+pub ready-kept : {counts chars empty args sums live w chart : List ℕ} {rows : ℕ} (sums′ live′ chart′ : List ℕ) → length sums′ ≡ length sums → length live′ ≡ length live
+    → length chart′ ≡ length chart → Ready counts chars empty args sums live w chart rows → Ready counts chars empty args sums′ live′ w chart′ rows
 ready-kept sums′ live′ chart′ e f h r =
     record {
       short = r .short;
       rowsAre = r .rowsAre;
       longEnough = omega (arith, r .longEnough);
       charsLong = r .charsLong;
-      wantedLong = r .wantedLong;
-      wantedAll = r .wantedAll;
       emptyLong = r .emptyLong;
       argsLong = r .argsLong;
       sumsLong = e ∙ r .sumsLong;
@@ -159,7 +158,7 @@ module _ (counts chars users empty args w before chart turned subs : List ℕ) (
   filled : Filling (grammarBy counts chars (λ p d q. eqb (getD subs (subAt (slot p d) q) 0) 1)) w empty before chart (length w + 1) (length w + 1)
   filled = all .onward (λ p d q. eqb (getD subs (subAt (slot p d) q) 0) 1) takes bottom before (filling-start (grammarBy counts chars (λ p d q. eqb (getD subs (subAt (slot p d) q) 0) 1)) w empty args bottom before)
 
-  pub filled-counts : Counted (theoryOf counts chars subs) w turned
+  pub filled-counts : CountedBy (theoryOf counts chars subs) w everything turned
   unfolding theoryOf
   filled-counts =
       filling-end (grammarBy counts chars (λ p d q. eqb (getD subs (subAt (slot p d) q) 0) 1)) w empty args bottom before chart turned filled

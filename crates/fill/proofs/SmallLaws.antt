@@ -20,13 +20,14 @@ use Rattle.span.specs.Span.{Span}
 use Rattle.span.specs.Tables.{Settled}
 
 -- settled cells
-pub settled-small : (s : Span) (wanted x₀ args x : List ℕ) → AllZero rowLimit x₀ → Settled s wanted x₀ args x → (r : ℕ) → getD x r 0 ≤ 2
-settled-small s wanted x₀ args x zeros settled r = raised-small s x₀ x (settled .came) (λ k. omega (arith, zeros .zeros k)) r
+pub settled-small : (s : Span) (x₀ args x : List ℕ) → AllZero rowLimit x₀ → Settled s x₀ args x → (r : ℕ) → getD x r 0 ≤ 2
+settled-small s x₀ args x zeros settled r = raised-small s x₀ x (settled .came) (λ k. omega (arith, zeros .zeros k)) r
 
 module _ (n rows j : ℕ) (jn : j ≤ n) where
   -- a span of the column stored
   pub small-stored : (i : ℕ) (x chart chart′ : List ℕ) → i ≤ j → ((r : ℕ) → getD x r 0 ≤ 2) → Scattered (λ (r : ℕ). placeAt n r i j) (λ (r : ℕ). getD x r 0) rows chart chart′
       → SmallCells n rows (j + 1) chart → SmallCells n rows (j + 1) chart′
+  unfolding entryAt
   small-stored i x chart chart′ ij small stored cells =
       record {
         smallCells = λ r i′ j′ lr l h. elim (ℕ-discrete i′ i) [
@@ -46,6 +47,7 @@ module _ (n rows j : ℕ) (jn : j ≤ n) where
   -- the empty span of the column stored
   pub small-diagonal : (x chart chart′ : List ℕ) → Scattered (λ (r : ℕ). placeAt n r j j) (λ (r : ℕ). getD x r 0) rows chart chart′
       → SmallCells n rows (j + 1) chart → SmallCells n rows (j + 1) chart′
+  unfolding entryAt
   small-diagonal x chart chart′ stored cells =
       record {
         smallCells = λ r i′ j′ lr l h. omega (
@@ -57,6 +59,7 @@ module _ (n rows j : ℕ) (jn : j ≤ n) where
 
   -- the column cleared
   pub small-cleared : (chart chart′ : List ℕ) → ColumnCleared n rows j chart chart′ → SmallCells n rows j chart → SmallCells n rows (j + 1) chart′
+  unfolding entryAt
   small-cleared chart chart′ clear cells =
       record {
         smallCells = λ r i′ j′ lr l h. elim (ℕ-discrete j′ j) [

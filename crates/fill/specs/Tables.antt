@@ -16,14 +16,12 @@ use Rattle.theory.specs.Grammar.{Grammar}
 abbrev pub grammarBy : (counts chars : List ℕ) → (ℕ → ℕ → ℕ → Bool) → Grammar
 grammarBy counts chars subs = record { count = length counts; arity = arityIn counts; chars = λ p d c. slotHas chars (slot p d) c; subs = subs }
 
--- The tables have the right lengths, the text is within its limit and the chart long enough, and every production is wanted.
-pub record Ready (counts chars wanted empty args sums live w chart : List ℕ) (rows : ℕ) : Type 0 where
+-- The tables have the right lengths, the text is within its limit and the chart long enough.
+pub record Ready (counts chars empty args sums live w chart : List ℕ) (rows : ℕ) : Type 0 where
   pub short : length w ≤ textLimit
   pub rowsAre : rows ≡ rowCount (arityIn counts) (length counts)
   pub longEnough : rows * spanCount (length w) ≤ length chart
   pub charsLong : length chars ≡ charWords
-  pub wantedLong : length wanted ≡ productionLimit
-  pub wantedAll : (p : ℕ) → p < length counts → 1 ≤ getD wanted p 0
   pub emptyLong : length empty ≡ rowLimit
   pub argsLong : length args ≡ rowLimit
   pub sumsLong : length sums ≡ rowLimit * places

@@ -11,7 +11,6 @@ use column::clear_column;
 use column::store_cells;
 use column::sums_at;
 use empty::settle_empty;
-use grammar::limits::PRODUCTION_LIMIT;
 use links::link;
 use span::USERS;
 use span::USES;
@@ -24,7 +23,8 @@ ghost use lib.ListN.{length, getD};
 ghost use Rattle.common.specs.Zeros.{AllZero};
 ghost use Rattle.ccg.specs.Theory.{theoryOf, ParserTables};
 ghost use Rattle.chart.specs.Layout.{arityIn, textLimit, rowLimit, places, chartBytes};
-ghost use Rattle.chart.specs.Counted.{Counted};
+ghost use Rattle.chart.specs.Counted.{CountedBy};
+ghost use Rattle.theory.specs.Steps.{everything};
 ghost use Rattle.span.specs.Tables.{Links, userBytes, useBytes};
 ghost use Rattle.fill.specs.Filling.{SmallCells, SmallSums};
 ghost use Rattle.fill.specs.Tables.{Ready, Further, Onward};
@@ -48,7 +48,6 @@ fn fill_span(
     chars: &[u64],
     users: &[u8],
     uses: &[u8],
-    wanted: &[u8],
     rows: usize,
     empty: &[u8],
     back: &[u8],
@@ -58,7 +57,7 @@ fn fill_span(
     j: usize,
 )
     requires { ⌜ Links (now counts) (now users) (now uses) ⌝ }
-    requires { ⌜ Ready (now counts) (now chars) (now wanted) (now empty) (now back) (now sums) (now live) (now text) (now chart) rows ⌝ }
+    requires { ⌜ Ready (now counts) (now chars) (now empty) (now back) (now sums) (now live) (now text) (now chart) rows ⌝ }
     requires { ⌜ (i < j) × (j ≤ length (now text)) ⌝ }
     requires { ⌜ SmallCells (length (now text)) rows (j + 1) (now chart) × SmallSums rows j (now sums) ⌝ }
     ensures { λ _. ⌜ Further (now (counts .entry)) (now (chars .entry)) (now (users .entry)) (now (empty .entry)) (now (back .entry)) (now (text .entry)) (now (chart .entry)) (now (sums .entry)) (now (live .entry)) (i + 1) j (now (chart .exit)) (now (sums .exit)) (now (live .exit)) i ⌝ }
@@ -77,7 +76,6 @@ fn fill_span(
         rows,
         users,
         uses,
-        wanted,
         &inner,
         empty,
         back,
@@ -96,7 +94,6 @@ fn fill_spans(
     chars: &[u64],
     users: &[u8],
     uses: &[u8],
-    wanted: &[u8],
     rows: usize,
     empty: &[u8],
     back: &[u8],
@@ -105,7 +102,7 @@ fn fill_spans(
     j: usize,
 )
     requires { ⌜ Links (now counts) (now users) (now uses) ⌝ }
-    requires { ⌜ Ready (now counts) (now chars) (now wanted) (now empty) (now back) (now sums) (now live) (now text) (now chart) rows ⌝ }
+    requires { ⌜ Ready (now counts) (now chars) (now empty) (now back) (now sums) (now live) (now text) (now chart) rows ⌝ }
     requires { ⌜ j ≤ length (now text) ⌝ }
     requires { ⌜ SmallCells (length (now text)) rows (j + 1) (now chart) × SmallSums rows j (now sums) ⌝ }
     ensures { λ _. ⌜ Further (now (counts .entry)) (now (chars .entry)) (now (users .entry)) (now (empty .entry)) (now (back .entry)) (now (text .entry)) (now (chart .entry)) (now (sums .entry)) (now (live .entry)) j j (now (chart .exit)) (now (sums .exit)) (now (live .exit)) 0 ⌝ }
@@ -121,7 +118,6 @@ fn fill_spans(
             chars,
             users,
             uses,
-            wanted,
             rows,
             empty,
             back,
@@ -141,7 +137,6 @@ fn fill_column(
     chars: &[u64],
     users: &[u8],
     uses: &[u8],
-    wanted: &[u8],
     rows: usize,
     empty: &[u8],
     back: &[u8],
@@ -150,7 +145,7 @@ fn fill_column(
     j: usize,
 )
     requires { ⌜ Links (now counts) (now users) (now uses) ⌝ }
-    requires { ⌜ Ready (now counts) (now chars) (now wanted) (now empty) (now back) (now sums) (now live) (now text) (now chart) rows ⌝ }
+    requires { ⌜ Ready (now counts) (now chars) (now empty) (now back) (now sums) (now live) (now text) (now chart) rows ⌝ }
     requires { ⌜ j ≤ length (now text) ⌝ }
     requires { ⌜ SmallCells (length (now text)) rows j (now chart) ⌝ }
     ensures { λ _. ⌜ Onward (now (counts .entry)) (now (chars .entry)) (now (users .entry)) (now (empty .entry)) (now (back .entry)) (now (text .entry)) (now (chart .entry)) j (now (chart .exit)) (j + 1) ⌝ }
@@ -166,7 +161,6 @@ fn fill_column(
         chars,
         users,
         uses,
-        wanted,
         rows,
         empty,
         back,
@@ -185,7 +179,6 @@ fn fill_columns(
     chars: &[u64],
     users: &[u8],
     uses: &[u8],
-    wanted: &[u8],
     rows: usize,
     empty: &[u8],
     back: &[u8],
@@ -193,7 +186,7 @@ fn fill_columns(
     live: &mut [u8],
 )
     requires { ⌜ Links (now counts) (now users) (now uses) ⌝ }
-    requires { ⌜ Ready (now counts) (now chars) (now wanted) (now empty) (now back) (now sums) (now live) (now text) (now chart) rows ⌝ }
+    requires { ⌜ Ready (now counts) (now chars) (now empty) (now back) (now sums) (now live) (now text) (now chart) rows ⌝ }
     ensures { λ _. ⌜ Onward (now (counts .entry)) (now (chars .entry)) (now (users .entry)) (now (empty .entry)) (now (back .entry)) (now (text .entry)) (now (chart .entry)) 0 (now (chart .exit)) (length (now (text .entry)) + 1) ⌝ }
     ensures { λ _. ⌜ SmallCells (length (now (text .entry))) rows (length (now (text .entry)) + 1) (now (chart .exit)) ⌝ }
 {
@@ -206,7 +199,6 @@ fn fill_columns(
             chars,
             users,
             uses,
-            wanted,
             rows,
             empty,
             back,
@@ -240,17 +232,15 @@ fn zero_sums() -> [u8; SUMS]
 pub fn fill(chart: &mut [u8], text: &[u8], counts: &[u8], chars: &[u64], subs: &[u8])
     requires { ⌜ ParserTables (now counts) (now chars) (now subs) ⌝ }
     requires { ⌜ (length (now text) ≤ textLimit) × (chartBytes (arityIn (now counts)) (length (now counts)) (length (now text)) ≤ length (now chart)) ⌝ }
-    ensures { λ _. ⌜ Counted (theoryOf (now (counts .entry)) (now (chars .entry)) (now (subs .entry))) (now (text .entry)) (now (chart .exit)) ⌝ }
+    ensures { λ _. ⌜ CountedBy (theoryOf (now (counts .entry)) (now (chars .entry)) (now (subs .entry))) (now (text .entry)) everything (now (chart .exit)) ⌝ }
     ensures { λ _. ⌜ ((k : ℕ) → chartBytes (arityIn (now (counts .entry))) (length (now (counts .entry))) (length (now (text .entry))) ≤ k → getD (now (chart .exit)) k 0 ≡ getD (now (chart .entry)) k 0) ⌝ }
 {
     let mut users = zero_users();
     let mut uses = zero_uses();
     link(counts, subs, &mut users, &mut uses);
-    // at each start all productions are wanted
-    let wanted = [1; PRODUCTION_LIMIT];
     let mut empty = zero_row();
     let mut back = zero_row();
-    settle_empty(counts, &users, &uses, &wanted, &mut back, &mut empty);
+    settle_empty(counts, &users, &uses, &mut back, &mut empty);
     let rows = row_count(counts);
     let mut sums = zero_sums();
     let mut live = [0; PLACES];
@@ -261,7 +251,6 @@ pub fn fill(chart: &mut [u8], text: &[u8], counts: &[u8], chars: &[u64], subs: &
         chars,
         &users,
         &uses,
-        &wanted,
         rows,
         &empty,
         &back,

@@ -14,10 +14,6 @@ use Rattle.fill.proofs.FurtherLaws.{filled-counts, filled-beyond}
 use Rattle.fill.proofs.fill.Statement.{statement}
 use Rattle.fill.proofs.fill.Tie as tie
 
--- each of n ones is at least 1
-one-each : (n p : ℕ) → p < n → 1 ≤ getD (replicate n 1) p 0
-one-each n p l = omega (arith, getD-replicate {A = ℕ} n p 1 0 l)
-
 zero-users-requires : tie.Need-zero-users-requires
 zero-users-requires c κs = search needs
 
@@ -51,13 +47,8 @@ slice-aggregate-settle-empty-3 c = search needs
 slice-aggregate-settle-empty-4 : tie.Need-slice-aggregate-settle-empty-4
 slice-aggregate-settle-empty-4 c = search needs
 
-slice-aggregate-settle-empty-5 : tie.Need-slice-aggregate-settle-empty-5
-slice-aggregate-settle-empty-5 c = search needs
-
 settle-empty-requires : tie.Need-settle-empty-requires
-settle-empty-requires c κs =
-    let t = c .before .before .before .before .before .before .before .before .before .before .before .before .before .before .before .before .before .before .before .pre .0 in
-    (c .before .before .before .before .before .before .before .before .before .link .ensures .0, ((refl, λ p l. one-each 64 p (omega (arith, t .fewProductions))), (c .before .before .before .before .before .zero-row2 .ensures, c .before .before .before .before .before .before .zero-row .ensures)))
+settle-empty-requires c κs = (c .before .before .before .before .before .before .before .before .link .ensures .0, (c .before .before .before .before .zero-row2 .ensures, c .before .before .before .before .before .zero-row .ensures))
 
 row-count-requires : tie.Need-row-count-requires
 row-count-requires c κs = search needs
@@ -83,32 +74,27 @@ slice-aggregate-fill-columns-5 c = search needs
 slice-aggregate-fill-columns-6 : tie.Need-slice-aggregate-fill-columns-6
 slice-aggregate-fill-columns-6 c = search needs
 
-slice-aggregate-fill-columns-7 : tie.Need-slice-aggregate-fill-columns-7
-slice-aggregate-fill-columns-7 c = search needs
-
 fill-columns-requires : tie.Need-fill-columns-requires
 fill-columns-requires c κs =
-    let t = c .before .before .before .before .before .before .before .before .before .before .before .before .before .before .before .before .before .before .before .before .before .before .before .before .before .before .before .before .before .before .before .before .pre .0 in (
-      c .before .before .before .before .before .before .before .before .before .before .before .before .before .before .before .before .before .before .before .before .before .before .link .ensures .0,
+    let t = c .before .before .before .before .before .before .before .before .before .before .before .before .before .before .before .before .before .before .before .before .before .before .before .before .before .before .before .before .before .before .pre .0 in (
+      c .before .before .before .before .before .before .before .before .before .before .before .before .before .before .before .before .before .before .before .before .link .ensures .0,
       record {
-        short = c .before .before .before .before .before .before .before .before .before .before .before .before .before .before .before .before .before .before .before .before .before .before .before .before .before .before .before .before .before .before .before .before .pre .1 .0;
-        rowsAre = c .before .before .before .before .before .before .before .before .before .row-count .ensures;
-        longEnough = rw (c .before .before .before .before .before .before .before .before .before .row-count .ensures) (c .before .before .before .before .before .before .before .before .before .before .before .before .before .before .before .before .before .before .before .before .before .before .before .before .before .before .before .before .before .before .before .before .pre .1 .1);
+        short = c .before .before .before .before .before .before .before .before .before .before .before .before .before .before .before .before .before .before .before .before .before .before .before .before .before .before .before .before .before .before .pre .1 .0;
+        rowsAre = c .before .before .before .before .before .before .before .before .row-count .ensures;
+        longEnough = rw (c .before .before .before .before .before .before .before .before .row-count .ensures) (c .before .before .before .before .before .before .before .before .before .before .before .before .before .before .before .before .before .before .before .before .before .before .before .before .before .before .before .before .before .before .pre .1 .1);
         charsLong = t .charsLong;
-        wantedLong = refl;
-        wantedAll = λ p l. one-each 64 p (omega (arith, t .fewProductions));
-        emptyLong = c .before .before .before .before .before .before .before .before .before .before .before .before .settle-empty .kept .1 .1 .1 .1 .1 .0 ∙ c .before .before .before .before .before .before .before .before .before .before .before .before .before .before .before .before .before .before .before .zero-row .ensures .long;
-        argsLong = c .before .before .before .before .before .before .before .before .before .before .before .before .settle-empty .kept .1 .1 .1 .1 .0 ∙ c .before .before .before .before .before .before .before .before .before .before .before .before .before .before .before .before .before .before .zero-row2 .ensures .long;
-        sumsLong = c .before .before .before .before .before .before .before .before .zero-sums .ensures .long;
+        emptyLong = c .before .before .before .before .before .before .before .before .before .before .before .settle-empty .kept .1 .1 .1 .1 .0 ∙ c .before .before .before .before .before .before .before .before .before .before .before .before .before .before .before .before .before .zero-row .ensures .long;
+        argsLong = c .before .before .before .before .before .before .before .before .before .before .before .settle-empty .kept .1 .1 .1 .0 ∙ c .before .before .before .before .before .before .before .before .before .before .before .before .before .before .before .before .zero-row2 .ensures .long;
+        sumsLong = c .before .before .before .before .before .before .before .zero-sums .ensures .long;
         liveLong = length-replicate {A = ℕ} 201 0;
       },
     )
 
 turn-rows-requires : tie.Need-turn-rows-requires
 turn-rows-requires c κs =
-    let t = c .before .before .before .before .before .before .before .before .before .before .before .before .before .before .before .before .before .before .before .before .before .before .before .before .before .before .before .before .before .before .before .before .before .before .before .before .before .before .pre .0 in
-    let few = rows-few (arityIn (c .before .before .before .before .before .before .before .before .before .before .before .before .before .before .before .before .before .before .before .before .before .before .before .before .before .before .before .before .before .before .before .before .before .before .before .before .before .before .args .counts .now)) (length (c .before .before .before .before .before .before .before .before .before .before .before .before .before .before .before .before .before .before .before .before .before .before .before .before .before .before .before .before .before .before .before .before .before .before .before .before .before .before .args .counts .now)) (t .fewProductions) (t .fewArguments) in
-    ((c .before .before .before .before .before .before .before .before .before .before .before .before .before .before .before .before .before .before .before .before .before .before .before .before .before .before .before .before .before .before .before .before .before .before .before .before .before .before .pre .1 .0, omega (arith, c .before .before .before .before .before .before .before .before .before .before .before .before .before .before .before .row-count .ensures)), omega (arith, c .before .before .before .before .before .fill-columns .kept .0, ap (λ (n : ℕ). n * spanCount (length (c .before .before .before .before .before .before .before .before .before .before .before .before .before .before .before .before .before .before .before .before .before .before .before .before .before .before .before .before .before .before .before .before .before .before .before .before .before .before .args .text .now))) (c .before .before .before .before .before .before .before .before .before .before .before .before .before .before .before .row-count .ensures), c .before .before .before .before .before .before .before .before .before .before .before .before .before .before .before .before .before .before .before .before .before .before .before .before .before .before .before .before .before .before .before .before .before .before .before .before .before .before .pre .1 .1))
+    let t = c .before .before .before .before .before .before .before .before .before .before .before .before .before .before .before .before .before .before .before .before .before .before .before .before .before .before .before .before .before .before .before .before .before .before .before .before .pre .0 in
+    let few = rows-few (arityIn (c .before .before .before .before .before .before .before .before .before .before .before .before .before .before .before .before .before .before .before .before .before .before .before .before .before .before .before .before .before .before .before .before .before .before .before .before .args .counts .now)) (length (c .before .before .before .before .before .before .before .before .before .before .before .before .before .before .before .before .before .before .before .before .before .before .before .before .before .before .before .before .before .before .before .before .before .before .before .before .args .counts .now)) (t .fewProductions) (t .fewArguments) in
+    ((c .before .before .before .before .before .before .before .before .before .before .before .before .before .before .before .before .before .before .before .before .before .before .before .before .before .before .before .before .before .before .before .before .before .before .before .before .pre .1 .0, omega (arith, c .before .before .before .before .before .before .before .before .before .before .before .before .before .before .row-count .ensures)), omega (arith, c .before .before .before .before .before .fill-columns .kept .0, ap (λ (n : ℕ). n * spanCount (length (c .before .before .before .before .before .before .before .before .before .before .before .before .before .before .before .before .before .before .before .before .before .before .before .before .before .before .before .before .before .before .before .before .before .before .before .before .args .text .now))) (c .before .before .before .before .before .before .before .before .before .before .before .before .before .before .row-count .ensures), c .before .before .before .before .before .before .before .before .before .before .before .before .before .before .before .before .before .before .before .before .before .before .before .before .before .before .before .before .before .before .before .before .before .before .before .before .pre .1 .1))
 
 same-length : tie.Need-same-length
 same-length c = search needs
@@ -116,12 +102,12 @@ same-length c = search needs
 returns : tie.Need-returns
 unfolding grammarOf
 returns c =
-    let a = (c .before .before .before .before .before .before .before .before .before .before .before .before .before .before .before .before .before .before .before .before .before .before .before .before .before .before .before .before .before .before .before .before .before .before .before .before .before .before .before .before .before .args) in
-    let takes = c .before .before .before .before .before .before .before .before .before .before .before .before .before .before .before .before .before .before .before .before .before .before .before .before .before .before .before .before .before .before .before .link .ensures .1 in
+    let a = (c .before .before .before .before .before .before .before .before .before .before .before .before .before .before .before .before .before .before .before .before .before .before .before .before .before .before .before .before .before .before .before .before .before .before .before .before .before .before .before .args) in
+    let takes = c .before .before .before .before .before .before .before .before .before .before .before .before .before .before .before .before .before .before .before .before .before .before .before .before .before .before .before .before .before .link .ensures .1 in
     let subs : ℕ → ℕ → ℕ → Bool = λ p d q. eqb (getD (a .subs .now) (subAt (slot p d) q) 0) 1 in
-    let bottom = c .before .before .before .before .before .before .before .before .before .before .before .before .before .before .before .before .before .before .before .before .before .settle-empty .ensures (λ p d x. slotHas (a .chars .now) (slot p d) x) subs takes in (
-      filled-counts (a .counts .now) (a .chars .now) (c .before .before .before .before .before .before .before .before .before .before .before .before .before .before .before .before .before .before .before .before .before .before .before .before .before .before .before .before .before .before .before .link .last .1 .1 .0) (c .before .before .before .before .before .before .before .before .before .before .before .before .before .before .before .before .before .before .before .before .before .settle-empty .last .1 .1 .1 .1 .1 .0) (c .before .before .before .before .before .before .before .before .before .before .before .before .before .before .before .before .before .before .before .before .before .settle-empty .last .1 .1 .1 .1 .0) (a .text .now) (a .chart .now) (c .before .before .before .before .before .before .before .before .fill-columns .last .0) (c .before .before .turn-rows .last .0) (a .subs .now) (c .before .before .before .before .before .before .before .before .before .before .before .before .before .before .before .before .before .before .row-count .result) (c .before .before .before .before .before .before .before .before .before .before .before .before .before .before .before .before .before .before .row-count .ensures) takes bottom (c .before .before .before .before .before .before .before .before .fill-columns .ensures .0) (c .before .before .before .before .before .before .before .before .fill-columns .ensures .1) (c .before .before .turn-rows .ensures),
-      filled-beyond (a .counts .now) (a .chars .now) (c .before .before .before .before .before .before .before .before .before .before .before .before .before .before .before .before .before .before .before .before .before .before .before .before .before .before .before .before .before .before .before .link .last .1 .1 .0) (c .before .before .before .before .before .before .before .before .before .before .before .before .before .before .before .before .before .before .before .before .before .settle-empty .last .1 .1 .1 .1 .1 .0) (c .before .before .before .before .before .before .before .before .before .before .before .before .before .before .before .before .before .before .before .before .before .settle-empty .last .1 .1 .1 .1 .0) (a .text .now) (a .chart .now) (c .before .before .before .before .before .before .before .before .fill-columns .last .0) (c .before .before .turn-rows .last .0) (a .subs .now) (c .before .before .before .before .before .before .before .before .before .before .before .before .before .before .before .before .before .before .row-count .result) (c .before .before .before .before .before .before .before .before .before .before .before .before .before .before .before .before .before .before .row-count .ensures) takes bottom (c .before .before .before .before .before .before .before .before .fill-columns .ensures .0) (c .before .before .before .before .before .before .before .before .fill-columns .ensures .1) (c .before .before .turn-rows .ensures),
+    let bottom = c .before .before .before .before .before .before .before .before .before .before .before .before .before .before .before .before .before .before .before .before .settle-empty .ensures (λ p d x. slotHas (a .chars .now) (slot p d) x) subs takes in (
+      filled-counts (a .counts .now) (a .chars .now) (c .before .before .before .before .before .before .before .before .before .before .before .before .before .before .before .before .before .before .before .before .before .before .before .before .before .before .before .before .before .link .last .1 .1 .0) (c .before .before .before .before .before .before .before .before .before .before .before .before .before .before .before .before .before .before .before .before .settle-empty .last .1 .1 .1 .1 .0) (c .before .before .before .before .before .before .before .before .before .before .before .before .before .before .before .before .before .before .before .before .settle-empty .last .1 .1 .1 .0) (a .text .now) (a .chart .now) (c .before .before .before .before .before .before .before .before .fill-columns .last .0) (c .before .before .turn-rows .last .0) (a .subs .now) (c .before .before .before .before .before .before .before .before .before .before .before .before .before .before .before .before .before .row-count .result) (c .before .before .before .before .before .before .before .before .before .before .before .before .before .before .before .before .before .row-count .ensures) takes bottom (c .before .before .before .before .before .before .before .before .fill-columns .ensures .0) (c .before .before .before .before .before .before .before .before .fill-columns .ensures .1) (c .before .before .turn-rows .ensures),
+      filled-beyond (a .counts .now) (a .chars .now) (c .before .before .before .before .before .before .before .before .before .before .before .before .before .before .before .before .before .before .before .before .before .before .before .before .before .before .before .before .before .link .last .1 .1 .0) (c .before .before .before .before .before .before .before .before .before .before .before .before .before .before .before .before .before .before .before .before .settle-empty .last .1 .1 .1 .1 .0) (c .before .before .before .before .before .before .before .before .before .before .before .before .before .before .before .before .before .before .before .before .settle-empty .last .1 .1 .1 .0) (a .text .now) (a .chart .now) (c .before .before .before .before .before .before .before .before .fill-columns .last .0) (c .before .before .turn-rows .last .0) (a .subs .now) (c .before .before .before .before .before .before .before .before .before .before .before .before .before .before .before .before .before .row-count .result) (c .before .before .before .before .before .before .before .before .before .before .before .before .before .before .before .before .before .row-count .ensures) takes bottom (c .before .before .before .before .before .before .before .before .fill-columns .ensures .0) (c .before .before .before .before .before .before .before .before .fill-columns .ensures .1) (c .before .before .turn-rows .ensures),
     )
 
 pub fill-spec : {M : Type 1} → statement M
@@ -139,7 +125,6 @@ fill-spec =
     slice-aggregate-settle-empty-2
     slice-aggregate-settle-empty-3
     slice-aggregate-settle-empty-4
-    slice-aggregate-settle-empty-5
     settle-empty-requires
     row-count-requires
     zero-sums-requires
@@ -149,7 +134,6 @@ fill-spec =
     slice-aggregate-fill-columns-4
     slice-aggregate-fill-columns-5
     slice-aggregate-fill-columns-6
-    slice-aggregate-fill-columns-7
     fill-columns-requires
     turn-rows-requires
     same-length
