@@ -57,13 +57,7 @@ fn follow(back: &mut [u8], args: &[u8]) -> bool
 }
 
 // Settles the empty span. The tables hold zeros before.
-pub fn settle_empty(
-    counts: &[u8],
-    users: &[u8],
-    uses: &[u8],
-    args: &mut [u8],
-    cells: &mut [u8],
-)
+pub fn settle_empty(counts: &[u8], users: &[u8], uses: &[u8], args: &mut [u8], cells: &mut [u8])
     requires { ⌜ Links (now counts) (now users) (now uses) ⌝ }
     requires { ⌜ AllZero rowLimit (now args) × AllZero rowLimit (now cells) ⌝ }
     ensures { λ _. ⌜ ((chars subs : ℕ → ℕ → ℕ → Bool) → UsersAre (now (counts .entry)) (now (users .entry)) subs → EmptyRight (grammarOf (now (counts .entry)) chars subs) (now (cells .exit)) (now (args .exit))) ⌝ }

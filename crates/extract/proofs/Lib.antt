@@ -1,7 +1,9 @@
 -- Laws of the extraction.
-
 pub mod CellLaws
 pub mod ArgumentLaws
 pub mod SplitLaws
 pub mod WrittenLaws
-pub mod TreeLaws
+pub mod LevelsLaws
+pub mod WalkLaws
+pub mod WritingLaws
+pub mod StepLaws

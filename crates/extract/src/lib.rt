@@ -1,16 +1,25 @@
-// Writes the listing of a tree that a filled chart counts. The chart says where each argument ends and which production stands there;
-// no walk is longer than the buffer.
+// Writes the listing of the only tree that a filled chart counts. The chart says where each argument ends and which production stands there;
+// a stack of levels says what is written. No walk is longer than the buffer.
+pub mod levels;
+
 use ccg::tables::slot_has;
 use ccg::text::FIRST_PRODUCTION;
 use chart::layout::get;
 use grammar::layout::wide;
 use grammar::limits::ARGUMENT_LIMIT;
 use grammar::limits::PRODUCTION_LIMIT;
+use levels::Due;
+use levels::ENDS;
+use levels::LEVEL;
+use levels::count_argument;
+use levels::due_at;
+use levels::narrow;
+use levels::open_level;
 ghost use mathlib.Core.Path.{_≡_};
 ghost use mathlib.Core.Bool.{Bool, true, false, _&&_, _||_};
 ghost use mathlib.Core.List.{List, [], _∷_};
 ghost use mathlib.Core.Logic.{_↔_};
-ghost use Prim.Native.Nat.{ℕ, _+_, _*_, _<_, _≤_};
+ghost use Prim.Native.Nat.{ℕ, _+_, _-_, _*_, _<_, _≤_};
 ghost use lib.Dec.{eqb, leb};
 ghost use lib.ListN.{length, getD};
 ghost use Rattle.theory.specs.Tree.{Tree, Forest, node, listing};
@@ -19,11 +28,17 @@ ghost use Rattle.grammar.specs.Limits.{productionLimit, argumentLimit};
 ghost use Rattle.ccg.specs.Tables.{slot, slots, subAt, slotHas, charWords};
 ghost use Rattle.chart.specs.Layout.{textLimit};
 ghost use Rattle.ccg.specs.Theory.{theoryOf, ParserTables};
-ghost use Rattle.extract.specs.Written.{room, Written, TreeWritten};
+ghost use Rattle.extract.specs.Written.{room, Written};
+ghost use Rattle.extract.specs.Walk.{levelBytes, productionOf, writtenOf, Midway, Further, WrittenOut, OnlyWritten};
 ghost use Rattle.extract.specs.Places.{Bases, Walkable, cellOf, FirstChild, Splits};
 
-// Places where the arguments of a production end.
-const ENDS: usize = ARGUMENT_LIMIT + 1;
+// What writing has come to.
+pub struct Progress {
+    // How many levels are open.
+    pub levels: usize,
+    // The next place in the buffer, or one past its room.
+    pub next: usize,
+}
 
 // The first row of each production.
 pub fn row_bases(counts: &[u8]) -> [usize; PRODUCTION_LIMIT]
@@ -157,14 +172,6 @@ fn find_split(
     m
 }
 
-// A place as a byte.
-fn narrow(m: usize) -> u8
-    requires { ⌜ m ≤ textLimit ⌝ }
-    ensures { λ r. ⌜ r ≡ m ⌝ }
-{
-    m as u8
-}
-
 // Where each argument of p begins, and where the last one ends.
 fn find_splits(
     chart: &[u8],
@@ -216,37 +223,115 @@ pub fn put_number(out: &mut [u8], at: usize, number: usize) -> usize
     at + 1
 }
 
-// Writes what stands as argument d of p from m to j.
-fn write_argument(
+// Writes the number of what stands as the next argument of the last level: a character, or a production, which opens a level.
+fn write_next(
     chart: &[u8],
     text: &[u8],
     counts: &[u8],
     chars: &[u64],
     subs: &[u8],
     bases: &[usize],
+    levels: &mut [u8],
+    n: usize,
     out: &mut [u8],
     at: usize,
-    p: usize,
-    d: usize,
-    m: usize,
-    j: usize,
-) -> usize
-    requires { ⌜ Walkable (now counts) (now chars) (now subs) (now bases) (now text) (now chart) ⌝ }
-    requires { ⌜ (p < length (now counts)) × (d < getD (now counts) p 0) × (m ≤ j) × (j ≤ length (now text)) × (at ≤ room (now out) + 1) ⌝ }
-    requires { ⌜ ((t : Tree) × Stands (theoryOf (now counts) (now chars) (now subs)) (now text) p d t m j) ⌝ }
-    ensures { λ r. ⌜ ((t : Tree) × Stands (theoryOf (now (counts .entry)) (now (chars .entry)) (now (subs .entry))) (now (text .entry)) p d t m j × Written (listing t) (now (out .entry)) at (now (out .exit)) r) ⌝ }
+) -> Progress
+    requires { ⌜ Midway (now counts) (now chars) (now subs) (now bases) (now text) (now chart) (now levels) n (now out) at ⌝ }
+    requires { ⌜ (1 ≤ n) × (at ≤ room (now out)) ⌝ }
+    requires { ⌜ writtenOf (now levels) (n - 1) < getD (now counts) (productionOf (now levels) (n - 1)) 0 ⌝ }
+    ensures { λ r. ⌜ Further (theoryOf (now (counts .entry)) (now (chars .entry)) (now (subs .entry))) (now (text .entry)) (now (levels .entry)) n (now (out .entry)) at (now (levels .exit)) (r .levels) (now (out .exit)) (r .next) ⌝ }
 {
-    if out.len() / 2 < at {
-        return at;
-    }
+    let due = due_at(levels, n - 1);
+    let Due {
+        production: p,
+        argument: d,
+        from: m,
+        to: j,
+    } = due;
+    count_argument(levels, n - 1);
     if char_fits(text, chars, p, d, m, j) {
-        return put_number(out, at, wide(text[m]));
+        return Progress {
+            levels: n,
+            next: put_number(out, at, wide(text[m])),
+        };
     }
     let q = first_child(chart, text, counts, chars, subs, bases, p, d, m, j);
-    write_tree(chart, text, counts, chars, subs, bases, out, at, q, m, j)
+    let ends = find_splits(chart, text, counts, chars, subs, bases, q, m, j);
+    open_level(levels, n, q, ends);
+    Progress {
+        levels: n + 1,
+        next: put_number(out, at, FIRST_PRODUCTION + q),
+    }
 }
 
-// Writes a tree of production q from i to j, from place `at` on: as many of its numbers as there is room for. Where the chart counts one tree, it is that one.
+// A step: the last level is closed if all its arguments are written; otherwise its next argument is begun.
+fn write_step(
+    chart: &[u8],
+    text: &[u8],
+    counts: &[u8],
+    chars: &[u64],
+    subs: &[u8],
+    bases: &[usize],
+    levels: &mut [u8],
+    n: usize,
+    out: &mut [u8],
+    at: usize,
+) -> Progress
+    requires { ⌜ Midway (now counts) (now chars) (now subs) (now bases) (now text) (now chart) (now levels) n (now out) at ⌝ }
+    requires { ⌜ (1 ≤ n) × (at ≤ room (now out)) ⌝ }
+    ensures { λ r. ⌜ Further (theoryOf (now (counts .entry)) (now (chars .entry)) (now (subs .entry))) (now (text .entry)) (now (levels .entry)) n (now (out .entry)) at (now (levels .exit)) (r .levels) (now (out .exit)) (r .next) ⌝ }
+{
+    let k = (n - 1) * LEVEL;
+    if levels[k + 1] == counts[wide(levels[k])] {
+        return Progress {
+            levels: n - 1,
+            next: at,
+        };
+    }
+    write_next(chart, text, counts, chars, subs, bases, levels, n, out, at)
+}
+
+// Step by step to the end: all levels are closed, or a number finds no room.
+fn write_levels(
+    chart: &[u8],
+    text: &[u8],
+    counts: &[u8],
+    chars: &[u64],
+    subs: &[u8],
+    bases: &[usize],
+    levels: &mut [u8],
+    out: &mut [u8],
+    at: usize,
+) -> usize
+    requires { ⌜ Midway (now counts) (now chars) (now subs) (now bases) (now text) (now chart) (now levels) 1 (now out) at ⌝ }
+    ensures { λ r. ⌜ WrittenOut (theoryOf (now (counts .entry)) (now (chars .entry)) (now (subs .entry))) (now (text .entry)) (now (levels .entry)) 1 (now (out .entry)) at (now (out .exit)) r ⌝ }
+{
+    let mut next = at;
+    let mut n = 1;
+    while 0 < n {
+        if out.len() / 2 < next {
+            return next;
+        }
+        let step = write_step(
+            chart,
+            text,
+            counts,
+            chars,
+            subs,
+            bases,
+            levels,
+            n,
+            out,
+            next,
+        );
+        n = step.levels;
+        next = step.next;
+    }
+    next
+}
+
+// Writes the only tree of production q over the whole text: as many of its numbers as there is room for. The next place comes back, or one past the room.
+// The levels have room for as many as there are productions and places.
 pub fn write_tree(
     chart: &[u8],
     text: &[u8],
@@ -254,40 +339,17 @@ pub fn write_tree(
     chars: &[u64],
     subs: &[u8],
     bases: &[usize],
+    levels: &mut [u8],
     out: &mut [u8],
-    at: usize,
     q: usize,
-    i: usize,
-    j: usize,
 ) -> usize
     requires { ⌜ Walkable (now counts) (now chars) (now subs) (now bases) (now text) (now chart) ⌝ }
-    requires { ⌜ (q < length (now counts)) × (i ≤ j) × (j ≤ length (now text)) × (at ≤ room (now out) + 1) ⌝ }
-    requires { ⌜ 1 ≤ cellOf (now counts) (now text) (now chart) q (getD (now counts) q 0) i j ⌝ }
-    ensures { λ r. ⌜ TreeWritten (theoryOf (now (counts .entry)) (now (chars .entry)) (now (subs .entry))) (now (text .entry)) q i j (cellOf (now (counts .entry)) (now (text .entry)) (now (chart .entry)) q (getD (now (counts .entry)) q 0) i j) (now (out .entry)) at (now (out .exit)) r ⌝ }
+    requires { ⌜ (q < length (now counts)) × (cellOf (now counts) (now text) (now chart) q (getD (now counts) q 0) 0 (length (now text)) ≡ 1) ⌝ }
+    requires { ⌜ length (now counts) * (length (now text) + 1) * levelBytes ≤ length (now levels) ⌝ }
+    ensures { λ r. ⌜ OnlyWritten (theoryOf (now (counts .entry)) (now (chars .entry)) (now (subs .entry))) (now (text .entry)) q (now (out .entry)) (now (out .exit)) r ⌝ }
 {
-    let mut next = put_number(out, at, FIRST_PRODUCTION + q);
-    if out.len() / 2 < next {
-        return next;
-    }
-    let ends = find_splits(chart, text, counts, chars, subs, bases, q, i, j);
-    let arity = wide(counts[q]);
-    let mut d = 0;
-    while d < arity {
-        next = write_argument(
-            chart,
-            text,
-            counts,
-            chars,
-            subs,
-            bases,
-            out,
-            next,
-            q,
-            d,
-            wide(ends[d]),
-            wide(ends[d + 1]),
-        );
-        d += 1;
-    }
-    next
+    let ends = find_splits(chart, text, counts, chars, subs, bases, q, 0, text.len());
+    open_level(levels, 0, q, ends);
+    let next = put_number(out, 0, FIRST_PRODUCTION + q);
+    write_levels(chart, text, counts, chars, subs, bases, levels, out, next)
 }

@@ -17,7 +17,7 @@ use Rattle.common.proofs.ProductLaws.{one-product, left-below, right-below}
 use Rattle.common.specs.Below.{sumBelow, bitOf}
 use Rattle.theory.proofs.SpellsLaws.{spells-rises, stands-rises}
 use Rattle.theory.specs.Grammar.{Grammar, Spells, Stands}
-use Rattle.theory.specs.Steps.{Chart, cap, charEntry, argumentSum, splitSum, Wanted, everything, DueWanted, Closed}
+use Rattle.theory.specs.Steps.{Chart, cap, charEntry, argumentSum, splitSum, Wanted, everything, NextWanted, DueWanted, Closed}
 use Rattle.theory.specs.Tree.{Tree, leaf, node, Forest, none, _▷_}
 
 pub meets : {a b : ℕ} → (a < b → ⊥) → (b < a → ⊥) → a ≡ b
@@ -29,7 +29,7 @@ true-bit false e = absurd (false≢true e)
 
 -- where everything is wanted, what is due next is
 pub everything-due : (g : Grammar) (w : List ℕ) → DueWanted g w everything
-everything-due g w = record { due = λ p d i m q f lp ld wp s l e. refl }
+everything-due g w = record { due = λ p d i m f lp ld wp s q l e. refl }
 
 module _ (g : Grammar) (w : List ℕ) (wanted : Wanted) (dues : DueWanted g w wanted) (c : Chart) (closed : Closed g w wanted c) where
   -- ---- what counts towards a sum
@@ -79,13 +79,6 @@ module _ (g : Grammar) (w : List ℕ) (wanted : Wanted) (dues : DueWanted g w wa
   next : (p d i j : ℕ) → p < g .count → suc d ≤ g .arity p → i ≤ j → j ≤ length w → wanted p i ≡ true → cap (splitSum g w c p d i j) ≤ c p (suc d) i j
   next p d i j lp ld l h wp = subst (λ (n : ℕ). cap (splitSum g w c p d i j) ≤ c p n i j) (add-one d) (closed .step p d i j lp ld l h wp)
 
-  -- Whatever production may stand as argument d of p, it is wanted at m.
-  abbrev pub AllWanted : (p d m : ℕ) → Type 0
-  AllWanted p d m = (q : ℕ) → q < g .count → g .subs p d q ≡ true → wanted q m ≡ true
-
-  behind : (p : ℕ) (f : Forest) (d i m : ℕ) → p < g .count → suc d ≤ g .arity p → wanted p i ≡ true → Spells g w p f d i m → AllWanted p d m
-  behind p f d i m lp ld wp s q l e = dues .due p d i m q f lp ld wp s l e
-
   -- ---- a list of trees that exists is counted
 
   mutual
@@ -99,10 +92,10 @@ module _ (g : Grammar) (w : List ℕ) (wanted : Wanted) (dues : DueWanted g w wa
         let m = s .0 in
         let a = spells-rises g w p f d i m (s .1) in
         let b = stands-rises g w p d t m j (s .2) in
-        let one = one-product (c p d i m) (argumentSum g w c p d m j) (spells-counted p f d i m lp (omega arith) wp (s .1)) (stands-counted p d t m j (behind p f d i m lp ld wp (s .1)) (s .2)) in
+        let one = one-product (c p d i m) (argumentSum g w c p d m j) (spells-counted p f d i m lp (omega arith) wp (s .1)) (stands-counted p d t m j (dues .due p d i m f lp ld wp (s .1)) (s .2)) in
         omega (arith, one, part-at p d i j m (a .0) (b .0), next p d i j lp ld (omega (arith, a .0, b .0)) (b .1) wp)
 
-    pub stands-counted : (p d : ℕ) (t : Tree) (m j : ℕ) → AllWanted p d m → Stands g w p d t m j → 1 ≤ argumentSum g w c p d m j
+    pub stands-counted : (p d : ℕ) (t : Tree) (m j : ℕ) → NextWanted g wanted p d m → Stands g w p d t m j → 1 ≤ argumentSum g w c p d m j
     stands-counted p d (leaf x) m j all s =
         omega (arith, char-in p d m j, char-counts p d m j (s .0) (subst⁻¹ (λ (k : ℕ). g .chars p d k ≡ true) (s .2) (s .3)))
     stands-counted p d (node q f) m j all s =
@@ -149,7 +142,7 @@ module _ (g : Grammar) (w : List ℕ) (wanted : Wanted) (dues : DueWanted g w wa
   unfolding Spells
   leaf-counts p d x m j s = char-counts p d m j (s .0) (subst⁻¹ (λ (k : ℕ). g .chars p d k ≡ true) (s .2) (s .3))
 
-  node-counts : (p d q : ℕ) (f : Forest) (m j : ℕ) → AllWanted p d m → Stands g w p d (node q f) m j → 1 ≤ sub p d m j q
+  node-counts : (p d q : ℕ) (f : Forest) (m j : ℕ) → NextWanted g wanted p d m → Stands g w p d (node q f) m j → 1 ≤ sub p d m j q
   unfolding Spells
   node-counts p d q f m j all s = sub-counts p d m j q (s .1) (spells-counted q f (g .arity q) m j (s .0) (le-refl (g .arity q)) (all q (s .0) (s .1)) (s .2))
 
@@ -170,10 +163,10 @@ module _ (g : Grammar) (w : List ℕ) (wanted : Wanted) (dues : DueWanted g w wa
         let a′ = spells-rises g w p h d i n (r .1) in
         let b′ = stands-rises g w p d u n j (r .2) in
         let cf = spells-counted p f d i m lp (omega arith) wp (s .1) in
-        let all = behind p f d i m lp ld wp (s .1) in
+        let all = dues .due p d i m f lp ld wp (s .1) in
         let ct = stands-counted p d t m j all (s .2) in
         let ch = spells-counted p h d i n lp (omega arith) wp (r .1) in
-        let cu = stands-counted p d u n j (behind p h d i n lp ld wp (r .1)) (r .2) in
+        let cu = stands-counted p d u n j (dues .due p d i n h lp ld wp (r .1)) (r .2) in
         let e : m ≡ n = meets
         (λ l. no-later-split p d i j m lp ld wp (a .0) (b .0) (b .1) cf ct one n l (b′ .0) ch cu)
         (λ l. no-later-split p d i j n lp ld wp (a′ .0) (b′ .0) (b′ .1) ch cu one m l (b .0) cf ct) in
@@ -181,7 +174,7 @@ module _ (g : Grammar) (w : List ℕ) (wanted : Wanted) (dues : DueWanted g w wa
         let ts = stands-same p d t u m j all (argument-small p d i j m lp ld wp (a .0) (b .0) (b .1) cf ct one) (s .2) (subst⁻¹ (λ (k : ℕ). Stands g w p d u k j) e (r .2)) in
         ap₂ _▷_ fs ts
 
-    pub stands-same : (p d : ℕ) (t u : Tree) (m j : ℕ) → AllWanted p d m → argumentSum g w c p d m j ≤ 1 → Stands g w p d t m j → Stands g w p d u m j → t ≡ u
+    pub stands-same : (p d : ℕ) (t u : Tree) (m j : ℕ) → NextWanted g wanted p d m → argumentSum g w c p d m j ≤ 1 → Stands g w p d t m j → Stands g w p d u m j → t ≡ u
     stands-same p d (leaf x) (leaf y) m j all one s r = ap leaf (sym (s .2) ∙ r .2)
     stands-same p d (leaf x) (node q h) m j all one s r = absurd (not-both-kinds p d m j one q (r .0) (leaf-counts p d x m j s) (node-counts p d q h m j all r))
     stands-same p d (node q f) (leaf y) m j all one s r = absurd (not-both-kinds p d m j one q (s .0) (leaf-counts p d y m j r) (node-counts p d q f m j all s))

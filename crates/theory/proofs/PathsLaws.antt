@@ -18,6 +18,7 @@ use Rattle.theory.proofs.SoundLaws.{bit-small}
 use Rattle.theory.proofs.SpellsLaws.{spells-rises, stands-rises}
 use Rattle.theory.specs.Counts.{Only}
 use Rattle.theory.specs.Grammar.{Grammar, Spells, Stands}
+use Rattle.theory.specs.Steps.{Wanted, DueWanted}
 use Rattle.theory.specs.Paths.{height, heights, Under, last, before, Path, top, down}
 use Rattle.theory.specs.Tree.{Tree, leaf, node, Forest, none, _▷_}
 
@@ -66,6 +67,17 @@ under-count g w p d i j q m e (before {d = d′} {k = k} t u s) = under-count g 
 pub path-count : (g : Grammar) (w : List ℕ) (q₀ i₀ j₀ q m e n : ℕ) → Path g w q₀ i₀ j₀ q m e n → q < g .count
 path-count g w q₀ i₀ j₀ q m e n (top l) = l
 path-count g w q₀ i₀ j₀ q m e n (down {p = p} {i = i} {j = j} c u) = under-count g w p (g .arity p) i j q m e u
+
+-- a production on a path down from a wanted one is wanted where it starts
+module _ (g : Grammar) (w : List ℕ) (wanted : Wanted) (dues : DueWanted g w wanted) where
+  under-wanted : (p d i j q m e : ℕ) → p < g .count → d ≤ g .arity p → wanted p i ≡ true → Under g w p d i j q m e → wanted q m ≡ true
+  under-wanted p d i j q m e lp ld wp (last {d = d′} f s l b) = dues .due p d′ i m f lp (omega arith) wp s q l b
+  under-wanted p d i j q m e lp ld wp (before {d = d′} {k = k} t u s) = under-wanted p d′ i k q m e lp (omega arith) wp u
+
+  pub path-wanted : (q₀ i₀ j₀ q m e n : ℕ) → wanted q₀ i₀ ≡ true → Path g w q₀ i₀ j₀ q m e n → wanted q m ≡ true
+  path-wanted q₀ i₀ j₀ q m e n w₀ (top l) = w₀
+  path-wanted q₀ i₀ j₀ q m e n w₀ (down {p = p} {i = i} {j = j} {n = n′} c u) =
+      under-wanted p (g .arity p) i j q m e (path-count g w q₀ i₀ j₀ p i j n′ c) (le-refl (g .arity p)) (path-wanted q₀ i₀ j₀ p i j n′ w₀ c) u
 
 -- ---- how many productions were seen
 

@@ -37,9 +37,13 @@ Wanted = ℕ → ℕ → Bool
 abbrev pub everything : Wanted
 everything p i = true
 
--- What is due next is wanted: where a list of trees for some arguments of a wanted production ends, so is each production that may stand as the argument behind them.
+-- Each production that may stand as argument d of p is wanted at m.
+abbrev pub NextWanted : Grammar → Wanted → (p d m : ℕ) → Type 0
+NextWanted g wanted p d m = (q : ℕ) → q < g .count → g .subs p d q ≡ true → wanted q m ≡ true
+
+-- What is due next is wanted: at the place where a list of trees for the first d arguments of a wanted production ends, so is what may stand behind them.
 pub record DueWanted (g : Grammar) (w : List ℕ) (wanted : Wanted) : Type 0 where
-  pub due : (p d i m q : ℕ) (f : Forest) → p < g .count → d < g .arity p → wanted p i ≡ true → Spells g w p f d i m → q < g .count → g .subs p d q ≡ true → wanted q m ≡ true
+  pub due : (p d i m : ℕ) (f : Forest) → p < g .count → d < g .arity p → wanted p i ≡ true → Spells g w p f d i m → NextWanted g wanted p d m
 
 -- Entries in range have their lists of trees.
 pub record Sound (g : Grammar) (w : List ℕ) (c : Chart) : Type 0 where

@@ -1,0 +1,188 @@
+-- One step of writing a tree: what the last level says is there, and what writing it leads to.
+use Prim.Native.Nat.{ℕ, _+_, _-_, _*_, _≤_, _<_}
+use mathlib.Core.Path.{_≡_, sym, _∙_, ap, subst, subst₂}
+use mathlib.Core.Bool.{false, true}
+use mathlib.Core.List.{List, [], _∷_}
+use native.Mathlib.Omega.{arith}
+use native.Mathlib.Nat.{mul-le-mul}
+use lib.ListN.{length, getD, set}
+use borrow.Author.Tests.{eq-eqb}
+use Rattle.ccg.specs.Tables.{slot, subAt}
+use Rattle.ccg.specs.Theory.{theoryOf}
+use Rattle.chart.specs.Layout.{places}
+use Rattle.common.specs.Region.{Region}
+use Rattle.extract.proofs.ArgumentLaws.{Standing, charTest, char-stands, node-stands, child-there}
+use Rattle.extract.proofs.CellLaws.{cell-wanted, cell-trees, cell-only}
+use Rattle.extract.proofs.LevelsLaws.{Opens}
+use Rattle.extract.proofs.WritingLaws.{last-fits, level-fits, last-count, last-few, last-left, last-wanted, writing-start, writing-pop, writing-char, next-high, writing-push, writing-over, writing-all, room-less}
+use Rattle.extract.proofs.WrittenLaws.{written-room}
+use Rattle.extract.specs.Places.{Walkable, FirstChild, Splits, cellOf}
+use Rattle.extract.specs.Walk.{endCount, levelBytes, levelLimit, productionOf, writtenOf, placesOf, Writing, Midway, StillWriting, Further, WrittenOut, DueAt}
+use Rattle.extract.specs.Written.{room, Written}
+use Rattle.grammar.specs.Limits.{argumentLimit}
+use Rattle.theory.proofs.SpellsLaws.{stands-rises}
+use Rattle.theory.specs.Grammar.{Grammar, Spells, Stands}
+use Rattle.theory.specs.Steps.{NextWanted}
+use Rattle.theory.specs.Tree.{leaf, node, Forest, productionNumber}
+
+module _ {counts chars subs bases w chart levels : List ℕ} {n : ℕ} {l : List ℕ} {r : ℕ} (h : Midway counts chars subs bases w chart levels n l r) (isOpen : 1 ≤ n) where
+  abbrev last : ℕ
+  last = n - 1
+
+  -- the last level has room, and names a production
+  pub last-room : (last + 1) * levelBytes ≤ length levels
+  last-room = last-fits (theoryOf counts chars subs) w (h .root) (h .before) levels n l r (h .writing) isOpen
+
+  pub last-production : productionOf levels last < length counts
+  unfolding theoryOf
+  last-production = last-count (theoryOf counts chars subs) w (h .root) (h .before) levels n l r (h .writing) isOpen
+
+  pub last-within : writtenOf levels last ≤ getD counts (productionOf levels last) 0
+  unfolding theoryOf
+  last-within = last-few (theoryOf counts chars subs) w (h .root) (h .before) levels n l r (h .writing) isOpen
+
+  -- ---- the level is done
+
+  pub closed-further : writtenOf levels last ≡ getD counts (productionOf levels last) 0 → Further (theoryOf counts chars subs) w levels n l r levels last l r
+  unfolding theoryOf
+  closed-further e =
+      record {
+        still = λ q l₀ s. writing-pop (theoryOf counts chars subs) w q l₀ levels n l r s isOpen e;
+        less = omega (arith, isOpen);
+      }
+
+  -- ---- it is not
+
+  module _ (roomy : r ≤ room l) (less : writtenOf levels last < getD counts (productionOf levels last) 0) where
+    pub few-written : writtenOf levels last < argumentLimit
+    few-written = omega (arith, h .walkable .tables .fewArguments (productionOf levels last))
+
+    -- argument d of p, from m to j, comes next
+    module _ (p d m j : ℕ) (due : DueAt levels last p d m j) where
+      here : (A : ℕ → ℕ → Type 0) → A (productionOf levels last) (writtenOf levels last) → A p d
+      here A x = subst₂ A (sym (due .isProduction)) (sym (due .isArgument)) x
+
+      pub due-production : p < length counts
+      due-production = omega (arith, due .isProduction, last-production)
+
+      pub due-argument : d < getD counts p 0
+      due-argument = here (λ (x y : ℕ). y < getD counts x 0) less
+
+      abbrev AtPlaces : (x y : ℕ) → Type 0
+      AtPlaces x y = Standing counts chars subs w x y (getD (placesOf levels last) y 0) (getD (placesOf levels last) (y + 1) 0)
+
+      pub due-standing : Standing counts chars subs w p d m j
+      unfolding theoryOf
+      due-standing =
+          subst₂ (λ (x : ℕ) (y : ℕ). Standing counts chars subs w p d x y) (sym (due .isFrom)) (sym (due .isTo))
+          (here AtPlaces (last-left (theoryOf counts chars subs) w (h .root) (h .before) levels n l r (h .writing) isOpen less))
+
+      pub due-rises : (m ≤ j) × (j ≤ length w)
+      due-rises = let (t, s) = due-standing in stands-rises (theoryOf counts chars subs) w p d t m j s
+
+      due-wanted : NextWanted (theoryOf counts chars subs) (h .walkable .wanted) p d m
+      unfolding theoryOf
+      due-wanted =
+          subst (λ (x : ℕ). NextWanted (theoryOf counts chars subs) (h .walkable .wanted) p d x) (sym (due .isFrom))
+          (here (λ (x y : ℕ). NextWanted (theoryOf counts chars subs) (h .walkable .wanted) x y (getD (placesOf levels last) y 0))
+          (last-wanted (theoryOf counts chars subs) w (h .root) (h .before) levels n l r (h .writing) isOpen (h .walkable .wanted) (h .walkable .dues) (h .rootWanted) less))
+
+      -- what stands from m to j stands where the level says
+      there : (A : ℕ → ℕ → ℕ → ℕ → Type 0) → A p d m j
+          → A (productionOf levels last) (writtenOf levels last) (getD (placesOf levels last) (writtenOf levels last) 0) (getD (placesOf levels last) (writtenOf levels last + 1) 0)
+      there A x =
+          subst₂ (λ (a b : ℕ). A a b (getD (placesOf levels last) b 0) (getD (placesOf levels last) (b + 1) 0)) (due .isProduction) (due .isArgument)
+          (subst₂ (λ (a b : ℕ). A p d a b) (due .isFrom) (due .isTo) x)
+
+      -- a character
+      pub char-further : (levels′ l′ : List ℕ) (r′ c : ℕ) → levels′ ≡ set levels (last * levelBytes + 1) (writtenOf levels last + 1) → charTest chars w p d m j ≡ true → c ≡ getD w m 0
+          → Written (c ∷ []) l r l′ r′ → Further (theoryOf counts chars subs) w levels n l r levels′ n l′ r′
+      unfolding theoryOf
+      char-further levels′ l′ r′ c is e same v =
+          let stands = there (λ (a b x y : ℕ). Stands (theoryOf counts chars subs) w a b (leaf c) x y)
+          (subst (λ (x : ℕ). Stands (theoryOf counts chars subs) w p d (leaf x) m j) (sym same) (char-stands counts chars subs w p d m j (due-rises .1) e)) in
+          record {
+            still = λ q l₀ s. subst (λ (x : List ℕ). Writing (theoryOf counts chars subs) w q l₀ x n l′ r′) (sym is) (writing-char (theoryOf counts chars subs) w q l₀ levels n l r s isOpen c l′ r′ less stands v);
+            less = omega (arith, room-less c l l′ r r′ n v roomy);
+          }
+
+      -- a production
+      module _ (no-char : charTest chars w p d m j ≡ false) (u : ℕ) (first : FirstChild counts subs w chart p d m j u) where
+        pub child-count : u < length counts
+        child-count = child-there (h .walkable) p d m j u due-wanted first no-char due-standing
+
+        pub child-cell : 1 ≤ cellOf counts w chart u (getD counts u 0) m j
+        child-cell = first .stands child-count .1
+
+        child-trees : (f : Forest) × Spells (theoryOf counts chars subs) w u f (getD counts u 0) m j
+        child-trees = cell-trees (h .walkable) u (getD counts u 0) m j child-count (omega arith) (due-rises .0) (due-rises .1) child-cell
+
+        pub child-high : n + 1 ≤ length counts * (length w + 1)
+        unfolding theoryOf
+        child-high =
+            let (f, s) = child-trees in
+            next-high (theoryOf counts chars subs) w (h .root) (h .before) levels n l r (h .writing) isOpen u f less
+            (there (λ (a b x y : ℕ). Stands (theoryOf counts chars subs) w a b (node u f) x y) (node-stands counts chars subs w p d m j u f child-count (first .stands child-count .0) s))
+
+        -- so there are few levels
+        pub child-few : n + 1 ≤ levelLimit
+        child-few =
+            let places-few : length w + 1 ≤ places = omega (arith, h .walkable .short) in
+            omega (arith, child-high, mul-le-mul (h .walkable .tables .fewProductions) places-few)
+
+        pub child-room : (n + 1) * levelBytes ≤ length levels
+        unfolding theoryOf
+        child-room = level-fits (theoryOf counts chars subs) w (h .root) (h .before) levels n l r (h .writing) isOpen n (omega (arith, child-high))
+
+        pub child-further : (ends mid levels′ l′ : List ℕ) (r′ : ℕ) → mid ≡ set levels (last * levelBytes + 1) (writtenOf levels last + 1) → length ends ≡ endCount
+            → Splits (theoryOf counts chars subs) w u 0 m j ends → Region (Opens u ends) 0 (n * levelBytes) levelBytes mid levels′
+            → Written (productionNumber u ∷ []) l r l′ r′ → Further (theoryOf counts chars subs) w levels n l r levels′ (n + 1) l′ r′
+        unfolding theoryOf
+        child-further ends mid levels′ l′ r′ is long splits opened v =
+            let at-places = there (λ (a b x y : ℕ). Splits (theoryOf counts chars subs) w u 0 x y ends) splits in
+            let start = there (λ (a b x y : ℕ). x ≤ length w) (omega (arith, due-rises)) in
+            let sub = there (λ (a b x y : ℕ). getD subs (subAt (slot a b) u) 0 ≡ 1) (first .stands child-count .0) in
+            record {
+              still = λ q l₀ s. writing-push (theoryOf counts chars subs) w q l₀ levels n l r s isOpen u ends levels′ l′ r′ less child-count
+                  (eq-eqb (getD subs (subAt (slot (productionOf levels last) (writtenOf levels last)) u) 0) 1 sub) child-high long at-places start (subst (λ (x : List ℕ). Region (Opens u ends) 0 (n * levelBytes) levelBytes x levels′) is opened) v;
+              less = room-less (productionNumber u) l l′ r r′ n v roomy;
+            }
+
+-- ---- many steps
+
+-- the first level is open, and its number written
+module _ {counts chars subs bases w chart : List ℕ} (h : Walkable counts chars subs bases w chart) (q : ℕ) (levels levels′ ends l₀ l : List ℕ) (r : ℕ) (lq : q < length counts)
+    (one : cellOf counts w chart q (getD counts q 0) 0 (length w) ≡ 1) (enough : length counts * (length w + 1) * levelBytes ≤ length levels) (long : length ends ≡ endCount)
+    (splits : Splits (theoryOf counts chars subs) w q 0 0 (length w) ends) (opened : Region (Opens q ends) 0 (0 * levelBytes) levelBytes levels levels′)
+    (v : Written (productionNumber q ∷ []) l₀ 0 l r) where
+  pub started-writing : Writing (theoryOf counts chars subs) w q l₀ levels′ 1 l r
+  unfolding theoryOf
+  started-writing =
+      let (f, o) = cell-only h q (getD counts q 0) 0 (length w) lq (omega arith) (omega arith) (omega arith) one in
+      writing-start (theoryOf counts chars subs) w q f levels levels′ ends l₀ l r lq o enough long splits opened v
+
+  pub started : Midway counts chars subs bases w chart levels′ 1 l r
+  started =
+      record {
+        walkable = h;
+        root = q;
+        rootWanted = cell-wanted h q (getD counts q 0) 0 (length w) lq (omega arith) (omega arith) (omega arith) (omega arith);
+        before = l₀;
+        writing = started-writing;
+      }
+
+-- a tree that still is being written
+pub midway-still : {counts chars subs bases w chart levels : List ℕ} {n : ℕ} {l : List ℕ} {r : ℕ} (levels′ : List ℕ) (n′ : ℕ) (l′ : List ℕ) (r′ : ℕ) → Midway counts chars subs bases w chart levels n l r
+    → StillWriting (theoryOf counts chars subs) w levels n l r levels′ n′ l′ r′ → Midway counts chars subs bases w chart levels′ n′ l′ r′
+midway-still levels′ n′ l′ r′ h still = record { walkable = h .walkable; root = h .root; rootWanted = h .rootWanted; before = h .before; writing = still (h .root) (h .before) (h .writing) }
+
+-- no room is left, or no level is open
+pub out-of-room : (g : Grammar) (w levels : List ℕ) (n : ℕ) (l : List ℕ) (r : ℕ) (levels′ : List ℕ) (n′ : ℕ) (l′ : List ℕ) (r′ : ℕ) → StillWriting g w levels n l r levels′ n′ l′ r′ → room l′ < r′
+    → WrittenOut g w levels n l r l′ r′
+out-of-room g w levels n l r levels′ n′ l′ r′ still h q l₀ s =
+    let t = still q l₀ s in
+    writing-over g w q l₀ levels′ n′ l′ r′ t (omega (arith, t .written .next, written-room (t .done) l₀ l′ 0 r′ (t .written)))
+
+pub all-closed : (g : Grammar) (w levels : List ℕ) (n : ℕ) (l : List ℕ) (r : ℕ) (levels′ : List ℕ) (n′ : ℕ) (l′ : List ℕ) (r′ : ℕ) → StillWriting g w levels n l r levels′ n′ l′ r′ → n′ ≡ 0
+    → WrittenOut g w levels n l r l′ r′
+all-closed g w levels n l r levels′ n′ l′ r′ still e q l₀ s = writing-all g w q l₀ levels′ n′ l′ r′ (still q l₀ s) e
