@@ -62,14 +62,14 @@ declared-turned (l ∷ ls) k x y e = ap₂ _||_ (covers-turned l k x y e) (decla
 -- of a declaration of kind k: it holds either way round exactly if its number is not that of "higher"
 way-number : (n : ℕ) (k : Kind) → (eqb n (kindNumber k) && eitherWay k) ≡ (eqb n (kindNumber k) && not (eqb n (kindNumber higher)))
 unfolding kindNumber eitherWay
-way-number n higher = never (eqb n 1)
+way-number n higher = never (eqb n (kindNumber higher))
   where
     never : (v : Bool) → (v && false) ≡ (v && not v)
     never true = refl
     never false = refl
-way-number n left = elim (ℕ-discrete n 2) [ yes e ↦ rw e refl | no e ↦ rw (ne-eqb n 2 e) refl ]
-way-number n right = elim (ℕ-discrete n 3) [ yes e ↦ rw e refl | no e ↦ rw (ne-eqb n 3 e) refl ]
-way-number n nonassoc = elim (ℕ-discrete n 4) [ yes e ↦ rw e refl | no e ↦ rw (ne-eqb n 4 e) refl ]
+way-number n left = elim (ℕ-discrete n (kindNumber left)) [ yes e ↦ rw e refl | no e ↦ rw (ne-eqb n (kindNumber left) e) refl ]
+way-number n right = elim (ℕ-discrete n (kindNumber right)) [ yes e ↦ rw e refl | no e ↦ rw (ne-eqb n (kindNumber right) e) refl ]
+way-number n nonassoc = elim (ℕ-discrete n (kindNumber nonassoc)) [ yes e ↦ rw e refl | no e ↦ rw (ne-eqb n (kindNumber nonassoc) e) refl ]
 
 -- the pair as it is written, and turned round unless the number is that of "higher"
 covers-number : (l : Declaration) (k : Kind) (x y : ℕ)

@@ -6,10 +6,11 @@
 use chart::layout::ROW_LIMIT;
 use chart::sums::capped;
 use chart::sums::larger;
+use common::either;
 use grammar::layout::wide;
 use grammar::limits::PRODUCTION_LIMIT;
 ghost use mathlib.Core.Path.{_≡_};
-ghost use mathlib.Core.Bool.{Bool, true, false, _||_};
+ghost use mathlib.Core.Bool.{Bool, true, false};
 ghost use mathlib.Core.List.{List};
 ghost use Prim.Native.Nat.{ℕ, _+_, _*_, _<_, _≤_, min, max};
 ghost use lib.ListN.{length, getD};
@@ -30,12 +31,6 @@ fn smaller(a: u8, b: u8) -> u8
         return a;
     }
     b
-}
-
-pub fn either(a: bool, b: bool) -> bool
-    ensures { λ r. ⌜ r ≡ (a || b) ⌝ }
-{
-    a || b
 }
 
 // What the equation of a cell gives: the inner splits, the split at the start, and the split at the end.
