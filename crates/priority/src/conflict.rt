@@ -72,6 +72,7 @@ pub fn ask(
     give_back(is_conflict(entry_at(higher, p, q), book, p, i, q), higher)
 }
 
+// The answer and the table in one value.
 fn give_back(conflict: bool, higher: [[bool; PRODUCTION_LIMIT]; PRODUCTION_LIMIT]) -> Asked
     ensures { λ r. ⌜ (r .conflict ≡ conflict) × (r .higher ≡ higher) ⌝ }
 {
@@ -104,6 +105,7 @@ fn is_conflict(above: bool, book: &[u8], p: usize, i: usize, q: usize) -> bool
     false
 }
 
+// One entry of a table.
 fn entry_at(pairs: [[bool; PRODUCTION_LIMIT]; PRODUCTION_LIMIT], p: usize, q: usize) -> bool
     requires { ⌜ (p < productionLimit) × (q < productionLimit) ⌝ }
     ensures { λ r. ⌜ r ≡ entry pairs p q ⌝ }
