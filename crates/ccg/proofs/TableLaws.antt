@@ -22,11 +22,11 @@ use Rattle.grammar.specs.Check.{namesArgument}
 use Rattle.grammar.specs.Formed.{Framed, WellFormed}
 use Rattle.grammar.specs.Layout.{sorts, productions, classes, argumentCount, result, argument}
 use Rattle.grammar.specs.Limits.{productionLimit}
-use Rattle.priority.proofs.ConflictLaws.{right-associated, left-associated, fits-result}
+use Rattle.priority.proofs.ConflictLaws.{fits-result}
 use Rattle.priority.proofs.PriorityLaws.{table-higher}
 use Rattle.priority.specs.Chain.{entry}
-use Rattle.priority.specs.Conflict.{fits, isFirst, isLast, associated, barred, conflicts, isThere}
-use Rattle.priority.specs.Priorities.{Higher}
+use Rattle.priority.specs.Conflict.{fits, isFirst, isLast, rightOrNonassoc, leftOrNonassoc, barred, conflicts, isThere}
+use Rattle.priority.specs.Priorities.{left, right, nonassoc, kindNumber, DeclaredPairs, Higher}
 
 -- ---- one entry
 
@@ -143,14 +143,14 @@ unfolding barred isFirst isLast
 barred-row b p i count above firsts lasts r e q = rw (r .higherRow q, r .firstRow q, r .lastRow q, e) refl
 
 pub barring-rows : (b : List ℕ) → WellFormed b → (above firsts lasts : List (List Bool)) → ((x y : ℕ) → (entry above x y ≡ true) ↔ Higher b x y)
-    → ((x y : ℕ) → entry firsts x y ≡ associated b 3 x y) → ((x y : ℕ) → entry lasts x y ≡ associated b 2 x y)
+    → DeclaredPairs b (kindNumber right) (kindNumber nonassoc) firsts → DeclaredPairs b (kindNumber left) (kindNumber nonassoc) lasts
     → (p : ℕ) → BarringRows b p (getD above p []) (getD firsts p []) (getD lasts p [])
-unfolding entry
+unfolding entry rightOrNonassoc leftOrNonassoc
 barring-rows b w above firsts lasts h f l p =
     record {
       higherRow = λ q. table-higher b w above h p q;
-      firstRow = λ q. f p q ∙ sym (right-associated b p q);
-      lastRow = λ q. l p q ∙ sym (left-associated b p q);
+      firstRow = f right nonassoc refl refl p;
+      lastRow = l left nonassoc refl refl p;
     }
 
 -- ---- one production more

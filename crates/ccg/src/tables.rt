@@ -1,5 +1,6 @@
 // The flat tables: for each production and argument the characters and the productions that may stand there.
 use charset::CharSet;
+use common::both;
 use grammar::layout::argument_count;
 use grammar::layout::bodies_at;
 use grammar::layout::class_at;
@@ -11,9 +12,9 @@ use grammar::limits::CLASS_BASE;
 use grammar::limits::HEADER_LENGTH;
 use grammar::limits::PRODUCTION_LIMIT;
 use priority::LEFT;
+use priority::NONASSOC;
 use priority::RIGHT;
-use priority::both;
-use priority::conflict::associations;
+use priority::declared_pairs;
 use priority::joined;
 use priority::priorities;
 ghost use mathlib.Core.Path.{_≡_};
@@ -189,8 +190,8 @@ pub fn flatten(book: &[u8], counts: &mut [u8], chars: &mut [u64], subs: &mut [u8
     ensures { λ _. ⌜ FlatTables (now (book .entry)) (now (counts .exit)) (now (chars .exit)) (now (subs .exit)) ⌝ }
 {
     let above = priorities(book);
-    let firsts = associations(book, RIGHT);
-    let lasts = associations(book, LEFT);
+    let firsts = declared_pairs(book, RIGHT, NONASSOC);
+    let lasts = declared_pairs(book, LEFT, NONASSOC);
     let sorts = results(book);
     let count = production_count(book);
     let mut at = bodies_at(book);

@@ -1,7 +1,7 @@
 -- Laws of sums and tests over the numbers below a bound.
 use Prim.Native.Nat.{ℕ, zero, suc, _+_, _*_, _≤_, _<_}
 use mathlib.Core.Path.{_≡_, refl, sym, _∙_, ap, ap₂, subst}
-use mathlib.Core.Bool.{Bool, false, true, _||_, false≢true, and-false, or-true, or-false, or-assoc}
+use mathlib.Core.Bool.{Bool, false, true, _||_, false≢true, and-false, or-true}
 use mathlib.Core.Logic.{_≢_, _⊎_, inl, inr, ⊎-elim, by-cases}
 use native.Mathlib.Omega.{arith}
 use native.Mathlib.Decide.{ℕ-discrete, decLt}
@@ -164,21 +164,3 @@ pub all-made : (f : ℕ → Bool) (n : ℕ) → ((i : ℕ) → i < n → f i ≡
 unfolding allBelow
 all-made f zero h = refl
 all-made f (suc n) h = and-both (allBelow n f) (f n) (all-made f n (λ i l. h i (omega arith))) (h n (omega arith))
-
--- ---- tests that agree
-
-pub any-or : (f g : ℕ → Bool) (n : ℕ) → (anyBelow n f || anyBelow n g) ≡ anyBelow n (λ i. f i || g i)
-unfolding anyBelow
-any-or f g zero = refl
-any-or f g (suc n) = swapped (anyBelow n f) (f n) (anyBelow n g) (g n) ∙ ap (λ (b : Bool). b || (f n || g n)) (any-or f g n)
-  where
-    swapped : (a b c d : Bool) → ((a || b) || (c || d)) ≡ ((a || c) || (b || d))
-    swapped true b c d = refl
-    swapped false true true d = refl
-    swapped false true false d = refl
-    swapped false false c d = sym (or-assoc c false d) ∙ ap (λ (x : Bool). x || d) (or-false c)
-
-pub any-same : (f g : ℕ → Bool) (n : ℕ) → ((i : ℕ) → i < n → f i ≡ g i) → anyBelow n f ≡ anyBelow n g
-unfolding anyBelow
-any-same f g zero h = refl
-any-same f g (suc n) h = rw (any-same f g n (λ i l. h i (omega arith)), h n (omega arith)) refl

@@ -3,8 +3,8 @@
 use chart::layout::ROW_LIMIT;
 use chart::layout::row_count;
 use chart::sums::zero_row;
+use common::either;
 use grammar::layout::wide;
-use span::either;
 use span::settle;
 use span::spread;
 ghost use mathlib.Core.Path.{_≡_};

@@ -8,6 +8,7 @@ use Rattle.ccg.specs.Trees.{isClass, classHas}
 use Rattle.charset.specs.Set.{inRange}
 use Rattle.chart.specs.Layout.{rowCount, spanCount}
 use Rattle.common.specs.Below.{sumBelow, allBelow, anyBelow}
+use Rattle.common.specs.Lists.{tabulate}
 use Rattle.grammar.specs.Check.{shortHeader, headerBytes, badHeader, shortContents, badArgumentCount, badRangeCount, badLength, namesArgument, badArgument, badProduction, badRange, declarationBytes, badDeclaration, sameProduction, repeatedProduction}
 use Rattle.grammar.specs.Layout.{argumentCount, rangeCount, productionAt, result, argument, classAt, low, high, declarationAt, kind, first, second, neededLength}
 use Rattle.grammar.specs.Verdict.{firstRefusal}
@@ -19,7 +20,7 @@ use Rattle.parse.specs.Outcome.{needed, tooLong, tooShort, refusal}
 use Rattle.priority.specs.Chain.{through}
 use Rattle.priority.specs.Check.{circle, checked}
 use Rattle.priority.specs.Conflict.{isSort, fits, isFirst, isLast, rightOrNonassoc, leftOrNonassoc, barred, conflicts}
-use Rattle.priority.specs.Priorities.{kindNumber, namesPair, coversPair, covers, declared, isHigher}
+use Rattle.priority.specs.Priorities.{kindNumber, eitherWay, namesPair, covers, declaredIn, declarationOf, declarationsOf, isHigher}
 use Rattle.theory.specs.Steps.{charEntry, argumentSum, splitSum}
 use Rattle.theory.specs.Tree.{Tree, leaf, node, none, _▷_, yield, listing}
 
@@ -110,7 +111,7 @@ shown =
     ∷ []
 
 tested : tableTest shown ≡ true
-unfolding tableTest caseTest tests every same allBytes occurrences grammarOf derives parses chartOf emptyTest stepTest parseSum accepts refuses splitSum argumentSum charEntry listing yield sumBelow allBelow anyBelow refusal tooLong tooShort needed rowCount spanCount checked circle isHigher through declared covers kindNumber coversPair namesPair isSort fits isFirst isLast rightOrNonassoc leftOrNonassoc barred conflicts mayStand isClass classHas inRange argumentCount rangeCount productionAt result argument classAt low high declarationAt kind first second neededLength shortHeader headerBytes badHeader shortContents badArgumentCount badRangeCount badLength namesArgument badArgument badProduction badRange declarationBytes badDeclaration sameProduction repeatedProduction firstRefusal
+unfolding tableTest caseTest tests every same allBytes occurrences grammarOf derives parses chartOf emptyTest stepTest parseSum accepts refuses splitSum argumentSum charEntry listing yield sumBelow allBelow anyBelow tabulate refusal tooLong tooShort needed rowCount spanCount checked circle isHigher through declaredIn declarationsOf declarationOf covers kindNumber eitherWay namesPair isSort fits isFirst isLast rightOrNonassoc leftOrNonassoc barred conflicts mayStand isClass classHas inRange argumentCount rangeCount productionAt result argument classAt low high declarationAt kind first second neededLength shortHeader headerBytes badHeader shortContents badArgumentCount badRangeCount badLength namesArgument badArgument badProduction badRange declarationBytes badDeclaration sameProduction repeatedProduction firstRefusal
 tested = refl
 
 pub marked-cases : All Statement table

@@ -47,13 +47,13 @@ module _ (n : ℕ) (t : List (List Bool)) (f s : ℕ) (v : Bool) (q : Square n t
         ];
       }
 
-  pub entry-put-same : entry (set t f (set (getD t f []) s v)) f s ≡ v
+  entry-put-same : entry (set t f (set (getD t f []) s v)) f s ≡ v
   unfolding entry
   entry-put-same =
       rw (getD-set-same t f (set (getD t f []) s v) [] (omega (arith, q .rows)))
       (getD-set-same (getD t f []) s v false (omega (arith, q .columns f hf)))
 
-  pub entry-put-other : (x y : ℕ) → ((x ≡ f) × (y ≡ s) → ⊥) → entry (set t f (set (getD t f []) s v)) x y ≡ entry t x y
+  entry-put-other : (x y : ℕ) → ((x ≡ f) × (y ≡ s) → ⊥) → entry (set t f (set (getD t f []) s v)) x y ≡ entry t x y
   unfolding entry
   entry-put-other x y h =
       elim (ℕ-discrete x f) [

@@ -4,11 +4,10 @@ use mathlib.Core.Path.{_≡_}
 use mathlib.Core.Bool.{Bool, false, true, cond, _&&_, _||_}
 use mathlib.Core.List.{List}
 use lib.Dec.{leb, ltb, eqb}
-use Rattle.common.specs.Below.{anyBelow}
-use Rattle.grammar.specs.Layout.{sorts, productions, declarations, argumentCount, result, argument, kind}
+use Rattle.grammar.specs.Layout.{sorts, productions, argumentCount, result, argument}
 use Rattle.grammar.specs.Verdict.{unlessRefused}
 use Rattle.priority.specs.Check.{checked}
-use Rattle.priority.specs.Priorities.{left, right, nonassoc, kindNumber, namesPair, declared, Higher, isHigher}
+use Rattle.priority.specs.Priorities.{left, right, nonassoc, declared, Higher, isHigher}
 use Rattle.priority.specs.declared.ConflictAnswer.{ConflictAnswer}
 use Rattle.priority.specs.declared.ConflictAnswer.the-variants.{Yes, No, Refused}
 
@@ -33,13 +32,6 @@ rightOrNonassoc b x y = declared b right x y || declared b nonassoc x y
 
 unfoldable pub leftOrNonassoc : List ℕ → ℕ → ℕ → Bool
 leftOrNonassoc b x y = declared b left x y || declared b nonassoc x y
-
--- The same for the number of a side, read off the declarations in one pass.
-unfoldable pub associates : List ℕ → ℕ → ℕ → ℕ → ℕ → Bool
-associates b side d x y = (eqb (kind b d) side || eqb (kind b d) (kindNumber nonassoc)) && (namesPair b d x y || namesPair b d y x)
-
-unfoldable pub associated : List ℕ → ℕ → ℕ → ℕ → Bool
-associated b side x y = anyBelow (declarations b) (λ d. associates b side d x y)
 
 -- Production q as argument i of production p matches one of the patterns of Definition 2.6, a constructor to a rule.
 pub data Conflict (b : List ℕ) (p i q : ℕ) : Type 0 where

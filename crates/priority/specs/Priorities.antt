@@ -1,12 +1,12 @@
 -- Priority declarations (000, Definition 2.5; 01's ranks) as a grammar's bytes state them.
 use Prim.Native.Nat.{ℕ, _<_}
 use mathlib.Core.Path.{_≡_}
-use mathlib.Core.Bool.{Bool, true, _&&_, _||_}
-use mathlib.Core.List.{List}
+use mathlib.Core.Bool.{Bool, false, true, _&&_, _||_}
+use mathlib.Core.List.{List, [], _∷_}
 use lib.Dec.{eqb}
-use Rattle.common.specs.Below.{anyBelow}
+use Rattle.common.specs.Lists.{tabulate}
 use Rattle.grammar.specs.Layout.{productions, declarations, kind, first, second}
-use Rattle.priority.specs.Chain.{Chain, through}
+use Rattle.priority.specs.Chain.{Chain, through, entry}
 
 -- The four kinds; `nonassoc` is 01's "not together".
 pub data Kind : Type 0 where
@@ -19,28 +19,55 @@ kindNumber left = 2
 kindNumber right = 3
 kindNumber nonassoc = 4
 
--- Declaration d names x first and y second.
-unfoldable pub namesPair : List ℕ → ℕ → ℕ → ℕ → Bool
-namesPair b d x y = eqb (first b d) x && eqb (second b d) y
+-- The kinds that hold either way round.
+unfoldable pub eitherWay : Kind → Bool
+eitherWay higher = false
+eitherWay left = true
+eitherWay right = true
+eitherWay nonassoc = true
 
--- Declaration d covers the pair (x, y): "higher" as it is written, the other kinds both ways round.
-unfoldable pub coversPair : List ℕ → ℕ → Kind → ℕ → ℕ → Bool
-coversPair b d higher x y = namesPair b d x y
-coversPair b d left x y = namesPair b d x y || namesPair b d y x
-coversPair b d right x y = namesPair b d x y || namesPair b d y x
-coversPair b d nonassoc x y = namesPair b d x y || namesPair b d y x
+-- A declaration (a line of 01's ranks): its kind's number, and the two productions in the order in which it names them.
+pub record Declaration : Type 0 where
+  pub kind : ℕ
+  pub first : ℕ
+  pub second : ℕ
 
--- Declaration d covers the pair (x, y) with kind k.
-unfoldable pub covers : List ℕ → ℕ → Kind → ℕ → ℕ → Bool
-covers b d k x y = eqb (kind b d) (kindNumber k) && coversPair b d k x y
+-- It names x first and y second.
+unfoldable pub namesPair : Declaration → ℕ → ℕ → Bool
+namesPair l x y = eqb (l .first) x && eqb (l .second) y
 
--- Some declaration covers the pair (x, y) with kind k.
-unfoldable pub declared : List ℕ → Kind → ℕ → ℕ → Bool
-declared b k x y = anyBelow (declarations b) (λ d. covers b d k x y)
+-- It covers the pair (x, y) with kind k: its kind is k, and it names the pair so, or the other way round if k holds either way.
+unfoldable pub covers : Declaration → Kind → ℕ → ℕ → Bool
+covers l k x y = eqb (l .kind) (kindNumber k) && (namesPair l x y || eitherWay k && namesPair l y x)
 
--- x is higher than y: a chain of declared pairs leads from x to y.
+-- Some declaration of the list covers the pair (x, y) with kind k.
+unfoldable pub declaredIn : List Declaration → Kind → ℕ → ℕ → Bool
+declaredIn [] k x y = false
+declaredIn (l ∷ ls) k x y = covers l k x y || declaredIn ls k x y
+
+-- By these declarations x is higher than y: a chain of declared pairs leads from x to y.
+abbrev pub HigherIn : List Declaration → ℕ → ℕ → Type 0
+HigherIn ls = Chain (declaredIn ls higher)
+
+-- Declaration d of a grammar, and all of them.
+unfoldable pub declarationOf : List ℕ → ℕ → Declaration
+declarationOf b d = record { kind = kind b d; first = first b d; second = second b d }
+
+unfoldable pub declarationsOf : List ℕ → List Declaration
+declarationsOf b = tabulate (declarations b) (declarationOf b)
+
+-- The pair (x, y) is declared with kind k.
+abbrev pub declared : List ℕ → Kind → ℕ → ℕ → Bool
+declared b = declaredIn (declarationsOf b)
+
+-- The table holds the pairs declared with the kind of one number or with that of the other.
+abbrev pub DeclaredPairs : List ℕ → ℕ → ℕ → List (List Bool) → Type 0
+DeclaredPairs b kind also table =
+    (k k′ : Kind) → kind ≡ kindNumber k → also ≡ kindNumber k′ → (x y : ℕ) → entry table x y ≡ (declared b k x y || declared b k′ x y)
+
+-- x is higher than y.
 abbrev pub Higher : List ℕ → ℕ → ℕ → Type 0
-Higher b = Chain (declared b higher)
+Higher b = HigherIn (declarationsOf b)
 
 -- The same, as a test.
 unfoldable pub isHigher : List ℕ → ℕ → ℕ → Bool

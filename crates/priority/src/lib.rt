@@ -1,6 +1,8 @@
 // Priorities: "higher" closed under transitivity in a table of yes-or-no entries, and the whole check of a grammar.
 pub mod conflict;
 
+use common::both;
+use common::either;
 use grammar::Verdict;
 use grammar::check::check_bodies;
 use grammar::check::check_frame;
@@ -10,17 +12,15 @@ use grammar::layout::declaration_count;
 use grammar::layout::production_count;
 use grammar::limits::PRODUCTION_LIMIT;
 ghost use mathlib.Core.Path.{_≡_};
-ghost use mathlib.Core.Bool.{Bool, true, false, _&&_, _||_};
+ghost use mathlib.Core.Bool.{true, false, _&&_, _||_};
 ghost use mathlib.Core.Logic.{_↔_};
-ghost use mathlib.Core.List.{List};
 ghost use Prim.Native.Nat.{ℕ, _<_, _≤_};
 ghost use lib.ListN.{getD};
 ghost use Rattle.grammar.specs.Limits.{productionLimit};
-ghost use Rattle.grammar.specs.Layout.{productions};
-ghost use Rattle.grammar.specs.Formed.{Framed, WellFormed};
+ghost use Rattle.grammar.specs.Formed.{WellFormed};
 ghost use Rattle.grammar.specs.Verdict.{firstRefusal};
 ghost use Rattle.priority.specs.Chain.{Chain, entry, Square};
-ghost use Rattle.priority.specs.Priorities.{Higher, declared, higher};
+ghost use Rattle.priority.specs.Priorities.{DeclaredPairs, Higher};
 ghost use Rattle.priority.specs.Check.{checked, onDiagonal};
 
 // 01's numbers of the kinds of declaration.
@@ -38,6 +38,12 @@ pub enum ConflictAnswer {
     No,
     // The refusal's number and its place.
     Refused(usize, usize),
+}
+
+// What asking over the closed priorities gives: the answer, and the priorities as they were passed.
+pub struct Asked {
+    pub conflict: bool,
+    pub higher: [[bool; PRODUCTION_LIMIT]; PRODUCTION_LIMIT],
 }
 
 // The operation "checking a grammar" (01's checking a book): accepted, or refused with number 1 to 9 and place.
@@ -60,7 +66,7 @@ pub fn priorities(book: &[u8]) -> [[bool; PRODUCTION_LIMIT]; PRODUCTION_LIMIT]
     requires { ⌜ WellFormed (now book) ⌝ }
     ensures { λ r. ⌜ ((x y : ℕ) → (entry r x y ≡ true) ↔ Higher (now (book .entry)) x y) ⌝ }
 {
-    closed(declared_higher(book), production_count(book))
+    closed(declared_pairs(book, HIGHER, HIGHER), production_count(book))
 }
 
 // 9: the lowest production higher than itself.
@@ -78,19 +84,27 @@ fn check_circles(table: [[bool; PRODUCTION_LIMIT]; PRODUCTION_LIMIT], count: usi
     Verdict::Accepted
 }
 
-// The pairs that declarations of kind 1 name.
-fn declared_higher(book: &[u8]) -> [[bool; PRODUCTION_LIMIT]; PRODUCTION_LIMIT]
+// The pairs that declarations of kind `kind` or `also` cover: "higher" as it is written, the other kinds both ways round.
+pub fn declared_pairs(
+    book: &[u8],
+    kind: usize,
+    also: usize,
+) -> [[bool; PRODUCTION_LIMIT]; PRODUCTION_LIMIT]
     requires { ⌜ WellFormed (now book) ⌝ }
-    ensures { λ r. ⌜ ((x y : ℕ) → entry r x y ≡ declared (now (book .entry)) higher x y) ⌝ }
+    ensures { λ r. ⌜ DeclaredPairs (now (book .entry)) kind also r ⌝ }
 {
     let mut table = no_pairs();
     let count = declaration_count(book);
     let mut at = declaration_at(book, 0);
     let mut d = 0;
     while d < count {
+        let own = byte_at(book, at);
         let first = byte_at(book, at + 1);
         let second = byte_at(book, at + 2);
-        table[first][second] = either(table[first][second], byte_at(book, at) == HIGHER);
+        let written = either(own == kind, own == also);
+        let turned = both(written, own != HIGHER);
+        table[first][second] = either(table[first][second], written);
+        table[second][first] = either(table[second][first], turned);
         at += 3;
         d += 1;
     }
@@ -102,18 +116,6 @@ fn no_pairs() -> [[bool; PRODUCTION_LIMIT]; PRODUCTION_LIMIT]
     ensures { λ r. ⌜ ((x y : ℕ) → entry r x y ≡ false) ⌝ }
 {
     [[false; PRODUCTION_LIMIT]; PRODUCTION_LIMIT]
-}
-
-fn either(a: bool, b: bool) -> bool
-    ensures { λ r. ⌜ r ≡ (a || b) ⌝ }
-{
-    a || b
-}
-
-pub fn both(a: bool, b: bool) -> bool
-    ensures { λ r. ⌜ r ≡ (a && b) ⌝ }
-{
-    a && b
 }
 
 // The closure of a table whose true entries stand in its first `count` rows: an entry is true exactly if a chain of true entries leads there.

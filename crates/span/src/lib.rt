@@ -6,10 +6,11 @@
 use chart::layout::ROW_LIMIT;
 use chart::sums::capped;
 use chart::sums::larger;
+use common::either;
 use grammar::layout::wide;
 use grammar::limits::PRODUCTION_LIMIT;
 ghost use mathlib.Core.Path.{_≡_};
-ghost use mathlib.Core.Bool.{Bool, true, false, _||_};
+ghost use mathlib.Core.Bool.{Bool, true, false};
 ghost use mathlib.Core.List.{List};
 ghost use Prim.Native.Nat.{ℕ, _+_, _*_, _<_, _≤_, max};
 ghost use lib.ListN.{length, getD};
@@ -22,12 +23,6 @@ ghost use Rattle.span.specs.Tables.{spanOf, advanced, Exact, Founded, Li
 pub const USERS: usize = PRODUCTION_LIMIT * ROW_LIMIT;
 // The length of the table of uses.
 pub const USES: usize = PRODUCTION_LIMIT * PRODUCTION_LIMIT;
-
-pub fn either(a: bool, b: bool) -> bool
-    ensures { λ r. ⌜ r ≡ (a || b) ⌝ }
-{
-    a || b
-}
 
 // What the equation of a cell gives: the inner splits, the split at the start, and the split at the end.
 fn step(inner: u8, front: u8, argument: u8, prefix: u8, back: u8) -> u8

@@ -6,6 +6,7 @@ use Rattle.ccg.proofs.TableLaws.{barring-rows, ProductionsWritten, prod
 use Rattle.grammar.proofs.FormedLaws.{production-in, bodies-in}
 use Rattle.grammar.proofs.LayoutLaws.{production-first, production-next}
 use Rattle.grammar.specs.Layout.{sorts, productions, argumentCount, productionAt}
+use Rattle.priority.specs.Priorities.{kindNumber}
 use Rattle.ccg.proofs.tables.flatten.Statement.{statement}
 use Rattle.ccg.proofs.tables.flatten.Tie as tie
 
@@ -18,11 +19,11 @@ abbrev μ-loop : tie.MeasureT-loop
 priorities-requires : tie.Need-priorities-requires Inv-loop μ-loop
 priorities-requires c κs = c .before .before .before .before .pre .0
 
-associations-requires : tie.Need-associations-requires Inv-loop μ-loop
-associations-requires c κs = c .before .before .before .before .before .pre .0
+declared-pairs-requires : tie.Need-declared-pairs-requires Inv-loop μ-loop
+declared-pairs-requires c κs = c .before .before .before .before .before .pre .0
 
-associations-requires-2 : tie.Need-associations-requires-2 Inv-loop μ-loop
-associations-requires-2 c κs = c .before .before .before .before .before .before .pre .0
+declared-pairs-requires-2 : tie.Need-declared-pairs-requires-2 Inv-loop μ-loop
+declared-pairs-requires-2 c κs = c .before .before .before .before .before .before .pre .0
 
 results-requires : tie.Need-results-requires Inv-loop μ-loop
 results-requires c κs = c .before .before .before .before .before .before .before .pre .0
@@ -57,7 +58,8 @@ array-copy-out-write-production-3 : tie.Need-array-copy-out-write-production-3 I
 array-copy-out-write-production-3 c = omega (arith, c .before .before .before .before .before .production-count .ensures, c .before .before .before .before .before .before .before .before .before .before .before .before .before .before .pre .0 .framed .fewProductions)
 
 write-production-requires : tie.Need-write-production-requires Inv-loop μ-loop
-write-production-requires c κs = (c .before .before .before .before .before .before .before .before .before .before .before .before .before .before .before .before .before .pre .0, ((omega (arith, c .before .before .before .before .before .before .before .before .production-count .ensures), c .before .before .before .before .before .before .loop .inv .1 .0), ((c .before .before .before .before .before .before .loop .inv .0 .charsLong, c .before .before .before .before .before .before .loop .inv .0 .subsLong), (barring-rows (c .before .before .before .before .before .before .before .before .before .before .before .before .before .before .before .before .before .args .book .now) (c .before .before .before .before .before .before .before .before .before .before .before .before .before .before .before .before .before .pre .0) (c .before .before .before .before .before .before .before .before .before .before .before .before .priorities .result) (c .before .before .before .before .before .before .before .before .before .before .before .associations .result) (c .before .before .before .before .before .before .before .before .before .before .associations2 .result) (c .before .before .before .before .before .before .before .before .before .before .before .before .priorities .ensures) (c .before .before .before .before .before .before .before .before .before .before .before .associations .ensures) (c .before .before .before .before .before .before .before .before .before .before .associations2 .ensures) (c .before .before .before .before .before .before .loop .p), c .before .before .before .before .before .before .before .before .before .results .ensures))))
+unfolding kindNumber
+write-production-requires c κs = (c .before .before .before .before .before .before .before .before .before .before .before .before .before .before .before .before .before .pre .0, ((omega (arith, c .before .before .before .before .before .before .before .before .production-count .ensures), c .before .before .before .before .before .before .loop .inv .1 .0), ((c .before .before .before .before .before .before .loop .inv .0 .charsLong, c .before .before .before .before .before .before .loop .inv .0 .subsLong), (barring-rows (c .before .before .before .before .before .before .before .before .before .before .before .before .before .before .before .before .before .args .book .now) (c .before .before .before .before .before .before .before .before .before .before .before .before .before .before .before .before .before .pre .0) (c .before .before .before .before .before .before .before .before .before .before .before .before .priorities .result) (c .before .before .before .before .before .before .before .before .before .before .before .declared-pairs .result) (c .before .before .before .before .before .before .before .before .before .before .declared-pairs2 .result) (c .before .before .before .before .before .before .before .before .before .before .before .before .priorities .ensures) (c .before .before .before .before .before .before .before .before .before .before .before .declared-pairs .ensures) (c .before .before .before .before .before .before .before .before .before .before .declared-pairs2 .ensures) (c .before .before .before .before .before .before .loop .p), c .before .before .before .before .before .before .before .before .before .results .ensures))))
 
 add-counts : tie.Need-add-counts Inv-loop μ-loop
 add-counts c = omega (arith, c .before .before .before .before .before .before .before .before .before .before .before .before .before .production-count .ensures, c .before .before .before .before .before .before .before .before .before .before .before .before .before .before .before .before .before .before .before .before .before .before .pre .0 .framed .fewProductions)
@@ -112,8 +114,8 @@ flatten-spec =
     Inv-loop
     μ-loop
     priorities-requires
-    associations-requires
-    associations-requires-2
+    declared-pairs-requires
+    declared-pairs-requires-2
     results-requires
     production-count-requires
     bodies-at-requires

@@ -39,20 +39,20 @@ returns-3 c =
 priorities-requires : tie.Need-priorities-requires
 priorities-requires c κs = search needs
 
-is-conflict-requires : tie.Need-is-conflict-requires
-is-conflict-requires c κs = ((c .before .before .before .before .before .before .before .before .pre), (c .priorities .ensures, (omega (arith, c .before .before .before .before .before .before .production-count .ensures), omega (arith, c .before .before .before .before .argument-count .ensures), omega (arith, c .before .before .production-count2 .ensures))))
+ask-requires : tie.Need-ask-requires
+ask-requires c κs = ((c .before .before .before .before .before .before .before .before .pre), (c .priorities .ensures, (omega (arith, c .before .before .before .before .before .before .production-count .ensures), omega (arith, c .before .before .before .before .argument-count .ensures), omega (arith, c .before .before .production-count2 .ensures))))
 
 returns-4 : tie.Need-returns-4
 unfolding isThere
 returns-4 c =
     let b = c .before .before .before .before .before .before .before .before .before .before .args .book .now in
-    rw (lt-ltb (c .before .before .before .before .before .before .before .before .before .before .args .p) (productions b) (omega (arith, c .before .before .before .before .before .before .before .before .production-count .ensures)), lt-ltb (c .before .before .before .before .before .before .before .before .before .before .args .i) (argumentCount b (c .before .before .before .before .before .before .before .before .before .before .args .p)) (omega (arith, c .before .before .before .before .before .before .argument-count .ensures)), lt-ltb (c .before .before .before .before .before .before .before .before .before .before .args .q) (productions b) (omega (arith, c .before .before .before .before .production-count2 .ensures)), ← (c .before .is-conflict .ensures), c .if4 .taken) refl
+    rw (lt-ltb (c .before .before .before .before .before .before .before .before .before .before .args .p) (productions b) (omega (arith, c .before .before .before .before .before .before .before .before .production-count .ensures)), lt-ltb (c .before .before .before .before .before .before .before .before .before .before .args .i) (argumentCount b (c .before .before .before .before .before .before .before .before .before .before .args .p)) (omega (arith, c .before .before .before .before .before .before .argument-count .ensures)), lt-ltb (c .before .before .before .before .before .before .before .before .before .before .args .q) (productions b) (omega (arith, c .before .before .before .before .production-count2 .ensures)), ← (c .before .ask .ensures .0), c .if4 .taken) refl
 
 returns-5 : tie.Need-returns-5
 unfolding isThere
 returns-5 c =
     let b = c .before .before .before .before .before .before .before .before .before .before .args .book .now in
-    rw (lt-ltb (c .before .before .before .before .before .before .before .before .before .before .args .p) (productions b) (omega (arith, c .before .before .before .before .before .before .before .before .production-count .ensures)), lt-ltb (c .before .before .before .before .before .before .before .before .before .before .args .i) (argumentCount b (c .before .before .before .before .before .before .before .before .before .before .args .p)) (omega (arith, c .before .before .before .before .before .before .argument-count .ensures)), lt-ltb (c .before .before .before .before .before .before .before .before .before .before .args .q) (productions b) (omega (arith, c .before .before .before .before .production-count2 .ensures)), ← (c .before .is-conflict .ensures), c .if4 .left) refl
+    rw (lt-ltb (c .before .before .before .before .before .before .before .before .before .before .args .p) (productions b) (omega (arith, c .before .before .before .before .before .before .before .before .production-count .ensures)), lt-ltb (c .before .before .before .before .before .before .before .before .before .before .args .i) (argumentCount b (c .before .before .before .before .before .before .before .before .before .before .args .p)) (omega (arith, c .before .before .before .before .before .before .argument-count .ensures)), lt-ltb (c .before .before .before .before .before .before .before .before .before .before .args .q) (productions b) (omega (arith, c .before .before .before .before .production-count2 .ensures)), ← (c .before .ask .ensures .0), c .if4 .left) refl
 
 pub answer-spec : {M : Type 1} → statement M
 answer-spec =
@@ -65,6 +65,6 @@ answer-spec =
     production-count-requires-2
     returns-3
     priorities-requires
-    is-conflict-requires
+    ask-requires
     returns-4
     returns-5)

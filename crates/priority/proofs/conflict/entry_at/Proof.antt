@@ -1,9 +1,9 @@
--- `is_associated` meets its contract.
+-- `entry_at` meets its contract.
 use mathlib.Core.Path.{refl}
 use borrow.Author.Needs.{needs}
 use Rattle.priority.specs.Chain.{entry}
-use Rattle.priority.proofs.conflict.is_associated.Statement.{statement}
-use Rattle.priority.proofs.conflict.is_associated.Tie as tie
+use Rattle.priority.proofs.conflict.entry_at.Statement.{statement}
+use Rattle.priority.proofs.conflict.entry_at.Tie as tie
 
 mul-result : tie.Need-mul-result
 mul-result c = search needs
@@ -18,5 +18,5 @@ returns : tie.Need-returns
 unfolding entry
 returns c = refl
 
-pub is-associated-spec : {M : Type 1} → statement M
-is-associated-spec = tie.close (tie.spec mul-result index-1-result index-2-result returns)
+pub entry-at-spec : {M : Type 1} → statement M
+entry-at-spec = tie.close (tie.spec mul-result index-1-result index-2-result returns)

@@ -1,0 +1,137 @@
+-- Laws of lists of declarations: what one more covers, in the list and in a table of pairs.
+use Prim.Native.Nat.{ℕ, zero, suc, _+_, _<_}
+use mathlib.Core.Path.{_≡_, refl, sym, _∙_, ap, ap₂}
+use mathlib.Core.Bool.{Bool, false, true, not, _&&_, _||_, false≢true, and-comm, or-self, or-false, or-comm, or-assoc}
+use mathlib.Core.List.{List, [], _∷_, _++_}
+use mathlib.Core.Logic.{⊎-elim}
+use native.Mathlib.Omega.{arith}
+use native.Mathlib.Decide.{ℕ-discrete}
+use lib.Dec.{eqb}
+use lib.ListN.{getD, set}
+use borrow.Author.Tests.{ne-eqb}
+use Rattle.common.proofs.BoolLaws.{or-cases}
+use Rattle.common.proofs.ListLaws.{tabulate-next}
+use Rattle.common.specs.Lists.{tabulate}
+use Rattle.priority.proofs.TableLaws.{square-put, entry-put-or}
+use Rattle.priority.specs.Chain.{entry, Square}
+use Rattle.priority.specs.Priorities.{Kind, higher, left, right, nonassoc, kindNumber, eitherWay, Declaration, namesPair, covers, declaredIn}
+
+-- ---- lists
+
+pub declared-none : (k : Kind) (x y : ℕ) → declaredIn [] k x y ≡ false
+unfolding declaredIn
+declared-none k x y = refl
+
+declared-append : (ls ms : List Declaration) (k : Kind) (x y : ℕ) → declaredIn (ls ++ ms) k x y ≡ (declaredIn ls k x y || declaredIn ms k x y)
+unfolding declaredIn
+declared-append [] ms k x y = refl
+declared-append (l ∷ ls) ms k x y =
+    ap (λ (v : Bool). covers l k x y || v) (declared-append ls ms k x y) ∙ sym (or-assoc (covers l k x y) (declaredIn ls k x y) (declaredIn ms k x y))
+
+declared-one : (l : Declaration) (k : Kind) (x y : ℕ) → declaredIn (l ∷ []) k x y ≡ covers l k x y
+unfolding declaredIn
+declared-one l k x y = or-false (covers l k x y)
+
+-- one declaration more
+pub declared-next : (n : ℕ) (f : ℕ → Declaration) (k : Kind) (x y : ℕ) → declaredIn (tabulate (n + 1) f) k x y ≡ (declaredIn (tabulate n f) k x y || covers (f n) k x y)
+declared-next n f k x y =
+    rw (tabulate-next n f, declared-append (tabulate n f) (f n ∷ []) k x y, declared-one (f n) k x y) refl
+
+-- the declaration that covers a declared pair
+pub declared-found : (n : ℕ) (f : ℕ → Declaration) (k : Kind) (x y : ℕ) → declaredIn (tabulate n f) k x y ≡ true → (d : ℕ) × (d < n) × (covers (f d) k x y ≡ true)
+unfolding tabulate
+declared-found zero f k x y e = absurd (false≢true (sym (declared-none k x y) ∙ e))
+declared-found (suc n) f k x y e =
+    ⊎-elim
+    (λ a. let (d, l, h) = declared-found n f k x y a in (d, omega arith, h))
+    (λ a. (n, omega arith, sym (declared-one (f n) k x y) ∙ a))
+    (or-cases (declaredIn (tabulate n f) k x y) (declaredIn (f n ∷ []) k x y) (sym (declared-append (tabulate n f) (f n ∷ []) k x y) ∙ e))
+
+-- a kind that holds either way round covers a pair as it covers the pair turned
+covers-turned : (l : Declaration) (k : Kind) (x y : ℕ) → eitherWay k ≡ true → covers l k x y ≡ covers l k y x
+unfolding covers
+covers-turned l k x y e = rw e (ap (λ (v : Bool). eqb (l .kind) (kindNumber k) && v) (or-comm (namesPair l x y) (namesPair l y x)))
+
+pub declared-turned : (ls : List Declaration) (k : Kind) (x y : ℕ) → eitherWay k ≡ true → declaredIn ls k x y ≡ declaredIn ls k y x
+unfolding declaredIn
+declared-turned [] k x y e = refl
+declared-turned (l ∷ ls) k x y e = ap₂ _||_ (covers-turned l k x y e) (declared-turned ls k x y e)
+
+-- ---- kinds by their numbers
+
+-- of a declaration of kind k: it holds either way round exactly if its number is not that of "higher"
+way-number : (n : ℕ) (k : Kind) → (eqb n (kindNumber k) && eitherWay k) ≡ (eqb n (kindNumber k) && not (eqb n (kindNumber higher)))
+unfolding kindNumber eitherWay
+way-number n higher = never (eqb n (kindNumber higher))
+  where
+    never : (v : Bool) → (v && false) ≡ (v && not v)
+    never true = refl
+    never false = refl
+way-number n left = elim (ℕ-discrete n (kindNumber left)) [ yes e ↦ rw e refl | no e ↦ rw (ne-eqb n (kindNumber left) e) refl ]
+way-number n right = elim (ℕ-discrete n (kindNumber right)) [ yes e ↦ rw e refl | no e ↦ rw (ne-eqb n (kindNumber right) e) refl ]
+way-number n nonassoc = elim (ℕ-discrete n (kindNumber nonassoc)) [ yes e ↦ rw e refl | no e ↦ rw (ne-eqb n (kindNumber nonassoc) e) refl ]
+
+-- the pair as it is written, and turned round unless the number is that of "higher"
+covers-number : (l : Declaration) (k : Kind) (x y : ℕ)
+    → covers l k x y ≡ (eqb (l .kind) (kindNumber k) && (namesPair l x y || not (eqb (l .kind) (kindNumber higher)) && namesPair l y x))
+unfolding covers
+covers-number l k x y =
+    same (eqb (l .kind) (kindNumber k)) (eitherWay k) (not (eqb (l .kind) (kindNumber higher))) (namesPair l x y) (namesPair l y x) (way-number (l .kind) k)
+  where
+    same : (v e g m n : Bool) → (v && e) ≡ (v && g) → (v && (m || e && n)) ≡ (v && (m || g && n))
+    same true e g m n h = ap (λ (w : Bool). m || w && n) h
+    same false e g m n h = refl
+
+-- ---- a table that takes up one declaration more
+
+either-kind : (v w g m n : Bool) → ((v || w) && m || ((v || w) && g) && n) ≡ (v && (m || g && n) || w && (m || g && n))
+either-kind true true g m n = sym (or-self (m || g && n))
+either-kind true false g m n = sym (or-false (m || g && n))
+either-kind false w g m n = spread w g m n
+  where
+    spread : (w g m n : Bool) → (w && m || (w && g) && n) ≡ (w && (m || g && n))
+    spread true g m n = refl
+    spread false g m n = refl
+
+-- what code marks for a declaration is what it covers with the one kind or the other
+marks-covered : (l : Declaration) (k k′ : Kind) (x y : ℕ) (written turned : Bool)
+    → written ≡ (eqb (l .kind) (kindNumber k) || eqb (l .kind) (kindNumber k′))
+    → turned ≡ (written && not (eqb (l .kind) (kindNumber higher)))
+    → (written && namesPair l x y || turned && namesPair l y x) ≡ (covers l k x y || covers l k′ x y)
+marks-covered l k k′ x y written turned e f =
+    rw (f, e, covers-number l k x y, covers-number l k′ x y)
+    (either-kind (eqb (l .kind) (kindNumber k)) (eqb (l .kind) (kindNumber k′)) (not (eqb (l .kind) (kindNumber higher))) (namesPair l x y) (namesPair l y x))
+
+-- two lists, each with one test more
+or-swapped : (a b c d : Bool) → ((a || c) || (b || d)) ≡ ((a || b) || (c || d))
+or-swapped true b c d = refl
+or-swapped false b true d = or-comm true b
+or-swapped false b false d = refl
+
+turned-pair : (a v w f₁ s₁ f₂ s₂ : Bool) → ((a || v && (f₁ && s₁)) || w && (s₂ && f₂)) ≡ (a || (v && (f₁ && s₁) || w && (f₂ && s₂)))
+turned-pair a v w f₁ s₁ f₂ s₂ =
+    or-assoc a (v && (f₁ && s₁)) (w && (s₂ && f₂)) ∙ ap (λ (z : Bool). a || (v && (f₁ && s₁) || w && z)) (and-comm s₂ f₂)
+
+module _ (n d : ℕ) (f : ℕ → Declaration) (t : List (List Bool)) (q : Square n t) (hf : f d .first < n) (hs : f d .second < n) (k k′ : Kind)
+    (now : (x y : ℕ) → entry t x y ≡ (declaredIn (tabulate d f) k x y || declaredIn (tabulate d f) k′ x y))
+    (written turned v w : Bool) (ew : written ≡ (eqb (f d .kind) (kindNumber k) || eqb (f d .kind) (kindNumber k′)))
+    (et : turned ≡ (written && not (eqb (f d .kind) (kindNumber higher)))) where
+  abbrev once : List (List Bool)
+  once = set t (f d .first) (set (getD t (f d .first) []) (f d .second) v)
+
+  -- the table with the declaration's pair written, and the pair turned round
+  pub pairs-more : v ≡ (entry t (f d .first) (f d .second) || written) → w ≡ (entry once (f d .second) (f d .first) || turned) → (x y : ℕ)
+      → entry (set once (f d .second) (set (getD once (f d .second) []) (f d .first) w)) x y ≡ (declaredIn (tabulate (d + 1) f) k x y || declaredIn (tabulate (d + 1) f) k′ x y)
+  unfolding namesPair
+  pairs-more e₁ e₂ x y =
+      let l = f d in
+      let s = square-put n t (l .first) (l .second) v q hf hs in
+      let one = entry-put-or n t (l .first) (l .second) v written q hf hs e₁ x y in
+      let two = entry-put-or n once (l .second) (l .first) w turned s hs hf e₂ x y in
+      let old = declaredIn (tabulate d f) k x y in
+      let old′ = declaredIn (tabulate d f) k′ x y in
+      two ∙ ap (λ (z : Bool). z || turned && (eqb (l .second) x && eqb (l .first) y)) (one ∙ ap (λ (z : Bool). z || written && (eqb (l .first) x && eqb (l .second) y)) (now x y))
+      ∙ turned-pair (old || old′) written turned (eqb (l .first) x) (eqb (l .second) y) (eqb (l .first) y) (eqb (l .second) x)
+      ∙ ap (λ (z : Bool). (old || old′) || z) (marks-covered l k k′ x y written turned ew et)
+      ∙ or-swapped old (covers l k x y) old′ (covers l k′ x y)
+      ∙ sym (ap₂ _||_ (declared-next d f k x y) (declared-next d f k′ x y))
