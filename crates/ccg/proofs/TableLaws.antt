@@ -3,24 +3,23 @@ use Prim.Native.Nat.{ℕ, _+_, _-_, _*_, _/_, _%_, _≤_, _<_}
 use mathlib.Core.Path.{_≡_, refl, sym, _∙_, ap, subst⁻¹}
 use mathlib.Core.Bool.{Bool, false, true, cond, not, _&&_, _||_, and-false}
 use mathlib.Core.List.{List, []}
-use mathlib.Core.Logic.{_↔_, ⊎-elim, by-cases}
+use mathlib.Core.Logic.{_↔_, by-cases}
 use native.Mathlib.Omega.{arith}
 use native.Mathlib.Decide.{ℕ-discrete, decLt}
 use lib.Dec.{leb, ltb, eqb}
 use lib.ListN.{length, getD, set, length-set, List·getD-eq-default}
 use lib.Seq.{getD-set-same, getD-set-other}
-use borrow.Author.Tests.{ltb-true, lt-ltb, le-ltb, eq-eqb, ne-eqb}
+use borrow.Author.Tests.{lt-ltb, le-ltb, eq-eqb, ne-eqb}
 use Rattle.ccg.specs.Flat.{mayStand}
 use Rattle.ccg.specs.Tables.{slot, tableMay, tableHas, tableCount, subAt, wordAt, slotHas, charWords, subBytes, ZeroTables, FlatTables, FewArguments, ArgumentsWritten, BarringRows, Results}
-use Rattle.ccg.specs.Trees.{isClass, classHas}
 use Rattle.charset.proofs.BitLaws.{bit-zero}
 use Rattle.charset.specs.Set.{characters, bit, has}
-use Rattle.common.proofs.BoolLaws.{or-cases, and-second-true}
 use Rattle.common.specs.Below.{bitOf}
 use Rattle.common.specs.Region.{Region}
-use Rattle.grammar.specs.Check.{namesArgument}
-use Rattle.grammar.specs.Formed.{Framed, WellFormed}
-use Rattle.grammar.specs.Layout.{sorts, productions, classes, argumentCount, result, argument}
+use Rattle.grammar.proofs.ClassesLaws.{argument-below}
+use Rattle.grammar.specs.Classes.{isClass, classHas}
+use Rattle.grammar.specs.Formed.{WellFormed}
+use Rattle.grammar.specs.Layout.{productions, argumentCount, result, argument}
 use Rattle.grammar.specs.Limits.{productionLimit}
 use Rattle.priority.proofs.ConflictLaws.{right-associated, left-associated, fits-result}
 use Rattle.priority.proofs.PriorityLaws.{table-higher}
@@ -38,18 +37,7 @@ may-barred false v = refl
 eqb-sym : (m n : ℕ) → eqb m n ≡ eqb n m
 eqb-sym m n = elim (ℕ-discrete m n) [ yes e ↦ rw (eq-eqb m n e, eq-eqb n m (sym e)) refl | no e ↦ rw (ne-eqb m n e, ne-eqb n m (λ q. e (sym q))) refl ]
 
-named-below : (b : List ℕ) (x : ℕ) → Framed b → namesArgument b x ≡ true → x < 64 + classes b
-unfolding namesArgument
-named-below b x f e =
-    ⊎-elim
-    (λ a. omega (arith, ltb-true x (sorts b) a, f .fewSorts))
-    (λ a. ltb-true x (64 + classes b) (and-second-true (leb 64 x) (ltb x (64 + classes b)) a))
-    (or-cases (ltb x (sorts b)) (leb 64 x && ltb x (64 + classes b)) e)
-
 module _ (b : List ℕ) (w : WellFormed b) (p i : ℕ) (lp : p < productions b) (li : i < argumentCount b p) where
-  pub argument-below : argument b p i < 64 + classes b
-  argument-below = named-below b (argument b p i) (w .framed) (w .argumentNamed p i lp li)
-
   may-there : (q : ℕ) → q < productions b → tableMay b p i q ≡ (eqb (result b q) (argument b p i) && not (barred b p i q))
   unfolding tableMay isThere mayStand conflicts
   may-there q lq =
@@ -64,7 +52,7 @@ module _ (b : List ℕ) (w : WellFormed b) (p i : ℕ) (lp : p < productions b) 
   may-entry results bars x q r e v l =
       by-cases (decLt q (productions b))
       (λ m. rw (r .there q m, e, v, may-there q m) refl)
-      (λ m. rw (r .missing q (omega arith) l, may-missing q (omega arith), ne-eqb 255 x (λ z. omega (arith, argument-below, w .framed .fewClasses))) refl)
+      (λ m. rw (r .missing q (omega arith) l, may-missing q (omega arith), ne-eqb 255 x (λ z. omega (arith, argument-below b w p i lp li, w .framed .fewClasses))) refl)
 
   has-entry : (words : List ℕ) (x c : ℕ) → x ≡ argument b p i → c < characters → has words c ≡ (isClass b x && classHas b (x - 64) c) → has words c ≡ tableHas b p i c
   unfolding tableHas

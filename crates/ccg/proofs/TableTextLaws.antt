@@ -9,15 +9,16 @@ use native.Mathlib.Decide.{decLt}
 use lib.Dec.{leb, ltb, eqb}
 use lib.ListN.{getD}
 use borrow.Author.Tests.{leb-true, lt-ltb, le-ltb, le-leb, lt-leb}
-use Rattle.ccg.proofs.FlatLaws.{class-small, flat-of-class, flat-of-sort}
+use Rattle.ccg.proofs.FlatLaws.{flat-of-class, flat-of-sort}
 use Rattle.ccg.specs.Flat.{isProduction, mayStand, flatClass, flatLine, flatGrammar}
 use Rattle.ccg.specs.Tables.{slot, tableMay, tableHas, tableCount, subAt, slotHas, FlatTables, tableClass, slotLine, tableLine, tableGrammar}
 use Rattle.ccg.specs.Text.{grammarText}
-use Rattle.ccg.specs.Trees.{isClass, classHas}
 use Rattle.charset.specs.Set.{characters}
 use Rattle.common.proofs.BoolLaws.{and-first-true, true-or-false}
 use Rattle.common.proofs.ListLaws.{tabulate-same}
 use Rattle.common.specs.Below.{bitOf}
+use Rattle.grammar.proofs.ClassesLaws.{class-character}
+use Rattle.grammar.specs.Classes.{isClass, classHas}
 use Rattle.grammar.specs.Formed.{WellFormed}
 use Rattle.grammar.specs.Layout.{sorts, productions, classes, argumentCount, argument}
 use Rattle.grammar.specs.Limits.{classBase}
@@ -63,7 +64,7 @@ module _ (b : List ℕ) (w : WellFormed b) (bytes : (k : ℕ) → getD b k 0 < c
   class-no-production : (n : ℕ) → characters ≤ n → classHas b (argument b p i - classBase) n ≡ false
   class-no-production n l =
       ⊎-elim
-      (λ e. absurd (omega (arith, class-small b bytes (argument b p i - classBase) n e)))
+      (λ e. absurd (omega (arith, class-character b bytes (argument b p i - classBase) n e)))
       (λ e. e)
       (true-or-false (classHas b (argument b p i - classBase) n))
 

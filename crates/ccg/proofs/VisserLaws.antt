@@ -9,20 +9,9 @@ use native.Mathlib.Decide.{ℕ-discrete}
 use lib.Dec.{eqb}
 use lib.ListN.{getD}
 use borrow.Author.Tests.{eqb-true, lt-ltb, le-ltb, le-leb, lt-leb, eq-eqb, ne-eqb}
-use Rattle.ccg.proofs.FlatLaws.{
-  is-production,
-  production-there,
-  production-is,
-  production-of-number,
-  sort-no-class,
-  class-small,
-  flat-of-class,
-  flat-of-sort,
-  flat-no-conflict,
-}
+use Rattle.ccg.proofs.FlatLaws.{is-production, production-there, production-is, production-of-number, flat-of-class, flat-of-sort, flat-no-conflict}
 use Rattle.ccg.specs.Ccg.{Class, Line, noLine, noClass}
 use Rattle.ccg.specs.Flat.{isProduction, mayStand, flatClass, flatLine, flatGrammar}
-use Rattle.ccg.specs.Trees.{isClass, classHas}
 use Rattle.ccg.specs.Visser.{
   nums,
   contextFreeClass,
@@ -42,6 +31,8 @@ use Rattle.charset.specs.Set.{characters}
 use Rattle.common.proofs.BoolLaws.{and-first-true, and-second-true, same-test, true-or-false}
 use Rattle.common.proofs.ListLaws.{getD-tabulate, tabulate-same}
 use Rattle.common.specs.Lists.{tabulate}
+use Rattle.grammar.proofs.ClassesLaws.{sort-no-class, class-character}
+use Rattle.grammar.specs.Classes.{isClass, classHas}
 use Rattle.grammar.specs.Formed.{WellFormed}
 use Rattle.grammar.specs.Layout.{productions, argumentCount, result, argument}
 use Rattle.grammar.specs.Limits.{classBase}
@@ -118,7 +109,7 @@ module _ (b : List ℕ) (p i n : ℕ) where
 module _ (b : List ℕ) (w : WellFormed b) (bytes : (k : ℕ) → getD b k 0 < characters) (p i : ℕ) where
   -- a class argument has no number of a production
   class-apart : (n : ℕ) → classHas b (argument b p i - classBase) n ≡ true → isProduction b n ≡ true → ⊥
-  class-apart n has e = omega (arith, production-is b n e, class-small b bytes (argument b p i - classBase) n has)
+  class-apart n has e = omega (arith, production-is b n e, class-character b bytes (argument b p i - classBase) n has)
 
   -- the class of a sort argument is nums without what is barred
   flat-barred : (n : ℕ) → isClass b (argument b p i) ≡ false

@@ -7,10 +7,10 @@ use lib.Dec.{leb, ltb, eqb}
 use lib.ListN.{length, getD}
 use Rattle.ccg.specs.Ccg.{Line}
 use Rattle.ccg.specs.Flat.{mayStand}
-use Rattle.ccg.specs.Trees.{isClass, classHas}
 use Rattle.charset.specs.Set.{characters, bit}
 use Rattle.common.specs.Below.{bitOf}
 use Rattle.common.specs.Lists.{tabulate}
+use Rattle.grammar.specs.Classes.{isClass, classHas}
 use Rattle.grammar.specs.Layout.{productions, argumentCount, result, argument}
 use Rattle.grammar.specs.Limits.{productionLimit, argumentLimit, classBase}
 use Rattle.priority.specs.Conflict.{rightOrNonassoc, leftOrNonassoc, isThere}

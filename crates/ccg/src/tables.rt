@@ -1,10 +1,9 @@
 // The flat tables: for each production and argument the characters and the productions that may stand there.
 use charset::CharSet;
+use grammar::classes::class_set;
 use grammar::layout::argument_count;
 use grammar::layout::bodies_at;
-use grammar::layout::class_at;
 use grammar::layout::production_count;
-use grammar::layout::range_count;
 use grammar::layout::wide;
 use grammar::limits::ARGUMENT_LIMIT;
 use grammar::limits::CLASS_BASE;
@@ -17,19 +16,18 @@ use priority::conflict::associations;
 use priority::joined;
 use priority::priorities;
 ghost use mathlib.Core.Path.{_≡_};
-ghost use mathlib.Core.Bool.{Bool, true, false, not, _&&_, _||_};
-ghost use mathlib.Core.List.{List};
+ghost use mathlib.Core.Bool.{false, not, _&&_, _||_};
 ghost use Prim.Native.Nat.{ℕ, _+_, _*_, _-_, _<_, _≤_};
-ghost use lib.Dec.{eqb, leb, ltb};
+ghost use lib.Dec.{eqb, leb};
 ghost use lib.ListN.{length, getD};
-ghost use Rattle.charset.specs.Set.{characters, has, inRange};
+ghost use Rattle.charset.specs.Set.{characters, has};
+ghost use Rattle.grammar.specs.Classes.{isClass, classHas};
 ghost use Rattle.grammar.specs.Limits.{productionLimit, classBase};
 ghost use Rattle.grammar.specs.Layout.{productions, classes, argumentCount, productionAt};
 ghost use Rattle.grammar.specs.Formed.{WellFormed};
 ghost use Rattle.common.specs.Below.{bitOf};
 ghost use Rattle.common.specs.Region.{Region};
-ghost use Rattle.ccg.specs.Trees.{isClass, classHas};
-ghost use Rattle.ccg.specs.Tables.{subAt, wordAt, slot, slotHas, Results, BarringRows, ArgumentsWritten, ZeroTables, FlatTables, slotWords, charWords, subBytes};
+ghost use Rattle.ccg.specs.Tables.{slotHas, Results, BarringRows, ArgumentsWritten, ZeroTables, FlatTables, slotWords, charWords, subBytes};
 
 // How many words hold the characters of a slot.
 pub const WORDS: usize = 4;
@@ -57,24 +55,6 @@ pub fn results(book: &[u8]) -> [u8; PRODUCTION_LIMIT]
         q += 1;
     }
     out
-}
-
-// The characters of class k.
-pub fn class_set(book: &[u8], k: usize) -> CharSet
-    requires { ⌜ WellFormed (now book) ⌝ }
-    requires { ⌜ k < classes (now book) ⌝ }
-    ensures { λ r. ⌜ ((c : ℕ) → c < characters → has (r .words) c ≡ classHas (now (book .entry)) k c) ⌝ }
-{
-    let mut set = CharSet::empty();
-    let count = range_count(book, k);
-    let at = class_at(book, k);
-    let mut r = 0;
-    while r < count {
-        let wider = set.insert_range(book[at + 2 * r], book[at + 2 * r + 1]);
-        set = wider;
-        r += 1;
-    }
-    set
 }
 
 // The characters that argument byte x lets stand: none if x is a sort.

@@ -1,11 +1,8 @@
 // Character classes: a set of bytes in four 64-bit words, and its normal ranges.
 // (01, "The book": a class of characters is a set of bytes held as one record.)
 ghost use mathlib.Core.Path.{_≡_};
-ghost use mathlib.Core.Bool.{Bool, false, _||_};
-ghost use mathlib.Core.List.{List};
+ghost use mathlib.Core.Bool.{false, _||_};
 ghost use Prim.Native.Nat.{ℕ, _+_, _-_, _<_, _≤_, min};
-ghost use lib.Dec.{eqb};
-ghost use lib.ListN.{getD};
 ghost use Rattle.charset.specs.Set.{characters, bit, has, inRange};
 ghost use Rattle.charset.specs.Runs.{runs, firstRun};
 ghost use Rattle.charset.specs.Sought.{Sought};

@@ -2,7 +2,7 @@
 use crate::limits::HEADER_LENGTH;
 ghost use mathlib.Core.Path.{_≡_};
 ghost use Prim.Native.Nat.{_+_, _<_, _≤_};
-ghost use lib.ListN.{length, getD};
+ghost use lib.ListN.{length};
 ghost use Rattle.grammar.specs.Limits.{headerLength};
 ghost use Rattle.grammar.specs.Layout.{byteAt, sorts, productions, classes, declarations, startSort, argumentCount, rangeCount, bodiesAt, productionAt, result, argument, classAt, low, high, declarationAt, kind, first, second};
 ghost use Rattle.grammar.specs.Formed.{Framed};

@@ -3,7 +3,7 @@ use Prim.Native.Nat.{_+_}
 use mathlib.Core.Path.{refl, sym, _∙_}
 use borrow.Author.Tests.{lt-ltb, le-leb, lt-leb}
 use borrow.Author.Needs.{needs}
-use Rattle.ccg.specs.Trees.{isClass}
+use Rattle.grammar.specs.Classes.{isClass}
 use Rattle.grammar.specs.Layout.{classes}
 use Rattle.ccg.proofs.tables.argument_set.Statement.{statement}
 use Rattle.ccg.proofs.tables.argument_set.Tie as tie

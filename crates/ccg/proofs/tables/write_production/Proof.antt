@@ -5,11 +5,12 @@ use mathlib.Core.Bool.{false, _&&_}
 use mathlib.Core.List.{List}
 use native.Mathlib.Omega.{arith}
 use lib.ListN.{getD, set}
-use Rattle.ccg.proofs.TableLaws.{argument-below, arguments-none, arguments-more, barred-row}
+use Rattle.ccg.proofs.TableLaws.{arguments-none, arguments-more, barred-row}
 use Rattle.ccg.specs.Tables.{charWords, subBytes, ArgumentsWritten}
-use Rattle.ccg.specs.Trees.{isClass, classHas}
 use Rattle.charset.specs.Set.{characters, has}
+use Rattle.grammar.proofs.ClassesLaws.{argument-below}
 use Rattle.grammar.proofs.FormedLaws.{production-in, bodies-in}
+use Rattle.grammar.specs.Classes.{isClass, classHas}
 use Rattle.grammar.specs.Formed.{WellFormed}
 use Rattle.grammar.specs.Layout.{productions, argumentCount, productionAt, argument}
 use Rattle.priority.specs.Conflict.{barred}

@@ -4,15 +4,15 @@ use mathlib.Core.Path.{_≡_, sym, _∙_, ap}
 use mathlib.Core.Bool.{Bool, _||_}
 use mathlib.Core.List.{List}
 use native.Mathlib.Omega.{arith}
-use lib.ListN.{getD, set}
-use Rattle.ccg.specs.Trees.{classHas}
+use lib.ListN.{getD}
 use Rattle.charset.specs.Set.{characters, has, inRange}
 use Rattle.common.proofs.BelowLaws.{any-none, any-next}
 use Rattle.common.specs.Below.{anyBelow}
 use Rattle.grammar.proofs.FormedLaws.{class-in, bodies-in}
+use Rattle.grammar.specs.Classes.{classHas}
 use Rattle.grammar.specs.Layout.{rangeCount, classAt, low, high}
-use Rattle.ccg.proofs.tables.class_set.Statement.{statement}
-use Rattle.ccg.proofs.tables.class_set.Tie as tie
+use Rattle.grammar.proofs.classes.class_set.Statement.{statement}
+use Rattle.grammar.proofs.classes.class_set.Tie as tie
 
 -- the characters of the ranges below r
 inRanges : List ℕ → ℕ → ℕ → ℕ → Bool
