@@ -1,5 +1,6 @@
 // The flat tables: for each production and argument the characters and the productions that may stand there.
 use charset::CharSet;
+use charset::SET_WORDS;
 use grammar::classes::class_set;
 use grammar::layout::argument_count;
 use grammar::layout::bodies_at;
@@ -29,12 +30,10 @@ ghost use Rattle.common.specs.Below.{bitOf};
 ghost use Rattle.common.specs.Region.{Region};
 ghost use Rattle.ccg.specs.Tables.{slotHas, Results, BarringRows, ArgumentsWritten, ZeroTables, FlatTables, slotWords, charWords, subBytes};
 
-// How many words hold the characters of a slot.
-pub const WORDS: usize = 4;
 // How many slots there are: an argument of a production is one.
 pub const SLOTS: usize = PRODUCTION_LIMIT * ARGUMENT_LIMIT;
 // The lengths of the tables.
-pub const CHAR_WORDS: usize = SLOTS * WORDS;
+pub const CHAR_WORDS: usize = SLOTS * SET_WORDS;
 
 pub const SUB_BYTES: usize = SLOTS * PRODUCTION_LIMIT;
 // Stands for the result of a production that isn't there; no argument byte is as large.
@@ -116,7 +115,7 @@ fn write_chars(chars: &mut [u64], base: usize, set: CharSet)
 {
     let words = set.words;
     let mut k = 0;
-    while k < WORDS {
+    while k < SET_WORDS {
         chars[base + k] = words[k];
         k += 1;
     }
@@ -155,7 +154,7 @@ fn write_production(
         );
         write_chars(
             chars,
-            (p * ARGUMENT_LIMIT + i) * WORDS,
+            (p * ARGUMENT_LIMIT + i) * SET_WORDS,
             argument_set(book, wide(x)),
         );
         i += 1;
@@ -198,5 +197,5 @@ pub fn slot_has(chars: &[u64], s: usize, c: u8) -> bool
     requires { ⌜ (s + 1) * slotWords ≤ length (now chars) ⌝ }
     ensures { λ r. ⌜ r ≡ slotHas (now (chars .entry)) s c ⌝ }
 {
-    (chars[s * WORDS + wide(c / 64)] >> (c % 64)) % 2 == 1
+    (chars[s * SET_WORDS + wide(c / 64)] >> (c % 64)) % 2 == 1
 }
