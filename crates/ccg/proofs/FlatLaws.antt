@@ -1,5 +1,5 @@
 -- The trees of the character class grammar of a grammar are the grammar's trees without a conflict.
-use Prim.Native.Nat.{ℕ, zero, suc, _+_, _-_, _≤_, _<_}
+use Prim.Native.Nat.{ℕ, zero, suc, _-_, _≤_, _<_}
 use mathlib.Core.Path.{_≡_, refl, sym, _∙_, ap, transport, subst}
 use mathlib.Core.Bool.{false, true, not, _&&_, and-false, and-assoc}
 use mathlib.Core.List.{List, [], _∷_, _++_}

@@ -201,7 +201,7 @@ line-text-short l h =
     rw (length-append (argumentsText (l .arguments)) (resultText (l .result)))
     (omega (arith, arguments-text-short (l .arguments), result-text-short (l .result)))
 
--- at most as many lines as there are productions, of at most as many arguments
+-- no more lines than there may be productions, and no more arguments in each than a production may have
 pub grammar-text-short : (g : List Line) → length g ≤ productionLimit → ((p : ℕ) → p < length g → length (getD g p noLine .arguments) ≤ argumentLimit) → length (grammarText g) ≤ grammarTextLimit
 unfolding grammarText
 grammar-text-short g h few =

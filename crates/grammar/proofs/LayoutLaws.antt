@@ -1,12 +1,12 @@
 -- Laws of the layout: each part begins where the one before ends, and all of them end at the length called for.
 use Prim.Native.Nat.{ℕ, _+_, _*_, _≤_, _<_}
-use mathlib.Core.Path.{_≡_}
+use mathlib.Core.Path.{_≡_, ap}
 use mathlib.Core.List.{List}
 use native.Mathlib.Omega.{arith}
 use Rattle.charset.specs.Set.{characters}
 use Rattle.common.proofs.BelowLaws.{sum-more, sum-bound, sum-grows, sum-double}
 use Rattle.common.specs.Below.{sumBelow}
-use Rattle.grammar.specs.Layout.{byteAt, productions, classes, declarations, argumentCountAt, rangeCountAt, argumentCount, rangeCount, bodiesAt, productionAt, classAt, declarationAt, neededLength}
+use Rattle.grammar.specs.Layout.{byteAt, productions, classes, declarations, argumentCountAt, rangeCountAt, argumentCount, rangeCount, bodiesAt, productionAt, classAt, low, high, declarationAt, neededLength}
 use Rattle.grammar.specs.Limits.{headerLength}
 
 -- ---- how far the parts can reach, whatever the bytes are
@@ -49,6 +49,15 @@ module _ (b : List ℕ) where
   pub declaration-next : (d : ℕ) → declarationAt b (d + 1) ≡ declarationAt b d + 3
   unfolding declarationAt
   declaration-next d = omega arith
+
+  -- the ends of a range of class k, read from where the class begins
+  pub low-read : (k at r : ℕ) → at ≡ classAt b k → byteAt b (at + 2 * r) ≡ low b k r
+  unfolding low
+  low-read k at r e = ap (λ (a : ℕ). byteAt b (a + 2 * r)) e
+
+  pub high-read : (k at r : ℕ) → at ≡ classAt b k → byteAt b (at + 2 * r + 1) ≡ high b k r
+  unfolding high
+  high-read k at r e = ap (λ (a : ℕ). byteAt b (a + 2 * r + 1)) e
 
   -- each part ends before the next one of its kind begins
   pub production-before : (p q : ℕ) → p < q → productionAt b p + (1 + argumentCount b p) ≤ productionAt b q
