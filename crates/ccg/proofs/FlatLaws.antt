@@ -1,5 +1,5 @@
 -- The trees of the character class grammar of a grammar are the grammar's trees without a conflict.
-use Prim.Native.Nat.{ℕ, zero, suc, _+_, _-_, _≤_, _<_}
+use Prim.Native.Nat.{ℕ, zero, suc, _-_, _≤_, _<_}
 use mathlib.Core.Path.{_≡_, refl, sym, _∙_, ap, transport, subst}
 use mathlib.Core.Bool.{false, true, not, _&&_, and-false, and-assoc}
 use mathlib.Core.List.{List, [], _∷_, _++_}
@@ -8,18 +8,19 @@ use native.Mathlib.Omega.{arith}
 use native.Mathlib.Decide.{decLt}
 use lib.Dec.{leb, ltb, eqb}
 use lib.ListN.{length, getD}
-use borrow.Author.Tests.{ltb-true, leb-true, eqb-true, not-true, lt-ltb, le-leb, lt-leb, eq-eqb, ne-eqb}
+use borrow.Author.Tests.{ltb-true, leb-true, eqb-true, not-true, lt-ltb, le-leb, eq-eqb, ne-eqb}
 use Rattle.ccg.proofs.ConflictFreeLaws.{conflict-free-argument, conflict-free-root, conflict-free-leaf, conflict-free-node}
 use Rattle.ccg.specs.Ccg.{Class, Line, noLine, noClass, isTerminal, Generated, Each}
 use Rattle.ccg.specs.Flat.{isProduction, mayStand, flatClass, flatLine, flatGrammar, plainClass}
-use Rattle.ccg.specs.Trees.{isClass, classHas, Built, Arguments, RootConflict, conflictAt, ConflictFree}
-use Rattle.charset.specs.Set.{characters, inRange}
-use Rattle.common.proofs.BelowLaws.{any-found}
+use Rattle.ccg.specs.Trees.{Built, Arguments, RootConflict, conflictAt, ConflictFree}
+use Rattle.charset.specs.Set.{characters}
 use Rattle.common.proofs.BoolLaws.{and-both, and-first-true, and-second-true, true-or-false, not-both}
 use Rattle.common.proofs.ListLaws.{length-tabulate, getD-tabulate}
 use Rattle.common.specs.Lists.{tabulate}
+use Rattle.grammar.proofs.ClassesLaws.{sort-no-class, class-character}
+use Rattle.grammar.specs.Classes.{isClass, classHas}
 use Rattle.grammar.specs.Formed.{WellFormed}
-use Rattle.grammar.specs.Layout.{sorts, productions, argumentCount, rangeCount, result, argument, rangeAt, low, high}
+use Rattle.grammar.specs.Layout.{productions, argumentCount, result, argument}
 use Rattle.grammar.specs.Limits.{classBase}
 use Rattle.priority.proofs.ConflictLaws.{fits-result, conflict-test}
 use Rattle.priority.specs.Conflict.{fits, Conflict, conflicts}
@@ -119,18 +120,6 @@ module _ (b : List ℕ) (n : ℕ) (e : isProduction b n ≡ true) where
 pub production-of-number : (q : ℕ) → productionNumber q - productionNumber 0 ≡ q
 production-of-number q = omega arith
 
--- a sort is no class
-pub sort-no-class : (b : List ℕ) → WellFormed b → (x : ℕ) → x < sorts b → isClass b x ≡ false
-unfolding isClass
-sort-no-class b w x l = rw (lt-leb classBase x (omega (arith, w .framed .fewSorts))) refl
-
--- the ends of a range are bytes, so the characters of a class are
-pub class-small : (b : List ℕ) → ((k : ℕ) → getD b k 0 < characters) → (k c : ℕ) → classHas b k c ≡ true → c < characters
-unfolding classHas inRange high
-class-small b bytes k c e =
-    let (r, l, h) = any-found (λ r. inRange (low b k r) (high b k r) c) (rangeCount b k) e in
-    omega (arith, leb-true c (high b k r) (and-second-true (leb (low b k r) c) (leb c (high b k r)) h), bytes (rangeAt b k r + 1))
-
 -- ---- what a class has
 
 module _ (b : List ℕ) (x n : ℕ) where
@@ -187,7 +176,7 @@ module _ (b : List ℕ) (w : WellFormed b) where
     number-no-class : (x q : ℕ) → (isClass b x ≡ true → classHas b (x - classBase) (productionNumber q) ≡ true) → isClass b x ≡ false
     number-no-class x q h =
         ⊎-elim
-        (λ c. absurd (omega (arith, class-small b bytes (x - classBase) (productionNumber q) (h c))))
+        (λ c. absurd (omega (arith, class-character b bytes (x - classBase) (productionNumber q) (h c))))
         (λ c. c)
         (true-or-false (isClass b x))
 
@@ -267,7 +256,7 @@ module _ (b : List ℕ) (w : WellFormed b) (bytes : (k : ℕ) → getD b k 0 < c
 
     built-generated : (t : Tree) (x : ℕ) → Built b x t → ConflictFree b t → Generated (flatGrammar b) (plainClass b x) t
     built-generated (leaf c) x h free =
-        (plain-of-class b x c (h .0) ∙ h .1, character-terminal b c (omega (arith, class-small b bytes (x - classBase) c (h .1))))
+        (plain-of-class b x c (h .0) ∙ h .1, character-terminal b c (omega (arith, class-character b bytes (x - classBase) c (h .1))))
     built-generated (node p f) x h free = (
       omega (arith, flat-length b, h .0),
       flat-result b p (h .0),

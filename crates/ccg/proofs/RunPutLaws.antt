@@ -13,8 +13,6 @@ use Rattle.charset.proofs.RunLaws.{runs-rest}
 use Rattle.charset.specs.Runs.{Range, range, runs, firstRun}
 use Rattle.charset.specs.declared.NextRun.the-variants.{Run, End}
 use Rattle.common.specs.Lists.{joined}
-use Rattle.grammar.specs.Layout.{low, high}
-use Rattle.theory.specs.Tree.{below}
 
 -- The ranges up to `from` are put; those from there on are left.
 pub record RunsPut (f : ℕ → Bool) (start limit : ℕ) (l₀ : List ℕ) (at from : ℕ) (l : List ℕ) (place : ℕ) : Type 0 where

@@ -3,25 +3,25 @@ use Prim.Native.Nat.{ℕ, _+_, _-_, _*_, _/_, _%_, _≤_, _<_}
 use mathlib.Core.Path.{_≡_, refl, sym, _∙_, ap, subst⁻¹}
 use mathlib.Core.Bool.{Bool, false, true, cond, not, _&&_, _||_, and-false}
 use mathlib.Core.List.{List, []}
-use mathlib.Core.Logic.{_↔_, ⊎-elim, by-cases}
+use mathlib.Core.Logic.{_↔_, by-cases}
 use native.Mathlib.Omega.{arith}
 use native.Mathlib.Decide.{ℕ-discrete, decLt}
 use lib.Dec.{leb, ltb, eqb}
 use lib.ListN.{length, getD, set, length-set, List·getD-eq-default}
 use lib.Seq.{getD-set-same, getD-set-other}
-use borrow.Author.Tests.{ltb-true, lt-ltb, le-ltb, eq-eqb, ne-eqb}
+use borrow.Author.Tests.{lt-ltb, le-ltb, ne-eqb}
 use Rattle.ccg.specs.Flat.{mayStand}
-use Rattle.ccg.specs.Tables.{slot, tableMay, tableHas, tableCount, subAt, wordAt, slotHas, charWords, subBytes, ZeroTables, FlatTables, FewArguments, ArgumentsWritten, BarringRows, Results}
-use Rattle.ccg.specs.Trees.{isClass, classHas}
+use Rattle.ccg.specs.Tables.{slot, tableMay, tableHas, tableCount, subAt, wordAt, slotHas, charWords, subBytes, ZeroTables, FlatTables, FewArguments, ArgumentsWritten, BarringRows, Results, slotWords, noSort}
 use Rattle.charset.proofs.BitLaws.{bit-zero}
-use Rattle.charset.specs.Set.{characters, bit, has}
-use Rattle.common.proofs.BoolLaws.{or-cases, and-second-true}
+use Rattle.charset.specs.Set.{characters, bit, has, wordBits}
+use Rattle.common.proofs.BoolLaws.{eqb-sym, taken-out}
 use Rattle.common.specs.Below.{bitOf}
 use Rattle.common.specs.Region.{Region}
-use Rattle.grammar.specs.Check.{namesArgument}
-use Rattle.grammar.specs.Formed.{Framed, WellFormed}
-use Rattle.grammar.specs.Layout.{sorts, productions, classes, argumentCount, result, argument}
-use Rattle.grammar.specs.Limits.{productionLimit}
+use Rattle.grammar.proofs.ClassesLaws.{argument-below}
+use Rattle.grammar.specs.Classes.{isClass, classHas}
+use Rattle.grammar.specs.Formed.{WellFormed}
+use Rattle.grammar.specs.Layout.{productions, argumentCount, result, argument}
+use Rattle.grammar.specs.Limits.{productionLimit, argumentLimit, classBase}
 use Rattle.priority.proofs.ConflictLaws.{fits-result}
 use Rattle.priority.proofs.PriorityLaws.{table-higher}
 use Rattle.priority.specs.Chain.{entry}
@@ -30,46 +30,27 @@ use Rattle.priority.specs.Priorities.{left, right, nonassoc, kindNumber, Declar
 
 -- ---- one entry
 
--- what conflicts with nothing it doesn't fit
-may-barred : (f v : Bool) → (f && not (f && v)) ≡ (f && not v)
-may-barred true v = refl
-may-barred false v = refl
-
-eqb-sym : (m n : ℕ) → eqb m n ≡ eqb n m
-eqb-sym m n = elim (ℕ-discrete m n) [ yes e ↦ rw (eq-eqb m n e, eq-eqb n m (sym e)) refl | no e ↦ rw (ne-eqb m n e, ne-eqb n m (λ q. e (sym q))) refl ]
-
-named-below : (b : List ℕ) (x : ℕ) → Framed b → namesArgument b x ≡ true → x < 64 + classes b
-unfolding namesArgument
-named-below b x f e =
-    ⊎-elim
-    (λ a. omega (arith, ltb-true x (sorts b) a, f .fewSorts))
-    (λ a. ltb-true x (64 + classes b) (and-second-true (leb 64 x) (ltb x (64 + classes b)) a))
-    (or-cases (ltb x (sorts b)) (leb 64 x && ltb x (64 + classes b)) e)
-
 module _ (b : List ℕ) (w : WellFormed b) (p i : ℕ) (lp : p < productions b) (li : i < argumentCount b p) where
-  pub argument-below : argument b p i < 64 + classes b
-  argument-below = named-below b (argument b p i) (w .framed) (w .argumentNamed p i lp li)
-
   may-there : (q : ℕ) → q < productions b → tableMay b p i q ≡ (eqb (result b q) (argument b p i) && not (barred b p i q))
   unfolding tableMay isThere mayStand conflicts
   may-there q lq =
-      rw (lt-ltb p (productions b) lp, lt-ltb i (argumentCount b p) li, lt-ltb q (productions b) lq, may-barred (fits b p i q) (barred b p i q), fits-result b w p i q lq, eqb-sym (argument b p i) (result b q)) refl
+      rw (lt-ltb p (productions b) lp, lt-ltb i (argumentCount b p) li, lt-ltb q (productions b) lq, taken-out (fits b p i q) (barred b p i q), fits-result b w p i q lq, eqb-sym (argument b p i) (result b q)) refl
 
   may-missing : (q : ℕ) → productions b ≤ q → tableMay b p i q ≡ false
   unfolding tableMay isThere
   may-missing q lq = rw (le-ltb q (productions b) lq, and-false (ltb p (productions b) && ltb i (argumentCount b p))) refl
 
-  may-entry : (results : List ℕ) (bars : List Bool) (x q : ℕ) → Results b results → x ≡ argument b p i → getD bars q false ≡ barred b p i q → q < 64
+  may-entry : (results : List ℕ) (bars : List Bool) (x q : ℕ) → Results b results → x ≡ argument b p i → getD bars q false ≡ barred b p i q → q < productionLimit
       → bitOf (eqb (getD results q 0) x && not (getD bars q false)) ≡ bitOf (tableMay b p i q)
   may-entry results bars x q r e v l =
       by-cases (decLt q (productions b))
       (λ m. rw (r .there q m, e, v, may-there q m) refl)
-      (λ m. rw (r .missing q (omega arith) l, may-missing q (omega arith), ne-eqb 255 x (λ z. omega (arith, argument-below, w .framed .fewClasses))) refl)
+      (λ m. rw (r .missing q (omega arith) l, may-missing q (omega arith), ne-eqb noSort x (λ z. omega (arith, argument-below b w p i lp li, w .framed .fewClasses))) refl)
 
-  has-entry : (words : List ℕ) (x c : ℕ) → x ≡ argument b p i → c < characters → has words c ≡ (isClass b x && classHas b (x - 64) c) → has words c ≡ tableHas b p i c
+  has-entry : (words : List ℕ) (x c : ℕ) → x ≡ argument b p i → c < characters → has words c ≡ (isClass b x && classHas b (x - classBase) c) → has words c ≡ tableHas b p i c
   unfolding tableHas
   has-entry words x c e l h =
-      rw (lt-ltb p (productions b) lp, lt-ltb i (argumentCount b p) li) (h ∙ ap (λ (y : ℕ). isClass b y && classHas b (y - 64) c) e)
+      rw (lt-ltb p (productions b) lp, lt-ltb i (argumentCount b p) li) (h ∙ ap (λ (y : ℕ). isClass b y && classHas b (y - classBase) c) e)
 
 -- ---- one slot more
 
@@ -94,25 +75,25 @@ WordEntry words k v = v ≡ getD words k 0
 
 module _ (b : List ℕ) (w : WellFormed b) (p i x : ℕ) (lp : p < productions b) (li : i < argumentCount b p) (ex : x ≡ argument b p i)
     (results : List ℕ) (bars : List Bool) (words : List ℕ) (rs : Results b results) (bs : (q : ℕ) → getD bars q false ≡ barred b p i q)
-    (ws : (c : ℕ) → c < characters → has words c ≡ (isClass b x && classHas b (x - 64) c))
+    (ws : (c : ℕ) → c < characters → has words c ≡ (isClass b x && classHas b (x - classBase) c))
     (chars₀ subs₀ chars subs chars′ subs′ : List ℕ) (a : ArgumentsWritten b p i chars₀ subs₀ chars subs)
-    (rc : Region (WordEntry words) 0 ((p * 8 + i) * 4) 4 chars chars′) (rb : Region (SubEntry results x bars) 0 ((p * 8 + i) * 64) 64 subs subs′) where
-  subs-here : (j q : ℕ) → j < i + 1 → q < 64 → getD subs′ (subAt (slot p j) q) 0 ≡ bitOf (tableMay b p j q)
+    (rc : Region (WordEntry words) 0 ((p * argumentLimit + i) * slotWords) slotWords chars chars′) (rb : Region (SubEntry results x bars) 0 ((p * argumentLimit + i) * productionLimit) productionLimit subs subs′) where
+  subs-here : (j q : ℕ) → j < i + 1 → q < productionLimit → getD subs′ (subAt (slot p j) q) 0 ≡ bitOf (tableMay b p j q)
   unfolding subAt slot
   subs-here j q h m =
       elim (ℕ-discrete j i) [
-        | yes e ↦ subst⁻¹ (λ (k : ℕ). getD subs′ ((p * 8 + k) * 64 + q) 0 ≡ bitOf (tableMay b p k q)) e (rb .inside q m ∙ may-entry b w p i lp li results bars x q rs ex (bs q) m)
-        | no e ↦ (rb .below ((p * 8 + j) * 64 + q) (omega arith) ∙ a .subsHere j q (omega arith) m)
+        | yes e ↦ subst⁻¹ (λ (k : ℕ). getD subs′ ((p * argumentLimit + k) * productionLimit + q) 0 ≡ bitOf (tableMay b p k q)) e (rb .inside q m ∙ may-entry b w p i lp li results bars x q rs ex (bs q) m)
+        | no e ↦ (rb .below ((p * argumentLimit + j) * productionLimit + q) (omega arith) ∙ a .subsHere j q (omega arith) m)
       ]
 
   word-here : (c : ℕ) → c < characters → slotHas chars′ (slot p i) c ≡ tableHas b p i c
   unfolding slotHas wordAt slot has
   word-here c l =
-      ap (λ (v : ℕ). bit v (c % 64)) (rc .inside (c / 64) (omega arith)) ∙ has-entry b w p i lp li words x c ex l (ws c l)
+      ap (λ (v : ℕ). bit v (c % wordBits)) (rc .inside (c / wordBits) (omega arith)) ∙ has-entry b w p i lp li words x c ex l (ws c l)
 
   word-below : (j c : ℕ) → j < i → c < characters → slotHas chars′ (slot p j) c ≡ slotHas chars (slot p j) c
   unfolding slotHas wordAt slot
-  word-below j c h l = ap (λ (v : ℕ). bit v (c % 64)) (rc .below ((p * 8 + j) * 4 + c / 64) (omega arith))
+  word-below j c h l = ap (λ (v : ℕ). bit v (c % wordBits)) (rc .below ((p * argumentLimit + j) * slotWords + c / wordBits) (omega arith))
 
   chars-here : (j c : ℕ) → j < i + 1 → c < characters → slotHas chars′ (slot p j) c ≡ tableHas b p j c
   chars-here j c h l =
@@ -178,9 +159,9 @@ pub record ProductionsWritten (b : List ℕ) (n : ℕ) (counts chars subs : List
   pub subsLong : length subs ≡ subBytes
   pub countsHere : (p : ℕ) → p < n → getD counts p 0 ≡ argumentCount b p
   pub countsRest : (k : ℕ) → n ≤ k → getD counts k 0 ≡ 0
-  pub charsHere : (p i c : ℕ) → p < n → i < 8 → c < characters → slotHas chars (slot p i) c ≡ tableHas b p i c
+  pub charsHere : (p i c : ℕ) → p < n → i < argumentLimit → c < characters → slotHas chars (slot p i) c ≡ tableHas b p i c
   pub charsRest : (k : ℕ) → wordAt (slot n 0) 0 ≤ k → getD chars k 0 ≡ 0
-  pub subsHere : (p i q : ℕ) → p < n → i < 8 → q < 64 → getD subs (subAt (slot p i) q) 0 ≡ bitOf (tableMay b p i q)
+  pub subsHere : (p i q : ℕ) → p < n → i < argumentLimit → q < productionLimit → getD subs (subAt (slot p i) q) 0 ≡ bitOf (tableMay b p i q)
   pub subsRest : (k : ℕ) → subAt (slot n 0) 0 ≤ k → getD subs k 0 ≡ 0
 
 pub productions-none : (b counts chars subs : List ℕ) → ZeroTables counts chars subs → ProductionsWritten b 0 counts chars subs
@@ -197,29 +178,29 @@ productions-none b counts chars subs z =
       subsRest = λ k l. z .subsZero k;
     }
 
-module _ (b : List ℕ) (n : ℕ) (small : n < 64) (counts chars subs chars′ subs′ : List ℕ) (few : argumentCount b n ≤ 8)
+module _ (b : List ℕ) (n : ℕ) (small : n < productionLimit) (counts chars subs chars′ subs′ : List ℕ) (few : argumentCount b n ≤ argumentLimit)
     (w : ProductionsWritten b n counts chars subs) (a : ArgumentsWritten b n (argumentCount b n) chars subs chars′ subs′) where
-  sub-here : (p i q : ℕ) → p < n + 1 → i < 8 → q < 64 → getD subs′ (subAt (slot p i) q) 0 ≡ bitOf (tableMay b p i q)
+  sub-here : (p i q : ℕ) → p < n + 1 → i < argumentLimit → q < productionLimit → getD subs′ (subAt (slot p i) q) 0 ≡ bitOf (tableMay b p i q)
   unfolding subAt slot
   sub-here p i q l m h =
       elim (ℕ-discrete p n) [
-        | no e ↦ (a .subsBelow ((p * 8 + i) * 64 + q) (omega arith) ∙ w .subsHere p i q (omega arith) m h)
-        | yes e ↦ subst⁻¹ (λ (k : ℕ). getD subs′ ((k * 8 + i) * 64 + q) 0 ≡ bitOf (tableMay b k i q)) e
+        | no e ↦ (a .subsBelow ((p * argumentLimit + i) * productionLimit + q) (omega arith) ∙ w .subsHere p i q (omega arith) m h)
+        | yes e ↦ subst⁻¹ (λ (k : ℕ). getD subs′ ((k * argumentLimit + i) * productionLimit + q) 0 ≡ bitOf (tableMay b k i q)) e
             (by-cases (decLt i (argumentCount b n))
             (λ j. a .subsHere i q j h)
-            (λ j. a .subsAbove ((n * 8 + i) * 64 + q) (omega arith) ∙ w .subsRest ((n * 8 + i) * 64 + q) (omega arith) ∙ sym (ap bitOf (no-argument-may b n i q (omega arith)))))
+            (λ j. a .subsAbove ((n * argumentLimit + i) * productionLimit + q) (omega arith) ∙ w .subsRest ((n * argumentLimit + i) * productionLimit + q) (omega arith) ∙ sym (ap bitOf (no-argument-may b n i q (omega arith)))))
       ]
 
-  rest-word : (i c : ℕ) → argumentCount b n ≤ i → i < 8 → c < characters → slotHas chars′ (slot n i) c ≡ false
+  rest-word : (i c : ℕ) → argumentCount b n ≤ i → i < argumentLimit → c < characters → slotHas chars′ (slot n i) c ≡ false
   unfolding slotHas wordAt slot
   rest-word i c j m h =
-      rw (a .charsAbove ((n * 8 + i) * 4 + c / 64) (omega arith), w .charsRest ((n * 8 + i) * 4 + c / 64) (omega arith)) (bit-zero (c % 64))
+      rw (a .charsAbove ((n * argumentLimit + i) * slotWords + c / wordBits) (omega arith), w .charsRest ((n * argumentLimit + i) * slotWords + c / wordBits) (omega arith)) (bit-zero (c % wordBits))
 
-  old-word : (p i c : ℕ) → p < n → i < 8 → c < characters → slotHas chars′ (slot p i) c ≡ slotHas chars (slot p i) c
+  old-word : (p i c : ℕ) → p < n → i < argumentLimit → c < characters → slotHas chars′ (slot p i) c ≡ slotHas chars (slot p i) c
   unfolding slotHas wordAt slot
-  old-word p i c l m h = ap (λ (v : ℕ). bit v (c % 64)) (a .charsBelow ((p * 8 + i) * 4 + c / 64) (omega arith))
+  old-word p i c l m h = ap (λ (v : ℕ). bit v (c % wordBits)) (a .charsBelow ((p * argumentLimit + i) * slotWords + c / wordBits) (omega arith))
 
-  char-here : (p i c : ℕ) → p < n + 1 → i < 8 → c < characters → slotHas chars′ (slot p i) c ≡ tableHas b p i c
+  char-here : (p i c : ℕ) → p < n + 1 → i < argumentLimit → c < characters → slotHas chars′ (slot p i) c ≡ tableHas b p i c
   char-here p i c l m h =
       elim (ℕ-discrete p n) [
         | no e ↦ (old-word p i c (omega arith) m h ∙ w .charsHere p i c (omega arith) m h)
@@ -259,10 +240,10 @@ productions-all b n counts chars subs e w =
           (λ m. w .countsRest p (omega arith) ∙ sym (rw (le-ltb p (productions b) (omega arith)) refl));
       charsAre = λ p i c l m h. by-cases (decLt p n)
           (λ j. w .charsHere p i c j m h)
-          (λ j. rw (w .charsRest ((p * 8 + i) * 4 + c / 64) (omega arith)) (bit-zero (c % 64) ∙ sym (missing-has b p i c (omega arith))));
+          (λ j. rw (w .charsRest ((p * argumentLimit + i) * slotWords + c / wordBits) (omega arith)) (bit-zero (c % wordBits) ∙ sym (missing-has b p i c (omega arith))));
       subsAre = λ p i q l m h. by-cases (decLt p n)
           (λ j. w .subsHere p i q j m h)
-          (λ j. w .subsRest ((p * 8 + i) * 64 + q) (omega arith) ∙ sym (ap bitOf (missing-may b p i q (omega arith))));
+          (λ j. w .subsRest ((p * argumentLimit + i) * productionLimit + q) (omega arith) ∙ sym (ap bitOf (missing-may b p i q (omega arith))));
     }
 
 pub flat-few : (b counts chars subs : List ℕ) → WellFormed b → FlatTables b counts chars subs → FewArguments counts chars subs
@@ -272,7 +253,7 @@ flat-few b counts chars subs w t =
       countsLong = t .countsLong;
       charsLong = t .charsLong;
       subsLong = t .subsLong;
-      few = λ p. by-cases (decLt p 64)
+      few = λ p. by-cases (decLt p productionLimit)
           (λ l. by-cases (decLt p (productions b))
           (λ m. let e : getD counts p 0 ≡ argumentCount b p = t .countsAre p l ∙ ap (λ (v : Bool). cond v (argumentCount b p) 0) (lt-ltb p (productions b) m) in
           omega (arith, w .framed .fewArguments p m))

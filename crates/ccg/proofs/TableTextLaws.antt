@@ -9,19 +9,21 @@ use native.Mathlib.Decide.{decLt}
 use lib.Dec.{leb, ltb, eqb}
 use lib.ListN.{getD}
 use borrow.Author.Tests.{leb-true, lt-ltb, le-ltb, le-leb, lt-leb}
-use Rattle.ccg.proofs.FlatLaws.{class-small, flat-of-class, flat-of-sort}
+use Rattle.ccg.proofs.FlatLaws.{flat-of-class, flat-of-sort}
 use Rattle.ccg.specs.Flat.{isProduction, mayStand, flatClass, flatLine, flatGrammar}
 use Rattle.ccg.specs.Tables.{slot, tableMay, tableHas, tableCount, subAt, slotHas, FlatTables, tableClass, slotLine, tableLine, tableGrammar}
-use Rattle.ccg.specs.Text.{grammarText}
-use Rattle.ccg.specs.Trees.{isClass, classHas}
+use Rattle.ccg.specs.Text.{grammarText, numberLimit}
 use Rattle.charset.specs.Set.{characters}
 use Rattle.common.proofs.BoolLaws.{and-first-true, true-or-false}
 use Rattle.common.proofs.ListLaws.{tabulate-same}
 use Rattle.common.specs.Below.{bitOf}
+use Rattle.grammar.proofs.ClassesLaws.{class-character}
+use Rattle.grammar.specs.Classes.{isClass, classHas}
 use Rattle.grammar.specs.Formed.{WellFormed}
 use Rattle.grammar.specs.Layout.{sorts, productions, classes, argumentCount, argument}
-use Rattle.grammar.specs.Limits.{classBase}
+use Rattle.grammar.specs.Limits.{classBase, productionLimit, argumentLimit}
 use Rattle.priority.specs.Conflict.{isSort, fits, isThere}
+use Rattle.theory.specs.Tree.{productionNumber}
 
 -- ---- what the class of a slot has
 
@@ -31,23 +33,17 @@ module _ (chars subs : List ℕ) (s : ℕ) where
   table-of-character n l = rw (lt-ltb n characters l) refl
 
   -- no number between the characters and the productions
-  pub table-between : (n : ℕ) → characters ≤ n → n < 258 → tableClass chars subs s n ≡ false
+  pub table-between : (n : ℕ) → characters ≤ n → n < productionNumber 0 → tableClass chars subs s n ≡ false
   unfolding tableClass
-  table-between n l h = rw (le-ltb n characters l, lt-leb 258 n h) refl
+  table-between n l h = rw (le-ltb n characters l, lt-leb (productionNumber 0) n h) refl
 
-  pub table-of-production : (n : ℕ) → 258 ≤ n → n < 322 → tableClass chars subs s n ≡ eqb (getD subs (subAt s (n - 258)) 0) 1
+  pub table-of-production : (n : ℕ) → productionNumber 0 ≤ n → n < numberLimit → tableClass chars subs s n ≡ eqb (getD subs (subAt s (n - productionNumber 0)) 0) 1
   unfolding tableClass
-  table-of-production n l h = rw (le-ltb n characters (omega arith), le-leb 258 n l, lt-ltb n 322 h) refl
+  table-of-production n l h = rw (le-ltb n characters (omega arith), le-leb (productionNumber 0) n l, lt-ltb n numberLimit h) refl
 
-  table-above : (n : ℕ) → 322 ≤ n → tableClass chars subs s n ≡ false
+  table-above : (n : ℕ) → numberLimit ≤ n → tableClass chars subs s n ≡ false
   unfolding tableClass
-  table-above n l = rw (le-ltb n characters (omega arith), le-leb 258 n (omega arith), le-ltb n 322 l) refl
-
-  pub table-class-characters : tableClass chars subs s characters ≡ false
-  table-class-characters = table-between characters (omega arith) (omega arith)
-
-  pub table-class-257 : tableClass chars subs s 257 ≡ false
-  table-class-257 = table-between 257 (omega arith) (omega arith)
+  table-above n l = rw (le-ltb n characters (omega arith), le-leb (productionNumber 0) n (omega arith), le-ltb n numberLimit l) refl
 
 -- ---- what the class of an argument has
 
@@ -56,14 +52,14 @@ bit-of true = refl
 bit-of false = refl
 
 module _ (b : List ℕ) (w : WellFormed b) (bytes : (k : ℕ) → getD b k 0 < characters) (p i : ℕ) (lp : p < productions b) (li : i < argumentCount b p) where
-  no-production : (n : ℕ) → n < 258 → isProduction b n ≡ false
+  no-production : (n : ℕ) → n < productionNumber 0 → isProduction b n ≡ false
   unfolding isProduction
-  no-production n l = rw (lt-leb 258 n l) refl
+  no-production n l = rw (lt-leb (productionNumber 0) n l) refl
 
   class-no-production : (n : ℕ) → characters ≤ n → classHas b (argument b p i - classBase) n ≡ false
   class-no-production n l =
       ⊎-elim
-      (λ e. absurd (omega (arith, class-small b bytes (argument b p i - classBase) n e)))
+      (λ e. absurd (omega (arith, class-character b bytes (argument b p i - classBase) n e)))
       (λ e. e)
       (true-or-false (classHas b (argument b p i - classBase) n))
 
@@ -84,52 +80,52 @@ module _ (b : List ℕ) (w : WellFormed b) (bytes : (k : ℕ) → getD b k 0 < c
       (λ e. flat-of-sort b p i n e ∙ rw (e, no-production n (omega arith)) refl)
       (true-or-false (isClass b (argument b p i))))
 
-  flat-between : (n : ℕ) → characters ≤ n → n < 258 → flatClass b p i n ≡ false
+  flat-between : (n : ℕ) → characters ≤ n → n < productionNumber 0 → flatClass b p i n ≡ false
   flat-between n l h =
       ⊎-elim
       (λ e. flat-of-class b p i n e ∙ class-no-production n l)
       (λ e. flat-of-sort b p i n e ∙ rw (no-production n h) refl)
       (true-or-false (isClass b (argument b p i)))
 
-  is-there : (n : ℕ) → 258 ≤ n → isThere b p i (n - 258) ≡ isProduction b n
+  is-there : (n : ℕ) → productionNumber 0 ≤ n → isThere b p i (n - productionNumber 0) ≡ isProduction b n
   unfolding isThere isProduction
   is-there n l =
-      rw (lt-ltb p (productions b) lp, lt-ltb i (argumentCount b p) li, le-leb 258 n l)
-      (by-cases (decLt n (258 + productions b))
-      (λ m. lt-ltb (n - 258) (productions b) (omega arith) ∙ sym (lt-ltb n (258 + productions b) m))
-      (λ m. le-ltb (n - 258) (productions b) (omega arith) ∙ sym (le-ltb n (258 + productions b) (omega arith))))
+      rw (lt-ltb p (productions b) lp, lt-ltb i (argumentCount b p) li, le-leb (productionNumber 0) n l)
+      (by-cases (decLt n (productionNumber (productions b)))
+      (λ m. lt-ltb (n - productionNumber 0) (productions b) (omega arith) ∙ sym (lt-ltb n (productionNumber (productions b)) m))
+      (λ m. le-ltb (n - productionNumber 0) (productions b) (omega arith) ∙ sym (le-ltb n (productionNumber (productions b)) (omega arith))))
 
-  flat-of-production : (n : ℕ) → 258 ≤ n → flatClass b p i n ≡ tableMay b p i (n - 258)
+  flat-of-production : (n : ℕ) → productionNumber 0 ≤ n → flatClass b p i n ≡ tableMay b p i (n - productionNumber 0)
   unfolding tableMay
   flat-of-production n l =
       ⊎-elim
-      (λ e. flat-of-class b p i n e ∙ class-no-production n (omega arith) ∙ sym (rw (class-may-not (n - 258) e) (and-false (isThere b p i (n - 258)))))
+      (λ e. flat-of-class b p i n e ∙ class-no-production n (omega arith) ∙ sym (rw (class-may-not (n - productionNumber 0) e) (and-false (isThere b p i (n - productionNumber 0)))))
       (λ e. flat-of-sort b p i n e ∙ rw (is-there n l) refl)
       (true-or-false (isClass b (argument b p i)))
 
   -- no number is above the productions
-  flat-above : (n : ℕ) → 322 ≤ n → flatClass b p i n ≡ false
+  flat-above : (n : ℕ) → numberLimit ≤ n → flatClass b p i n ≡ false
   unfolding isProduction
   flat-above n l =
       ⊎-elim
       (λ e. flat-of-class b p i n e ∙ class-no-production n (omega arith))
-      (λ e. flat-of-sort b p i n e ∙ rw (le-leb 258 n (omega arith), le-ltb n (258 + productions b) (omega (arith, w .framed .fewProductions))) refl)
+      (λ e. flat-of-sort b p i n e ∙ rw (le-leb (productionNumber 0) n (omega arith), le-ltb n (productionNumber (productions b)) (omega (arith, w .framed .fewProductions))) refl)
       (true-or-false (isClass b (argument b p i)))
 
   module _ (counts chars subs : List ℕ) (t : FlatTables b counts chars subs) where
     -- the class of the slot and the class of the argument agree
     table-class : (n : ℕ) → tableClass chars subs (slot p i) n ≡ flatClass b p i n
     table-class n =
-        let p64 : p < 64 = omega (arith, w .framed .fewProductions) in
-        let i8 : i < 8 = omega (arith, w .framed .fewArguments p lp) in
+        let fewer : p < productionLimit = omega (arith, w .framed .fewProductions) in
+        let few : i < argumentLimit = omega (arith, w .framed .fewArguments p lp) in
         by-cases (decLt n characters)
-        (λ l. table-of-character chars subs (slot p i) n l ∙ t .charsAre p i n p64 i8 l ∙ sym (flat-of-character n l))
-        (λ m. by-cases (decLt n 258)
+        (λ l. table-of-character chars subs (slot p i) n l ∙ t .charsAre p i n fewer few l ∙ sym (flat-of-character n l))
+        (λ m. by-cases (decLt n (productionNumber 0))
         (λ l. table-between chars subs (slot p i) n (omega arith) l ∙ sym (flat-between n (omega arith) l))
-        (λ m₂. by-cases (decLt n 322)
+        (λ m₂. by-cases (decLt n numberLimit)
         (λ l. table-of-production chars subs (slot p i) n (omega arith) l
-        ∙ ap (λ (v : ℕ). eqb v 1) (t .subsAre p i (n - 258) p64 i8 (omega arith))
-        ∙ bit-of (tableMay b p i (n - 258))
+        ∙ ap (λ (v : ℕ). eqb v 1) (t .subsAre p i (n - productionNumber 0) fewer few (omega arith))
+        ∙ bit-of (tableMay b p i (n - productionNumber 0))
         ∙ sym (flat-of-production n (omega arith)))
         (λ m₃. table-above chars subs (slot p i) n (omega arith) ∙ sym (flat-above n (omega arith)))))
 

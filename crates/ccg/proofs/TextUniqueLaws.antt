@@ -12,7 +12,7 @@ use lib.ListN.{length, getD, length-append}
 use borrow.Author.Tests.{eq-eqb, ne-eqb}
 use Rattle.ccg.proofs.TextLaws.{numeral-small, numeral-more, valueOf, numeral-value}
 use Rattle.ccg.specs.Ccg.{Class, Line, noClass}
-use Rattle.ccg.specs.Text.{space, dash, digitZero, bracketOpen, backslash, bracketClose, numeral, rangeText, numberLimit, classText, argumentsText, resultText, lineText}
+use Rattle.ccg.specs.Text.{space, dash, digitZero, bracketOpen, backslash, bracketClose, numeral, rangeText, numberLimit, classText, argumentsText, resultText, lineText, numeralBase}
 use Rattle.charset.proofs.RunLaws.{runs-covered}
 use Rattle.charset.specs.Runs.{Range, runs, covered}
 use Rattle.common.specs.Lists.{joined}
@@ -21,7 +21,7 @@ use Rattle.common.specs.Lists.{joined}
 
 -- the byte behind the last digit
 abbrev digitEnd : ℕ
-digitEnd = digitZero + 10
+digitEnd = digitZero + numeralBase
 
 -- digits only
 abbrev Digits : List ℕ → Type 0
@@ -51,9 +51,9 @@ digits-append (c ∷ x) y h k = (h .0, h .1, digits-append x y (h .2) k)
 numeral-digits : (fuel n : ℕ) → n ≤ fuel → Digits (numeral n)
 numeral-digits zero n l = rw (numeral-small n (omega arith)) (omega arith)
 numeral-digits (suc fuel) n l =
-    by-cases (decLt n 10)
+    by-cases (decLt n numeralBase)
     (λ h. rw (numeral-small n h) (omega arith))
-    (λ h. rw (numeral-more n (omega arith)) (digits-append (numeral (n / 10)) ((digitZero + n % 10) ∷ []) (numeral-digits fuel (n / 10) (omega arith)) (omega arith)))
+    (λ h. rw (numeral-more n (omega arith)) (digits-append (numeral (n / numeralBase)) ((digitZero + n % numeralBase) ∷ []) (numeral-digits fuel (n / numeralBase) (omega arith)) (omega arith)))
 
 -- a numeral can be read off
 numeral-part : (n m : ℕ) (s t : List ℕ) → NoDigit s → NoDigit t → numeral n ++ s ≡ numeral m ++ t → (n ≡ m) × (s ≡ t)

@@ -9,20 +9,9 @@ use native.Mathlib.Decide.{ℕ-discrete}
 use lib.Dec.{eqb}
 use lib.ListN.{getD}
 use borrow.Author.Tests.{eqb-true, lt-ltb, le-ltb, le-leb, lt-leb, eq-eqb, ne-eqb}
-use Rattle.ccg.proofs.FlatLaws.{
-  is-production,
-  production-there,
-  production-is,
-  production-of-number,
-  sort-no-class,
-  class-small,
-  flat-of-class,
-  flat-of-sort,
-  flat-no-conflict,
-}
+use Rattle.ccg.proofs.FlatLaws.{is-production, production-there, production-is, production-of-number, flat-of-class, flat-of-sort, flat-no-conflict}
 use Rattle.ccg.specs.Ccg.{Class, Line, noLine, noClass}
 use Rattle.ccg.specs.Flat.{isProduction, mayStand, flatClass, flatLine, flatGrammar}
-use Rattle.ccg.specs.Trees.{isClass, classHas}
 use Rattle.ccg.specs.Visser.{
   nums,
   contextFreeClass,
@@ -39,9 +28,11 @@ use Rattle.ccg.specs.Visser.{
   SingleHigher,
 }
 use Rattle.charset.specs.Set.{characters}
-use Rattle.common.proofs.BoolLaws.{and-first-true, and-second-true, same-test, true-or-false}
+use Rattle.common.proofs.BoolLaws.{and-first-true, and-second-true, true-or-false, eqb-sym, taken-out}
 use Rattle.common.proofs.ListLaws.{getD-tabulate, tabulate-same}
 use Rattle.common.specs.Lists.{tabulate}
+use Rattle.grammar.proofs.ClassesLaws.{sort-no-class, class-character}
+use Rattle.grammar.specs.Classes.{isClass, classHas}
 use Rattle.grammar.specs.Formed.{WellFormed}
 use Rattle.grammar.specs.Layout.{productions, argumentCount, result, argument}
 use Rattle.grammar.specs.Limits.{classBase}
@@ -52,15 +43,6 @@ use Rattle.priority.specs.Priorities.{left, right, nonassoc, declared, isHigher
 use Rattle.theory.specs.Tree.{productionNumber}
 
 -- ---- tests
-
--- the algorithm and `fits` compare the two sorts in different orders
-eqb-flip : (x y : ℕ) → eqb x y ≡ eqb y x
-eqb-flip x y = same-test (eqb x y) (eqb y x) (λ e. eq-eqb y x (sym (eqb-true x y e))) (λ e. eq-eqb x y (sym (eqb-true y x e)))
-
--- of what fits, that which fits and is barred is taken out
-taken-out : (a c : Bool) → (a && not (a && c)) ≡ (a && not c)
-taken-out true c = refl
-taken-out false c = refl
 
 -- where two sets have nothing in common, nothing is taken out
 kept : (a c : Bool) → (a ≡ true → c ≡ true → ⊥) → (a && not c) ≡ a
@@ -118,7 +100,7 @@ module _ (b : List ℕ) (p i n : ℕ) where
 module _ (b : List ℕ) (w : WellFormed b) (bytes : (k : ℕ) → getD b k 0 < characters) (p i : ℕ) where
   -- a class argument has no number of a production
   class-apart : (n : ℕ) → classHas b (argument b p i - classBase) n ≡ true → isProduction b n ≡ true → ⊥
-  class-apart n has e = omega (arith, production-is b n e, class-small b bytes (argument b p i - classBase) n has)
+  class-apart n has e = omega (arith, production-is b n e, class-character b bytes (argument b p i - classBase) n has)
 
   -- the class of a sort argument is nums without what is barred
   flat-barred : (n : ℕ) → isClass b (argument b p i) ≡ false
@@ -129,7 +111,7 @@ module _ (b : List ℕ) (w : WellFormed b) (bytes : (k : ℕ) → getD b k 0 < c
       let q = n - productionNumber 0 in
       flat-of-sort b p i n c
       ∙ ⊎-elim
-      (λ (e : isProduction b n ≡ true). rw (e, fits-result b w p i q (production-there b n e), eqb-flip x (result b q)) (taken-out (eqb (result b q) x) (barred b p i q)))
+      (λ (e : isProduction b n ≡ true). rw (e, fits-result b w p i q (production-there b n e), eqb-sym x (result b q)) (taken-out (eqb (result b q) x) (barred b p i q)))
       (λ (e : isProduction b n ≡ false). rw e refl)
       (true-or-false (isProduction b n))
 

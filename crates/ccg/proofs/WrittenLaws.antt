@@ -6,17 +6,18 @@ use mathlib.Core.List.{List, [], _∷_}
 use mathlib.Core.Logic.{_⊎_, inl, inr, ⊎-elim}
 use native.Mathlib.Omega.{arith}
 use lib.ListN.{length, getD}
-use Rattle.ccg.proofs.FlatLaws.{flat-length, flat-result, flat-arguments, flat-class-at, production-there, production-is, class-small, flat-of-class, flat-of-sort}
+use Rattle.ccg.proofs.FlatLaws.{flat-length, flat-result, flat-arguments, flat-class-at, production-there, production-is, flat-of-class, flat-of-sort}
 use Rattle.ccg.proofs.TextUniqueLaws.{Sayable, AllSayable, line-part, line-some}
 use Rattle.ccg.specs.Ccg.{Class, Line, noLine, noClass}
 use Rattle.ccg.specs.Flat.{isProduction, mayStand, flatClass, flatGrammar}
 use Rattle.ccg.specs.Text.{numberLimit, grammarText}
-use Rattle.ccg.specs.Trees.{isClass}
 use Rattle.ccg.specs.Written.{OnlyCharacters, OnlyProductions, WrittenForm}
 use Rattle.charset.specs.Set.{characters}
 use Rattle.common.proofs.BoolLaws.{and-first-true, true-or-false}
 use Rattle.common.proofs.ListLaws.{length-tabulate}
 use Rattle.common.specs.Lists.{joined}
+use Rattle.grammar.proofs.ClassesLaws.{class-character}
+use Rattle.grammar.specs.Classes.{isClass}
 use Rattle.grammar.specs.Formed.{WellFormed}
 use Rattle.grammar.specs.Layout.{productions, argumentCount, argument}
 use Rattle.grammar.specs.Limits.{classBase}
@@ -66,7 +67,7 @@ module _ (b : List ℕ) (w : WellFormed b) (bytes : (k : ℕ) → getD b k 0 < c
   flat-only : (p i : ℕ) → OnlyCharacters (flatClass b p i) ⊎ OnlyProductions (flatClass b p i)
   flat-only p i =
       ⊎-elim
-      (λ c. inl (λ n e. class-small b bytes (argument b p i - classBase) n (sym (flat-of-class b p i n c) ∙ e)))
+      (λ c. inl (λ n e. class-character b bytes (argument b p i - classBase) n (sym (flat-of-class b p i n c) ∙ e)))
       (λ c. inr (λ n e. sort-only n (and-first-true (isProduction b n) (mayStand b p i (n - productionNumber 0)) (sym (flat-of-sort b p i n c) ∙ e))))
       (true-or-false (isClass b (argument b p i)))
     where

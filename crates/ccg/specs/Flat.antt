@@ -4,8 +4,8 @@ use mathlib.Core.Bool.{Bool, cond, not, _&&_}
 use mathlib.Core.List.{List}
 use lib.Dec.{leb, ltb, eqb}
 use Rattle.ccg.specs.Ccg.{Line}
-use Rattle.ccg.specs.Trees.{isClass, classHas}
 use Rattle.common.specs.Lists.{tabulate}
+use Rattle.grammar.specs.Classes.{isClass, classHas}
 use Rattle.grammar.specs.Layout.{productions, argumentCount, result, argument}
 use Rattle.grammar.specs.Limits.{classBase}
 use Rattle.priority.specs.Conflict.{fits, conflicts}

@@ -7,10 +7,10 @@ use lib.Dec.{leb, ltb, eqb}
 use lib.ListN.{length, getD}
 use Rattle.ccg.specs.Ccg.{Line}
 use Rattle.ccg.specs.Flat.{mayStand}
-use Rattle.ccg.specs.Trees.{isClass, classHas}
-use Rattle.charset.specs.Set.{characters, bit}
+use Rattle.charset.specs.Set.{characters, bit, wordBits, setWords}
 use Rattle.common.specs.Below.{bitOf}
 use Rattle.common.specs.Lists.{tabulate}
+use Rattle.grammar.specs.Classes.{isClass, classHas}
 use Rattle.grammar.specs.Layout.{productions, argumentCount, result, argument}
 use Rattle.grammar.specs.Limits.{productionLimit, argumentLimit, classBase}
 use Rattle.priority.specs.Conflict.{rightOrNonassoc, leftOrNonassoc, isThere}
@@ -44,15 +44,15 @@ tableCount b p = cond (ltb p (productions b)) (argumentCount b p) 0
 unfoldable pub subAt : ℕ → ℕ → ℕ
 subAt s q = s * productionLimit + q
 
--- four words for each slot: the set of its characters
+-- the words of a set for each slot: its characters
 abbrev pub slotWords : ℕ
-slotWords = 4
+slotWords = setWords
 
 unfoldable pub wordAt : ℕ → ℕ → ℕ
 wordAt s k = s * slotWords + k
 
 unfoldable pub slotHas : List ℕ → ℕ → ℕ → Bool
-slotHas chars s c = bit (getD chars (wordAt s (c / 64)) 0) (c % 64)
+slotHas chars s c = bit (getD chars (wordAt s (c / wordBits)) 0) (c % wordBits)
 
 -- how long the tables are
 abbrev pub charWords : ℕ
@@ -126,7 +126,11 @@ pub record BarringRows (b : List ℕ) (p : ℕ) (above firsts lasts : List Bool)
   pub firstRow : (q : ℕ) → getD firsts q false ≡ rightOrNonassoc b p q
   pub lastRow : (q : ℕ) → getD lasts q false ≡ leftOrNonassoc b p q
 
--- The result sorts of all productions, 255 for those that are not there.
+-- Stands for the result sort of a production that is not there; no argument byte is as large.
+abbrev pub noSort : ℕ
+noSort = 255
+
+-- The result sorts of all productions.
 pub record Results (b results : List ℕ) : Type 0 where
   pub there : (q : ℕ) → q < productions b → getD results q 0 ≡ result b q
-  pub missing : (q : ℕ) → productions b ≤ q → q < productionLimit → getD results q 0 ≡ 255
+  pub missing : (q : ℕ) → productions b ≤ q → q < productionLimit → getD results q 0 ≡ noSort

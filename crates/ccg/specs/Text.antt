@@ -1,5 +1,5 @@
 -- The written form of a character class grammar (01, "The flat book").
-use Prim.Native.Nat.{ℕ, zero, suc, _+_, _/_, _%_}
+use Prim.Native.Nat.{ℕ, zero, suc, _+_, _*_, _/_, _%_}
 use mathlib.Core.Bool.{cond}
 use mathlib.Core.List.{List, [], _∷_, _++_}
 use lib.Dec.{leb, ltb, eqb}
@@ -44,10 +44,21 @@ bracketClose = 93
 
 -- ---- numerals
 
+abbrev pub numeralBase : ℕ
+numeralBase = 10
+
+-- the numbers below this have at most two digits
+abbrev pub twoDigits : ℕ
+twoDigits = numeralBase * numeralBase
+
+-- and those below this at most three
+abbrev pub threeDigits : ℕ
+threeDigits = twoDigits * numeralBase
+
 -- The digits of n in base ten, at most fuel + 1 of them.
 unfoldable pub decimal : ℕ → ℕ → List ℕ
 decimal zero n = (digitZero + n) ∷ []
-decimal (suc fuel) n = cond (ltb n 10) ((digitZero + n) ∷ []) (decimal fuel (n / 10) ++ ((digitZero + n % 10) ∷ []))
+decimal (suc fuel) n = cond (ltb n numeralBase) ((digitZero + n) ∷ []) (decimal fuel (n / numeralBase) ++ ((digitZero + n % numeralBase) ∷ []))
 
 -- n in base ten, no leading zeros.
 unfoldable pub numeral : ℕ → List ℕ

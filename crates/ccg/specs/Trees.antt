@@ -1,23 +1,13 @@
 -- The trees of a grammar, and those without a conflict (000, Definitions 2.2 and 2.7; 01, "Readings, listings and the chart").
-use Prim.Native.Nat.{ℕ, zero, suc, _+_, _-_, _<_}
+use Prim.Native.Nat.{ℕ, zero, suc, _-_, _<_}
 use mathlib.Core.Path.{_≡_}
-use mathlib.Core.Bool.{Bool, true, _&&_}
+use mathlib.Core.Bool.{true}
 use mathlib.Core.List.{List}
-use lib.Dec.{leb, ltb}
-use Rattle.charset.specs.Set.{inRange}
-use Rattle.common.specs.Below.{anyBelow}
-use Rattle.grammar.specs.Layout.{productions, classes, argumentCount, rangeCount, result, argument, low, high}
+use Rattle.grammar.specs.Classes.{isClass, classHas}
+use Rattle.grammar.specs.Layout.{productions, argumentCount, result, argument}
 use Rattle.grammar.specs.Limits.{classBase}
 use Rattle.priority.specs.Conflict.{Conflict}
 use Rattle.theory.specs.Tree.{Tree, leaf, node, Forest, none, _▷_, At, Subtree}
-
--- An argument byte that is a class.
-unfoldable pub isClass : List ℕ → ℕ → Bool
-isClass b x = leb classBase x && ltb x (classBase + classes b)
-
--- Character c is in class k: in one of its ranges.
-unfoldable pub classHas : List ℕ → ℕ → ℕ → Bool
-classHas b k c = anyBelow (rangeCount b k) (λ r. inRange (low b k r) (high b k r) c)
 
 -- A tree is built at an argument byte x: a character of the class that x is, or a production with result x whose arguments are built in turn.
 -- Conflicts are let through.

@@ -1,11 +1,11 @@
 // The flat tables: for each production and argument the characters and the productions that may stand there.
 use charset::CharSet;
+use charset::SET_WORDS;
 use common::both;
+use grammar::classes::class_set;
 use grammar::layout::argument_count;
 use grammar::layout::bodies_at;
-use grammar::layout::class_at;
 use grammar::layout::production_count;
-use grammar::layout::range_count;
 use grammar::layout::wide;
 use grammar::limits::ARGUMENT_LIMIT;
 use grammar::limits::CLASS_BASE;
@@ -18,26 +18,23 @@ use priority::declared_pairs;
 use priority::joined;
 use priority::priorities;
 ghost use mathlib.Core.Path.{_≡_};
-ghost use mathlib.Core.Bool.{Bool, true, false, not, _&&_, _||_};
-ghost use mathlib.Core.List.{List};
+ghost use mathlib.Core.Bool.{false, not, _&&_, _||_};
 ghost use Prim.Native.Nat.{ℕ, _+_, _*_, _-_, _<_, _≤_};
-ghost use lib.Dec.{eqb, leb, ltb};
+ghost use lib.Dec.{eqb, leb};
 ghost use lib.ListN.{length, getD};
-ghost use Rattle.charset.specs.Set.{characters, has, inRange};
+ghost use Rattle.charset.specs.Set.{characters, has};
+ghost use Rattle.grammar.specs.Classes.{isClass, classHas};
 ghost use Rattle.grammar.specs.Limits.{productionLimit, classBase};
 ghost use Rattle.grammar.specs.Layout.{productions, classes, argumentCount, productionAt};
 ghost use Rattle.grammar.specs.Formed.{WellFormed};
 ghost use Rattle.common.specs.Below.{bitOf};
 ghost use Rattle.common.specs.Region.{Region};
-ghost use Rattle.ccg.specs.Trees.{isClass, classHas};
-ghost use Rattle.ccg.specs.Tables.{subAt, wordAt, slot, slotHas, Results, BarringRows, ArgumentsWritten, ZeroTables, FlatTables, slotWords, charWords, subBytes};
+ghost use Rattle.ccg.specs.Tables.{slotHas, Results, BarringRows, ArgumentsWritten, ZeroTables, FlatTables, slotWords, charWords, subBytes};
 
-// How many words hold the characters of a slot.
-pub const WORDS: usize = 4;
 // How many slots there are: an argument of a production is one.
 pub const SLOTS: usize = PRODUCTION_LIMIT * ARGUMENT_LIMIT;
 // The lengths of the tables.
-pub const CHAR_WORDS: usize = SLOTS * WORDS;
+pub const CHAR_WORDS: usize = SLOTS * SET_WORDS;
 
 pub const SUB_BYTES: usize = SLOTS * PRODUCTION_LIMIT;
 // Stands for the result of a production that isn't there; no argument byte is as large.
@@ -58,24 +55,6 @@ pub fn results(book: &[u8]) -> [u8; PRODUCTION_LIMIT]
         q += 1;
     }
     out
-}
-
-// The characters of class k.
-pub fn class_set(book: &[u8], k: usize) -> CharSet
-    requires { ⌜ WellFormed (now book) ⌝ }
-    requires { ⌜ k < classes (now book) ⌝ }
-    ensures { λ r. ⌜ ((c : ℕ) → c < characters → has (r .words) c ≡ classHas (now (book .entry)) k c) ⌝ }
-{
-    let mut set = CharSet::empty();
-    let count = range_count(book, k);
-    let at = class_at(book, k);
-    let mut r = 0;
-    while r < count {
-        let wider = set.insert_range(book[at + 2 * r], book[at + 2 * r + 1]);
-        set = wider;
-        r += 1;
-    }
-    set
 }
 
 // The characters that argument byte x lets stand: none if x is a sort.
@@ -137,7 +116,7 @@ fn write_chars(chars: &mut [u64], base: usize, set: CharSet)
 {
     let words = set.words;
     let mut k = 0;
-    while k < WORDS {
+    while k < SET_WORDS {
         chars[base + k] = words[k];
         k += 1;
     }
@@ -176,7 +155,7 @@ fn write_production(
         );
         write_chars(
             chars,
-            (p * ARGUMENT_LIMIT + i) * WORDS,
+            (p * ARGUMENT_LIMIT + i) * SET_WORDS,
             argument_set(book, wide(x)),
         );
         i += 1;
@@ -219,5 +198,5 @@ pub fn slot_has(chars: &[u64], s: usize, c: u8) -> bool
     requires { ⌜ (s + 1) * slotWords ≤ length (now chars) ⌝ }
     ensures { λ r. ⌜ r ≡ slotHas (now (chars .entry)) s c ⌝ }
 {
-    (chars[s * WORDS + wide(c / 64)] >> (c % 64)) % 2 == 1
+    (chars[s * SET_WORDS + wide(c / 64)] >> (c % 64)) % 2 == 1
 }

@@ -1,17 +1,16 @@
 // The written form of a character class grammar. What does not fit the buffer is dropped and still counted, so a first pass over an empty buffer
 // gives the length.
-use crate::tables::WORDS;
 use charset::CHARACTERS;
 use charset::CharSet;
 use charset::NextRun;
+use charset::SET_WORDS;
 use grammar::layout::wide;
 use grammar::limits::ARGUMENT_LIMIT;
 use grammar::limits::PRODUCTION_LIMIT;
 ghost use mathlib.Core.Path.{_≡_};
-ghost use mathlib.Core.List.{List, [], _∷_, _++_};
+ghost use mathlib.Core.List.{[], _∷_};
 ghost use Prim.Native.Nat.{ℕ, _+_, _*_, _-_, _<_, _≤_};
-ghost use lib.Dec.{eqb};
-ghost use lib.ListN.{length, getD};
+ghost use lib.ListN.{length};
 ghost use Rattle.grammar.specs.Limits.{productionLimit, argumentLimit};
 ghost use Rattle.theory.specs.Tree.{productionNumber};
 ghost use Rattle.charset.specs.Set.{characters, has};
@@ -19,7 +18,7 @@ ghost use Rattle.charset.specs.Runs.{range, runs, firstRun};
 ghost use Rattle.charset.specs.Sought.{Sought};
 ghost use Rattle.common.specs.Lists.{joined};
 ghost use Rattle.ccg.specs.Put.{Put, farthest};
-ghost use Rattle.ccg.specs.Text.{backslash, digitZero, numeral, numberLimit, rangeText, classText, resultText, lineText, grammarText};
+ghost use Rattle.ccg.specs.Text.{backslash, digitZero, numeral, numberLimit, rangeText, classText, resultText, lineText, grammarText, numeralBase, threeDigits};
 ghost use Rattle.ccg.specs.Tables.{slotHas, subNumber, tableClass, slotLine, tableGrammar, FewArguments, slots, slotWords, charWords, subBytes};
 
 // The number of production 0.
@@ -39,7 +38,7 @@ fn put(out: &mut [u8], at: usize, byte: u8) -> usize
 
 // A numeral in base ten, no leading zeros. No number here has more than three digits.
 fn put_numeral(out: &mut [u8], at: usize, n: usize) -> usize
-    requires { ⌜ n < 1000 ⌝ }
+    requires { ⌜ n < threeDigits ⌝ }
     requires { ⌜ at + length (numeral n) ≤ farthest ⌝ }
     ensures { λ r. ⌜ Put (numeral n) (now (out .entry)) at (now (out .exit)) r ⌝ }
 {
@@ -56,7 +55,7 @@ fn put_numeral(out: &mut [u8], at: usize, n: usize) -> usize
 }
 
 fn digit(n: usize) -> u8
-    requires { ⌜ n < 10 ⌝ }
+    requires { ⌜ n < numeralBase ⌝ }
     ensures { λ r. ⌜ r ≡ digitZero + n ⌝ }
 {
     b'0' + n as u8
@@ -64,7 +63,7 @@ fn digit(n: usize) -> u8
 
 // A range: \n for one number, \a-\b for more.
 fn put_range(out: &mut [u8], at: usize, low: usize, high: usize) -> usize
-    requires { ⌜ (low < 1000) × (high < 1000) ⌝ }
+    requires { ⌜ (low < threeDigits) × (high < threeDigits) ⌝ }
     requires { ⌜ at + length (rangeText (range low high)) ≤ farthest ⌝ }
     ensures { λ r. ⌜ Put (rangeText (range low high)) (now (out .entry)) at (now (out .exit)) r ⌝ }
 {
@@ -78,7 +77,7 @@ fn put_range(out: &mut [u8], at: usize, low: usize, high: usize) -> usize
 
 // A backslash and a numeral.
 fn put_number(out: &mut [u8], at: usize, n: usize) -> usize
-    requires { ⌜ n < 1000 ⌝ }
+    requires { ⌜ n < threeDigits ⌝ }
     requires { ⌜ at + length (backslash ∷ numeral n) ≤ farthest ⌝ }
     ensures { λ r. ⌜ Put (backslash ∷ numeral n) (now (out .entry)) at (now (out .exit)) r ⌝ }
 {
@@ -159,7 +158,7 @@ fn slot_set(chars: &[u64], s: usize) -> CharSet
     requires { ⌜ s * slotWords + slotWords ≤ length (now chars) ⌝ }
     ensures { λ r. ⌜ ((c : ℕ) → c < characters → has (r .words) c ≡ slotHas (now (chars .entry)) s c) ⌝ }
 {
-    let base = s * WORDS;
+    let base = s * SET_WORDS;
     CharSet {
         words: [
             chars[base],

@@ -9,11 +9,10 @@ use native.Mathlib.Decide.{decLe, decLt}
 use native.Mathlib.Nat.{mul-assoc, not-le-of-lt, div-eq-of-lt}
 use lib.Dec.{leb, ltb, eqb}
 use lib.ListN.{getD}
-use lib.Pow.{pow-pos, pow-mono, pow-add, shl-exact, shl-shr, shr-shr, split, high, low, ones-lt, ones-split}
+use lib.Pow.{pow-pos, pow-mono, pow-add, shl-exact, shl-shr, shr-shr, high as high-part, ones-lt, ones-split}
 use lib.Bits.{bitOr, or-step, or-shr}
 use borrow.Author.Tests.{lt-ltb, le-ltb, le-leb, lt-leb}
-use Rattle.charset.specs.Set.{characters, bit, has, inRange}
-use lib.Pow.{pow-add, pow-pos, pow-mono, shl-shr, shr-shr, shl-exact, ones-split, high as high-part, ones-lt}
+use Rattle.charset.specs.Set.{characters, wordBits, setWords, bit, has, inRange}
 
 max-bit : (u v : ℕ) → u < 2 → v < 2 → eqb (max u v) 1 ≡ (eqb u 1 || eqb v 1)
 max-bit zero zero p q = refl
@@ -83,6 +82,10 @@ module _ (k lo b : ℕ) where
 
 -- ---- the masks of a range
 
+-- the highest bit of a word
+abbrev lastBit : ℕ
+lastBit = wordBits - 1
+
 leb-same : (a b c d : ℕ) → (a ≤ b → c ≤ d) → (c ≤ d → a ≤ b) → leb a b ≡ leb c d
 leb-same a b c d f g =
     by-cases (decLt b a)
@@ -90,62 +93,62 @@ leb-same a b c d f g =
     (λ n. rw (le-leb a b (omega arith), le-leb c d (f (omega arith))) refl)
 
 -- outside the word nothing is in range, and the mask is 0
-pub mask-none : (low high base b : ℕ) → b < 64 → (low ≤ base + b → base + b ≤ high → ⊥) → bit 0 b ≡ inRange low high (base + b)
+pub mask-none : (low high base b : ℕ) → b < wordBits → (low ≤ base + b → base + b ≤ high → ⊥) → bit 0 b ≡ inRange low high (base + b)
 unfolding inRange
 mask-none low high base b h out =
     by-cases (decLe low (base + b))
     (λ l. rw (bit-zero b, le-leb low (base + b) l, lt-leb (base + b) high (by-cases (decLt high (base + b)) (λ k. k) (λ n. absurd (out l (omega arith))))) refl)
     (λ n. rw (bit-zero b, lt-leb low (base + b) (omega arith)) refl)
 
-module _ (low high base : ℕ) (rising : low ≤ high) (reaches : base ≤ high) (begins : low ≤ base + 63) where
-  mask-ones : 18446744073709551615 / 2 ^ (63 - (min (high - base) 63 - (low - base))) ≡ 2 ^ suc (min (high - base) 63 - (low - base)) - 1
+module _ (low high base : ℕ) (rising : low ≤ high) (reaches : base ≤ high) (begins : low ≤ base + lastBit) where
+  mask-ones : (2 ^ wordBits - 1) / 2 ^ (lastBit - (min (high - base) lastBit - (low - base))) ≡ 2 ^ suc (min (high - base) lastBit - (low - base)) - 1
   mask-ones =
-      let n = min (high - base) 63 - (low - base) in
-      let whole : 64 ≡ suc n + (63 - n) = omega arith in
-      let split : 18446744073709551615 ≡ (2 ^ suc n - 1) * 2 ^ (63 - n) + (2 ^ (63 - n) - 1) =
-      ap (λ (m : ℕ). 2 ^ m - 1) whole ∙ ones-split (suc n) (63 - n) in
-      rw split (high-part (2 ^ suc n - 1) (63 - n) (ones-lt (63 - n)))
+      let n = min (high - base) lastBit - (low - base) in
+      let whole : wordBits ≡ suc n + (lastBit - n) = omega arith in
+      let split : (2 ^ wordBits - 1) ≡ (2 ^ suc n - 1) * 2 ^ (lastBit - n) + (2 ^ (lastBit - n) - 1) =
+      ap (λ (m : ℕ). 2 ^ m - 1) whole ∙ ones-split (suc n) (lastBit - n) in
+      rw split (high-part (2 ^ suc n - 1) (lastBit - n) (ones-lt (lastBit - n)))
 
-  pub mask-block : (b : ℕ) → b < 64
-      → bit (18446744073709551615 / 2 ^ (63 - (min (high - base) 63 - (low - base))) * 2 ^ (low - base) % 18446744073709551616) b ≡ inRange low high (base + b)
+  pub mask-block : (b : ℕ) → b < wordBits
+      → bit ((2 ^ wordBits - 1) / 2 ^ (lastBit - (min (high - base) lastBit - (low - base))) * 2 ^ (low - base) % 2 ^ wordBits) b ≡ inRange low high (base + b)
   unfolding inRange
   mask-block b h =
-      let n = min (high - base) 63 - (low - base) in
-      let fits : (2 ^ suc n - 1) * 2 ^ (low - base) % 18446744073709551616 ≡ (2 ^ suc n - 1) * 2 ^ (low - base) =
-      shl-exact (suc n) (low - base) 64 (ones-lt (suc n)) (omega arith) in
+      let n = min (high - base) lastBit - (low - base) in
+      let fits : (2 ^ suc n - 1) * 2 ^ (low - base) % 2 ^ wordBits ≡ (2 ^ suc n - 1) * 2 ^ (low - base) =
+      shl-exact (suc n) (low - base) wordBits (ones-lt (suc n)) (omega arith) in
       rw (mask-ones, fits, bit-block (suc n) (low - base) b, leb-same (low - base) b low (base + b) (λ l. omega arith) (λ l. omega arith), leb-same (suc b) (low - base + suc n) (base + b) high (λ l. omega arith) (λ l. omega arith)) refl
 
 -- ---- four words
 
 module _ (words : List ℕ) (low high m₀ m₁ m₂ m₃ : ℕ)
-    (at₀ : (b : ℕ) → b < 64 → bit m₀ b ≡ inRange low high (0 + b))
-    (at₁ : (b : ℕ) → b < 64 → bit m₁ b ≡ inRange low high (64 + b))
-    (at₂ : (b : ℕ) → b < 64 → bit m₂ b ≡ inRange low high (128 + b))
-    (at₃ : (b : ℕ) → b < 64 → bit m₃ b ≡ inRange low high (192 + b)) where
-  joined : List ℕ
-  joined = bitOr (getD words 0 0) m₀ ∷ bitOr (getD words 1 0) m₁ ∷ bitOr (getD words 2 0) m₂ ∷ bitOr (getD words 3 0) m₃ ∷ []
+    (at₀ : (b : ℕ) → b < wordBits → bit m₀ b ≡ inRange low high (0 + b))
+    (at₁ : (b : ℕ) → b < wordBits → bit m₁ b ≡ inRange low high (wordBits + b))
+    (at₂ : (b : ℕ) → b < wordBits → bit m₂ b ≡ inRange low high (2 * wordBits + b))
+    (at₃ : (b : ℕ) → b < wordBits → bit m₃ b ≡ inRange low high (3 * wordBits + b)) where
+  words′ : List ℕ
+  words′ = bitOr (getD words 0 0) m₀ ∷ bitOr (getD words 1 0) m₁ ∷ bitOr (getD words 2 0) m₂ ∷ bitOr (getD words 3 0) m₃ ∷ []
 
-  one-word : (w m base b : ℕ) → ((k : ℕ) → k < 64 → bit m k ≡ inRange low high (base + k)) → base + b % 64 ≡ b
-      → bit (bitOr w m) (b % 64) ≡ (bit w (b % 64) || inRange low high b)
-  one-word w m base b at e = rw (bit-or w m (b % 64), at (b % 64) (omega arith), e) refl
+  one-word : (w m base b : ℕ) → ((k : ℕ) → k < wordBits → bit m k ≡ inRange low high (base + k)) → base + b % wordBits ≡ b
+      → bit (bitOr w m) (b % wordBits) ≡ (bit w (b % wordBits) || inRange low high b)
+  one-word w m base b at e = rw (bit-or w m (b % wordBits), at (b % wordBits) (omega arith), e) refl
 
-  by-word : (b q : ℕ) → b / 64 ≡ q → q < 4 → bit (getD joined q 0) (b % 64) ≡ (bit (getD words q 0) (b % 64) || inRange low high b)
-  unfolding joined
+  by-word : (b q : ℕ) → b / wordBits ≡ q → q < setWords → bit (getD words′ q 0) (b % wordBits) ≡ (bit (getD words q 0) (b % wordBits) || inRange low high b)
+  unfolding words′
   by-word b zero e h = one-word (getD words 0 0) m₀ 0 b at₀ (omega arith)
-  by-word b (suc zero) e h = one-word (getD words 1 0) m₁ 64 b at₁ (omega arith)
-  by-word b (suc (suc zero)) e h = one-word (getD words 2 0) m₂ 128 b at₂ (omega arith)
-  by-word b (suc (suc (suc zero))) e h = one-word (getD words 3 0) m₃ 192 b at₃ (omega arith)
+  by-word b (suc zero) e h = one-word (getD words 1 0) m₁ wordBits b at₁ (omega arith)
+  by-word b (suc (suc zero)) e h = one-word (getD words 2 0) m₂ (2 * wordBits) b at₂ (omega arith)
+  by-word b (suc (suc (suc zero))) e h = one-word (getD words 3 0) m₃ (3 * wordBits) b at₃ (omega arith)
   by-word b (suc (suc (suc (suc q)))) e h = absurd (omega arith)
 
-  pub has-joined : (b : ℕ) → b < characters → has (bitOr (getD words 0 0) m₀ ∷ bitOr (getD words 1 0) m₁ ∷ bitOr (getD words 2 0) m₂ ∷ bitOr (getD words 3 0) m₃ ∷ []) b ≡ (has words b || inRange low high b)
-  unfolding has joined
-  has-joined b h = by-word b (b / 64) refl (omega arith)
+  pub has-or : (b : ℕ) → b < characters → has (bitOr (getD words 0 0) m₀ ∷ bitOr (getD words 1 0) m₁ ∷ bitOr (getD words 2 0) m₂ ∷ bitOr (getD words 3 0) m₃ ∷ []) b ≡ (has words b || inRange low high b)
+  unfolding has words′
+  has-or b h = by-word b (b / wordBits) refl (omega arith)
 
 pub has-empty : (c : ℕ) → c < characters → has (0 ∷ 0 ∷ 0 ∷ 0 ∷ []) c ≡ false
 unfolding has
-has-empty c h = word (c / 64) (omega arith) (c % 64)
+has-empty c h = word (c / wordBits) (omega arith) (c % wordBits)
   where
-    word : (q : ℕ) → q < 4 → (b : ℕ) → bit (getD (0 ∷ 0 ∷ 0 ∷ 0 ∷ []) q 0) b ≡ false
+    word : (q : ℕ) → q < setWords → (b : ℕ) → bit (getD (0 ∷ 0 ∷ 0 ∷ 0 ∷ []) q 0) b ≡ false
     word zero h b = bit-zero b
     word (suc zero) h b = bit-zero b
     word (suc (suc zero)) h b = bit-zero b

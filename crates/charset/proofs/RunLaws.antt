@@ -1,7 +1,7 @@
 -- Laws of normal ranges: how a run is read off, and that `runs` is the one normal form of a set (000, Proposition 3.2).
 use Prim.Native.Nat.{ℕ, zero, suc, _+_, _-_, _≤_, _<_}
 use mathlib.Core.Path.{_≡_, refl, sym, _∙_, ap, subst}
-use mathlib.Core.Bool.{Bool, false, true, cond, _||_, true≢false}
+use mathlib.Core.Bool.{Bool, false, true, cond, _||_, true≢false, or-assoc}
 use mathlib.Core.List.{List, [], _∷_, _++_}
 use mathlib.Core.Logic.{by-cases}
 use native.Mathlib.Omega.{arith}
@@ -9,10 +9,9 @@ use native.Mathlib.Decide.{ℕ-discrete, decLt}
 use native.Mathlib.Nat.{add-zero, add-suc, zero-add, suc-add, le-refl}
 use native.Mathlib.Numerals.{add-one}
 use lib.Dec.{eqb}
-use lib.ListN.{length, take}
-use lib.Pow.{high, low}
+use lib.ListN.{length}
 use borrow.Author.Tests.{le-leb, lt-leb, eq-eqb, ne-eqb}
-use Rattle.charset.specs.Runs.{Range, range, joined, runs, Apart, covered, Normal, firstRun}
+use Rattle.charset.specs.Runs.{Range, range, withNumber, runs, Apart, covered, Normal, firstRun}
 use Rattle.charset.specs.Set.{inRange}
 use Rattle.charset.specs.Sought.{Sought}
 use Rattle.charset.specs.declared.NextRun.the-variants.{Run, End}
@@ -27,26 +26,26 @@ above-less : (i : ℕ) (rs : List Range) → Above (suc i) rs → Above i rs
 above-less i [] h = tt
 above-less i (r ∷ rs) h = omega arith
 
-joined-above : (i : ℕ) (rs : List Range) → Above i (joined i rs)
-unfolding joined
-joined-above i [] = le-refl i
-joined-above i (r ∷ rs) = elim (eqb (suc i) (r .low)) as (λ (b : Bool). Above i (cond b (range i (r .high) ∷ rs) (range i i ∷ r ∷ rs))) [ true ↦ le-refl i | false ↦ le-refl i ]
+with-number-above : (i : ℕ) (rs : List Range) → Above i (withNumber i rs)
+unfolding withNumber
+with-number-above i [] = le-refl i
+with-number-above i (r ∷ rs) = elim (eqb (suc i) (r .low)) as (λ (b : Bool). Above i (cond b (range i (r .high) ∷ rs) (range i i ∷ r ∷ rs))) [ true ↦ le-refl i | false ↦ le-refl i ]
 
-joined-apart : (i : ℕ) (rs : List Range) → Above (suc (suc i)) rs → joined i rs ≡ range i i ∷ rs
-unfolding joined
-joined-apart i [] h = refl
-joined-apart i (r ∷ rs) h = rw (ne-eqb (suc i) (r .low) (λ e. omega arith)) refl
+with-number-apart : (i : ℕ) (rs : List Range) → Above (suc (suc i)) rs → withNumber i rs ≡ range i i ∷ rs
+unfolding withNumber
+with-number-apart i [] h = refl
+with-number-apart i (r ∷ rs) h = rw (ne-eqb (suc i) (r .low) (λ e. omega arith)) refl
 
-joined-touching : (i h : ℕ) (rs : List Range) → joined i (range (suc i) h ∷ rs) ≡ range i h ∷ rs
-unfolding joined
-joined-touching i h rs = rw (eq-eqb (suc i) (suc i) refl) refl
+with-number-touching : (i h : ℕ) (rs : List Range) → withNumber i (range (suc i) h ∷ rs) ≡ range i h ∷ rs
+unfolding withNumber
+with-number-touching i h rs = rw (eq-eqb (suc i) (suc i) refl) refl
 
 module _ (f : ℕ → Bool) where
   runs-off : (i n : ℕ) → f i ≡ false → runs f i (suc n) ≡ runs f (suc i) n
   unfolding runs
   runs-off i n e = rw e refl
 
-  runs-on : (i n : ℕ) → f i ≡ true → runs f i (suc n) ≡ joined i (runs f (suc i) n)
+  runs-on : (i n : ℕ) → f i ≡ true → runs f i (suc n) ≡ withNumber i (runs f (suc i) n)
   unfolding runs
   runs-on i n e = rw e refl
 
@@ -55,8 +54,8 @@ module _ (f : ℕ → Bool) where
   runs-above i zero = tt
   runs-above i (suc n) =
       let below = runs-above (suc i) n in
-      elim (f i) as (λ (b : Bool). Above i (cond b (joined i (runs f (suc i) n)) (runs f (suc i) n)))
-      [ true ↦ joined-above i (runs f (suc i) n) | false ↦ above-less i (runs f (suc i) n) below ]
+      elim (f i) as (λ (b : Bool). Above i (cond b (withNumber i (runs f (suc i) n)) (runs f (suc i) n)))
+      [ true ↦ with-number-above i (runs f (suc i) n) | false ↦ above-less i (runs f (suc i) n) below ]
 
   -- numbers that are not in the set are passed over
   pub runs-skip : (m i n : ℕ) → ((k : ℕ) → i ≤ k → k < i + m → f k ≡ false) → runs f i (m + n) ≡ runs f (i + m) n
@@ -75,12 +74,12 @@ module _ (f : ℕ → Bool) where
       → runs f i (suc m + n) ≡ range i (i + m) ∷ runs f (suc (i + m)) n
   runs-take zero i n on gap =
       rw (suc-add zero n, zero-add n, runs-on i n (on i (le-refl i) (omega arith)), add-zero i)
-      (joined-apart i (runs f (suc i) n) (beyond-gap i n (λ h. rw add-zero at (gap h))))
+      (with-number-apart i (runs f (suc i) n) (beyond-gap i n (λ h. rw add-zero at (gap h))))
   runs-take (suc m) i n on gap =
       let e : suc (i + m) ≡ i + suc m = omega arith in
       let rest : runs f (suc i) (suc m + n) ≡ range (suc i) (suc (i + m)) ∷ runs f (suc (suc (i + m))) n =
       rw (suc-add i m) at (runs-take m (suc i) n (λ k l h. on k (omega arith) (omega arith)) (λ h. rw (suc-add i m, e) (gap h))) in
-      rw (suc-add (suc m) n, runs-on i (suc m + n) (on i (le-refl i) (omega arith)), rest, joined-touching, e) refl
+      rw (suc-add (suc m) n, runs-on i (suc m + n) (on i (le-refl i) (omega arith)), rest, with-number-touching, e) refl
 
 -- ---- the first run, from what the two searches found
 
@@ -116,11 +115,6 @@ module _ (limit : ℕ) (f : ℕ → Bool) (from : ℕ) where
 
 -- ---- `runs` is a normal form of the set
 
-apart-of-above : (e : ℕ) (rs : List Range) → Above (suc (suc e)) rs → Apart e rs
-unfolding Apart
-apart-of-above e [] h = tt
-apart-of-above e (r ∷ rs) h = h
-
 in-one : (i c : ℕ) → inRange i i c ≡ eqb i c
 unfolding inRange
 in-one i c =
@@ -142,25 +136,21 @@ in-longer i h c l =
           (λ m. rw (lt-leb i c (omega arith), ne-eqb i c n, lt-leb (suc i) c (omega arith)) refl)
     ]
 
-or-assoc′ : (a b c : Bool) → ((a || b) || c) ≡ (a || (b || c))
-or-assoc′ true b c = refl
-or-assoc′ false b c = refl
-
-joined-normal : (i : ℕ) (rs : List Range) → Above (suc i) rs → Normal rs → Normal (joined i rs)
-unfolding joined Normal Apart
-joined-normal i [] a n = (le-refl i, tt, tt)
-joined-normal i (r ∷ rs) a n =
+with-number-normal : (i : ℕ) (rs : List Range) → Above (suc i) rs → Normal rs → Normal (withNumber i rs)
+unfolding withNumber Normal Apart
+with-number-normal i [] a n = (le-refl i, tt, tt)
+with-number-normal i (r ∷ rs) a n =
     elim (ℕ-discrete (suc i) (r .low)) [
       | yes e ↦ rw (eq-eqb (suc i) (r .low) e) (omega arith, n .1, n .2)
       | no e ↦ rw (ne-eqb (suc i) (r .low) e) (le-refl i, omega arith, n)
     ]
 
-joined-covered : (i : ℕ) (rs : List Range) (c : ℕ) → Normal rs → covered (joined i rs) c ≡ (eqb i c || covered rs c)
-unfolding joined covered Normal
-joined-covered i [] c n = rw (in-one i c) refl
-joined-covered i (r ∷ rs) c n =
+with-number-covered : (i : ℕ) (rs : List Range) (c : ℕ) → Normal rs → covered (withNumber i rs) c ≡ (eqb i c || covered rs c)
+unfolding withNumber covered Normal
+with-number-covered i [] c n = rw (in-one i c) refl
+with-number-covered i (r ∷ rs) c n =
     elim (ℕ-discrete (suc i) (r .low)) [
-      | yes e ↦ rw (eq-eqb (suc i) (r .low) e, in-longer i (r .high) c (omega arith), e) (or-assoc′ (eqb i c) (inRange (r .low) (r .high) c) (covered rs c))
+      | yes e ↦ rw (eq-eqb (suc i) (r .low) e, in-longer i (r .high) c (omega arith), e) (or-assoc (eqb i c) (inRange (r .low) (r .high) c) (covered rs c))
       | no e ↦ rw (ne-eqb (suc i) (r .low) e, in-one i c) refl
     ]
 
@@ -170,8 +160,8 @@ module _ (f : ℕ → Bool) where
   runs-normal i zero = tt
   runs-normal i (suc n) =
       let rest = runs-normal (suc i) n in
-      elim (f i) as (λ (b : Bool). Normal (cond b (joined i (runs f (suc i) n)) (runs f (suc i) n)))
-      [ true ↦ joined-normal i (runs f (suc i) n) (runs-above f (suc i) n) rest | false ↦ rest ]
+      elim (f i) as (λ (b : Bool). Normal (cond b (withNumber i (runs f (suc i) n)) (runs f (suc i) n)))
+      [ true ↦ with-number-normal i (runs f (suc i) n) (runs-above f (suc i) n) rest | false ↦ rest ]
 
   -- outside the numbers asked nothing is covered
   pub runs-outside : (i n c : ℕ) → (i ≤ c → c < i + n → ⊥) → covered (runs f i n) c ≡ false
@@ -179,8 +169,8 @@ module _ (f : ℕ → Bool) where
   runs-outside i zero c out = refl
   runs-outside i (suc n) c out =
       let rest = runs-outside (suc i) n c (λ l h. out (omega arith) (omega arith)) in
-      elim (f i) as (λ (b : Bool). covered (cond b (joined i (runs f (suc i) n)) (runs f (suc i) n)) c ≡ false) [
-        | true ↦ rw (joined-covered i (runs f (suc i) n) c (runs-normal (suc i) n), rest, ne-eqb i c (λ e. out (omega arith) (omega arith))) refl
+      elim (f i) as (λ (b : Bool). covered (cond b (withNumber i (runs f (suc i) n)) (runs f (suc i) n)) c ≡ false) [
+        | true ↦ rw (with-number-covered i (runs f (suc i) n) c (runs-normal (suc i) n), rest, ne-eqb i c (λ e. out (omega arith) (omega arith))) refl
         | false ↦ rest
       ]
 
@@ -197,15 +187,15 @@ module _ (f : ℕ → Bool) where
       at-first : (i n : ℕ) → covered (runs f i (suc n)) i ≡ f i
       at-first i n =
           let past = runs-outside (suc i) n i (λ l h. omega arith) in
-          elim (f i) as (λ (b : Bool). covered (cond b (joined i (runs f (suc i) n)) (runs f (suc i) n)) i ≡ b) [
-            | true ↦ rw (joined-covered i (runs f (suc i) n) i (runs-normal (suc i) n), eq-eqb i i refl) refl
+          elim (f i) as (λ (b : Bool). covered (cond b (withNumber i (runs f (suc i) n)) (runs f (suc i) n)) i ≡ b) [
+            | true ↦ rw (with-number-covered i (runs f (suc i) n) i (runs-normal (suc i) n), eq-eqb i i refl) refl
             | false ↦ past
           ]
 
       later : (i n c : ℕ) → (i ≡ c → ⊥) → covered (runs f i (suc n)) c ≡ covered (runs f (suc i) n) c
       later i n c e =
-          elim (f i) as (λ (b : Bool). covered (cond b (joined i (runs f (suc i) n)) (runs f (suc i) n)) c ≡ covered (runs f (suc i) n) c) [
-            | true ↦ rw (joined-covered i (runs f (suc i) n) c (runs-normal (suc i) n), ne-eqb i c e) refl
+          elim (f i) as (λ (b : Bool). covered (cond b (withNumber i (runs f (suc i) n)) (runs f (suc i) n)) c ≡ covered (runs f (suc i) n) c) [
+            | true ↦ rw (with-number-covered i (runs f (suc i) n) c (runs-normal (suc i) n), ne-eqb i c e) refl
             | false ↦ refl
           ]
 
@@ -307,10 +297,10 @@ above-lower : (i j : ℕ) (rs : List Range) → i ≤ j → Above j rs → Above
 above-lower i j [] l h = tt
 above-lower i j (r ∷ rs) l h = omega arith
 
-joined-append-apart : (i : ℕ) (rs ss : List Range) → Above (suc (suc i)) ss → joined i (rs ++ ss) ≡ joined i rs ++ ss
-unfolding joined
-joined-append-apart i [] ss h = joined-apart i ss h
-joined-append-apart i (r ∷ rs) ss h =
+with-number-append-apart : (i : ℕ) (rs ss : List Range) → Above (suc (suc i)) ss → withNumber i (rs ++ ss) ≡ withNumber i rs ++ ss
+unfolding withNumber
+with-number-append-apart i [] ss h = with-number-apart i ss h
+with-number-append-apart i (r ∷ rs) ss h =
     elim (eqb (suc i) (r .low)) as (λ (b : Bool). cond b (range i (r .high) ∷ rs ++ ss) (range i i ∷ r ∷ rs ++ ss) ≡ cond b (range i (r .high) ∷ rs) (range i i ∷ r ∷ rs) ++ ss)
     [ true ↦ refl | false ↦ refl ]
 
@@ -330,8 +320,8 @@ module _ (f : ℕ → Bool) where
       let rs = runs f (suc i) m in
       let ss = runs f (suc i + m) n in
       rw (suc-add m n, runs-split m (suc i) n gap, up)
-      (elim (f i) as (λ (b : Bool). cond b (joined i (rs ++ ss)) (rs ++ ss) ≡ cond b (joined i rs) rs ++ ss) [
-        | true ↦ joined-append-apart i rs ss (above-lower (suc (suc i)) (suc (suc i + m)) ss (omega arith) (above-gap (suc i + m) n gap))
+      (elim (f i) as (λ (b : Bool). cond b (withNumber i (rs ++ ss)) (rs ++ ss) ≡ cond b (withNumber i rs) rs ++ ss) [
+        | true ↦ with-number-append-apart i rs ss (above-lower (suc (suc i)) (suc (suc i + m)) ss (omega arith) (above-gap (suc i + m) n gap))
         | false ↦ refl
       ])
 
@@ -342,12 +332,12 @@ abbrev Parted : (ℕ → Bool) → ℕ → ℕ → List Range → Type 0
 Parted f i n [] = Unit {0}
 Parted f i n (r ∷ rs) = (rs ≡ runs f (r .high + 1) (i + n - (r .high + 1))) × ((i ≤ r .low) × (r .low ≤ r .high) × (r .high < i + n))
 
-joined-parted : (f : ℕ → Bool) (i n : ℕ) (rs : List Range) → rs ≡ runs f (suc i) n → Parted f (suc i) n rs → Parted f i (suc n) (joined i rs)
-unfolding joined
-joined-parted f i n [] e h =
+with-number-parted : (f : ℕ → Bool) (i n : ℕ) (rs : List Range) → rs ≡ runs f (suc i) n → Parted f (suc i) n rs → Parted f i (suc n) (withNumber i rs)
+unfolding withNumber
+with-number-parted f i n [] e h =
     let rest : i + suc n - (i + 1) ≡ n = omega arith in
     (rw (rest, add-one) e, (le-refl i, le-refl i, omega arith))
-joined-parted f i n (r ∷ rs) e h =
+with-number-parted f i n (r ∷ rs) e h =
     let rest : i + suc n - (i + 1) ≡ n = omega arith in
     let over : i + suc n ≡ suc i + n = omega arith in
     elim (eqb (suc i) (r .low)) as (λ (b : Bool). Parted f i (suc n) (cond b (range i (r .high) ∷ rs) (range i i ∷ r ∷ rs))) [
@@ -360,8 +350,8 @@ unfolding runs
 runs-parted f i zero = tt
 runs-parted f i (suc n) =
     let rest = runs-parted f (suc i) n in
-    elim (f i) as (λ (b : Bool). Parted f i (suc n) (cond b (joined i (runs f (suc i) n)) (runs f (suc i) n)))
-    [ true ↦ joined-parted f i n (runs f (suc i) n) refl rest | false ↦ parted-later f i n (runs f (suc i) n) rest ]
+    elim (f i) as (λ (b : Bool). Parted f i (suc n) (cond b (withNumber i (runs f (suc i) n)) (runs f (suc i) n)))
+    [ true ↦ with-number-parted f i n (runs f (suc i) n) refl rest | false ↦ parted-later f i n (runs f (suc i) n) rest ]
   where
     parted-later : (f : ℕ → Bool) (i n : ℕ) (rs : List Range) → Parted f (suc i) n rs → Parted f i (suc n) rs
     parted-later f i n [] h = tt
@@ -390,10 +380,10 @@ runs-one c i n l h =
 
 -- ---- how many ranges, and how large their ends
 
-joined-count : (i : ℕ) (rs : List Range) → length (joined i rs) ≤ suc (length rs)
-unfolding joined
-joined-count i [] = le-refl 1
-joined-count i (r ∷ rs) =
+with-number-count : (i : ℕ) (rs : List Range) → length (withNumber i rs) ≤ suc (length rs)
+unfolding withNumber
+with-number-count i [] = le-refl 1
+with-number-count i (r ∷ rs) =
     elim (eqb (suc i) (r .low)) as (λ (b : Bool). length (cond b (range i (r .high) ∷ rs) (range i i ∷ r ∷ rs)) ≤ suc (suc (length rs)))
     [ true ↦ omega arith | false ↦ le-refl (suc (suc (length rs))) ]
 
@@ -402,10 +392,10 @@ abbrev pub Bounded : ℕ → List Range → Type 0
 Bounded m [] = Unit {0}
 Bounded m (r ∷ rs) = (r .low < m) × (r .high < m) × Bounded m rs
 
-joined-bound : (m i : ℕ) (rs : List Range) → i < m → Bounded m rs → Bounded m (joined i rs)
-unfolding joined
-joined-bound m i [] l h = (l, l, tt)
-joined-bound m i (r ∷ rs) l h =
+with-number-bound : (m i : ℕ) (rs : List Range) → i < m → Bounded m rs → Bounded m (withNumber i rs)
+unfolding withNumber
+with-number-bound m i [] l h = (l, l, tt)
+with-number-bound m i (r ∷ rs) l h =
     elim (eqb (suc i) (r .low)) as (λ (b : Bool). Bounded m (cond b (range i (r .high) ∷ rs) (range i i ∷ r ∷ rs)))
     [ true ↦ (l, h .1, h .2) | false ↦ (l, l, h) ]
 
@@ -415,8 +405,8 @@ module _ (f : ℕ → Bool) where
   runs-count i zero = le-refl 0
   runs-count i (suc n) =
       let rest = runs-count (suc i) n in
-      elim (f i) as (λ (b : Bool). length (cond b (joined i (runs f (suc i) n)) (runs f (suc i) n)) ≤ suc n)
-      [ true ↦ omega (arith, joined-count i (runs f (suc i) n)) | false ↦ omega arith ]
+      elim (f i) as (λ (b : Bool). length (cond b (withNumber i (runs f (suc i) n)) (runs f (suc i) n)) ≤ suc n)
+      [ true ↦ omega (arith, with-number-count i (runs f (suc i) n)) | false ↦ omega arith ]
 
   pub runs-bound : (i n : ℕ) → Bounded (i + n) (runs f i n)
   unfolding runs
@@ -424,5 +414,5 @@ module _ (f : ℕ → Bool) where
   runs-bound i (suc n) =
       let over : i + suc n ≡ suc i + n = omega arith in
       let rest : Bounded (i + suc n) (runs f (suc i) n) = rw over (runs-bound (suc i) n) in
-      elim (f i) as (λ (b : Bool). Bounded (i + suc n) (cond b (joined i (runs f (suc i) n)) (runs f (suc i) n)))
-      [ true ↦ joined-bound (i + suc n) i (runs f (suc i) n) (omega arith) rest | false ↦ rest ]
+      elim (f i) as (λ (b : Bool). Bounded (i + suc n) (cond b (withNumber i (runs f (suc i) n)) (runs f (suc i) n)))
+      [ true ↦ with-number-bound (i + suc n) i (runs f (suc i) n) (omega arith) rest | false ↦ rest ]

@@ -16,14 +16,14 @@ abbrev pub range : ℕ → ℕ → Range
 range low high = record { low = low; high = high }
 
 -- One number more, below all of the ranges: it joins the first of them if it touches it.
-unfoldable pub joined : ℕ → List Range → List Range
-joined i [] = range i i ∷ []
-joined i (r ∷ rs) = cond (eqb (suc i) (r .low)) (range i (r .high) ∷ rs) (range i i ∷ r ∷ rs)
+unfoldable pub withNumber : ℕ → List Range → List Range
+withNumber i [] = range i i ∷ []
+withNumber i (r ∷ rs) = cond (eqb (suc i) (r .low)) (range i (r .high) ∷ rs) (range i i ∷ r ∷ rs)
 
 -- The normal ranges of those of the n numbers from i on at which f holds.
 unfoldable pub runs : (ℕ → Bool) → ℕ → ℕ → List Range
 runs f i zero = []
-runs f i (suc n) = cond (f i) (joined i (runs f (suc i) n)) (runs f (suc i) n)
+runs f i (suc n) = cond (f i) (withNumber i (runs f (suc i) n)) (runs f (suc i) n)
 
 -- The first of the ranges begins above `end` and does not touch it.
 unfoldable pub Apart : ℕ → List Range → Type 0

@@ -4,19 +4,26 @@ use mathlib.Core.Bool.{Bool, _&&_}
 use mathlib.Core.List.{List}
 use lib.Dec.{leb, eqb}
 use lib.ListN.{getD}
-use lib.Pow.{high, low}
 
 -- How many characters there are: they are bytes.
 abbrev pub characters : ℕ
 characters = 256
 
+-- How many bits a word has.
+abbrev pub wordBits : ℕ
+wordBits = 64
+
+-- How many words hold a set of characters, a bit to a character.
+abbrev pub setWords : ℕ
+setWords = characters / wordBits
+
 -- Bit b of a word, the lowest is bit 0.
 unfoldable pub bit : ℕ → ℕ → Bool
 bit word b = eqb (word / 2 ^ b % 2) 1
 
--- Byte c is in the set that four words hold: bit c % 64 of word c / 64.
+-- Byte c is in the set that the words hold: each has the bits of the bytes behind those of the word before.
 unfoldable pub has : List ℕ → ℕ → Bool
-has words c = bit (getD words (c / 64) 0) (c % 64)
+has words c = bit (getD words (c / wordBits) 0) (c % wordBits)
 
 -- Character c is in the range from low to high, ends included. Every test of a character against a range is this one.
 unfoldable pub inRange : ℕ → ℕ → ℕ → Bool

@@ -1,20 +1,20 @@
 // Character classes: a set of bytes in four 64-bit words, and its normal ranges.
 // (01, "The book": a class of characters is a set of bytes held as one record.)
 ghost use mathlib.Core.Path.{_≡_};
-ghost use mathlib.Core.Bool.{Bool, false, _||_};
-ghost use mathlib.Core.List.{List};
+ghost use mathlib.Core.Bool.{false, _||_};
 ghost use Prim.Native.Nat.{ℕ, _+_, _-_, _<_, _≤_, min};
-ghost use lib.Dec.{eqb};
-ghost use lib.ListN.{getD};
-ghost use Rattle.charset.specs.Set.{characters, bit, has, inRange};
+ghost use Rattle.charset.specs.Set.{characters, wordBits, bit, has, inRange};
 ghost use Rattle.charset.specs.Runs.{runs, firstRun};
 ghost use Rattle.charset.specs.Sought.{Sought};
 
 // How many characters there are.
 pub const CHARACTERS: usize = 256;
 
+// How many words hold a set of characters.
+pub const SET_WORDS: usize = 4;
+
 pub struct CharSet {
-    pub words: [u64; 4],
+    pub words: [u64; SET_WORDS],
 }
 
 // What reading the normal ranges one after the other finds.
@@ -29,7 +29,9 @@ impl CharSet {
     pub fn empty() -> Self
         ensures { λ r. ⌜ ((c : ℕ) → c < characters → has (r .words) c ≡ false) ⌝ }
     {
-        CharSet { words: [0u64; 4] }
+        CharSet {
+            words: [0u64; SET_WORDS],
+        }
     }
 
     // Whether the byte is in the set.
@@ -38,13 +40,6 @@ impl CharSet {
     {
         let at = (c / 64) as usize;
         (self.words[at] >> (c % 64)) % 2 == 1
-    }
-
-    // The set with one byte more.
-    pub fn insert(self, c: u8) -> Self
-        ensures { λ r. ⌜ ((b : ℕ) → b < characters → has (r .words) b ≡ (has (self .words) b || inRange c c b)) ⌝ }
-    {
-        self.insert_range(c, c)
     }
 
     // The set with the bytes from low to high more.
@@ -90,8 +85,8 @@ impl CharSet {
 
 // The bits of the word of the 64 bytes from `base` on at which a byte of the range stands.
 fn range_mask(low: u8, high: u8, base: u8) -> u64
-    requires { ⌜ base ≤ 192 ⌝ }
-    ensures { λ r. ⌜ ((b : ℕ) → b < 64 → bit r b ≡ inRange low high (base + b)) ⌝ }
+    requires { ⌜ base + wordBits ≤ characters ⌝ }
+    ensures { λ r. ⌜ ((b : ℕ) → b < wordBits → bit r b ≡ inRange low high (base + b)) ⌝ }
 {
     if high < low {
         return 0;
@@ -115,7 +110,7 @@ fn above(x: u8, y: u8) -> u8
 }
 
 fn at_most_63(x: u8) -> u8
-    ensures { λ r. ⌜ r ≡ min x 63 ⌝ }
+    ensures { λ r. ⌜ r ≡ min x (wordBits - 1) ⌝ }
 {
     if x < 63 { x } else { 63 }
 }

@@ -7,8 +7,10 @@ use native.Mathlib.Omega.{arith}
 use native.Mathlib.Decide.{ℕ-discrete, decLt}
 use native.Mathlib.Nat.{le-refl}
 use native.Mathlib.Numerals.{add-one}
+use lib.Dec.{eqb}
+use borrow.Author.Tests.{eq-eqb, ne-eqb}
 use Rattle.common.proofs.BoolLaws.{or-cases, or-first-false, or-second-false, and-both, and-first-true, and-second-true}
-use Rattle.common.specs.Below.{sumBelow, allBelow, anyBelow}
+use Rattle.common.specs.Below.{sumBelow, allBelow, anyBelow, bitOf}
 
 -- ---- sums
 
@@ -164,3 +166,9 @@ pub all-made : (f : ℕ → Bool) (n : ℕ) → ((i : ℕ) → i < n → f i ≡
 unfolding allBelow
 all-made f zero h = refl
 all-made f (suc n) h = and-both (allBelow n f) (f n) (all-made f n (λ i l. h i (omega arith))) (h n (omega arith))
+
+-- ---- bits
+
+-- a number that is 0 or 1 is the bit of the test for 1
+pub bit-test : (v : ℕ) → v ≤ 1 → v ≡ bitOf (eqb v 1)
+bit-test v l = elim (ℕ-discrete v 1) [ yes e ↦ rw (eq-eqb v 1 e) e | no e ↦ rw (ne-eqb v 1 e) (omega arith) ]

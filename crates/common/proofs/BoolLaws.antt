@@ -1,7 +1,10 @@
 -- Laws of tests: what a true or false test says of its parts, and tests that agree.
+use Prim.Native.Nat.{ℕ}
 use mathlib.Core.Path.{_≡_, refl, sym, _∙_}
 use mathlib.Core.Bool.{Bool, false, true, not, _&&_, _||_, Bool·beq, true≢false, false≢true, or-true}
 use mathlib.Core.Logic.{_⊎_, inl, inr}
+use lib.Dec.{eqb}
+use borrow.Author.Tests.{eqb-true, eq-eqb}
 
 -- ---- or
 
@@ -36,6 +39,11 @@ pub and-second-true : (a b : Bool) → (a && b) ≡ true → b ≡ true
 and-second-true true b e = e
 and-second-true false b e = absurd (false≢true e)
 
+-- what is taken out is taken out of what is there: nothing else matters
+pub taken-out : (a b : Bool) → (a && not (a && b)) ≡ (a && not b)
+taken-out true b = refl
+taken-out false b = refl
+
 -- ---- comparing two tests
 
 pub beq-true : (a b : Bool) → Bool·beq a b ≡ true → a ≡ b
@@ -62,3 +70,7 @@ true-or-false false = inr refl
 
 pub not-both : {A : Type 0} (a : Bool) → a ≡ true → a ≡ false → A
 not-both a e f = absurd (true≢false (sym e ∙ f))
+
+-- equality is tested from either side
+pub eqb-sym : (m n : ℕ) → eqb m n ≡ eqb n m
+eqb-sym m n = same-test (eqb m n) (eqb n m) (λ e. eq-eqb n m (sym (eqb-true m n e))) (λ e. eq-eqb m n (sym (eqb-true n m e)))

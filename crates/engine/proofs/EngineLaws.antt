@@ -4,17 +4,16 @@ use mathlib.Core.Path.{_≡_, refl, _∙_, ap, subst⁻¹}
 use mathlib.Core.Bool.{true}
 use mathlib.Core.List.{List}
 use native.Mathlib.Omega.{arith}
-use native.Mathlib.Decide.{ℕ-discrete}
 use native.Mathlib.Nat.{le-refl}
 use lib.Dec.{eqb}
 use lib.ListN.{length, getD, take, length-take}
 use lib.Seq.{length-take-le, take-all, getD-take, sets}
-use borrow.Author.Tests.{eq-eqb, ne-eqb}
+use borrow.Author.Tests.{eq-eqb}
 use Rattle.ccg.specs.Theory.{theoryOf}
 use Rattle.chart.proofs.LayoutLaws.{cell-below, row-in}
 use Rattle.chart.specs.Counted.{Counted}
 use Rattle.chart.specs.Layout.{arityIn, rowOf, rowCount, chartBytes, cellAt}
-use Rattle.common.proofs.BelowLaws.{sum-same}
+use Rattle.common.proofs.BelowLaws.{sum-same, bit-test}
 use Rattle.common.proofs.OverwrittenLaws.{overwritten-of, sets-front}
 use Rattle.common.proofs.ProductLaws.{product-one}
 use Rattle.common.specs.Below.{sumBelow, bitOf}
@@ -44,9 +43,6 @@ module _ (counts chars subs roots w : List ℕ) (bits : (k : ℕ) → getD roots
   -- how many lists of trees production p has for the whole text
   trees : ℕ → ℕ
   trees p = cellOf counts w chart p (getD counts p 0) 0 (length w)
-
-  bit-test : (v : ℕ) → v ≤ 1 → v ≡ bitOf (eqb v 1)
-  bit-test v l = elim (ℕ-discrete v 1) [ yes e ↦ rw (eq-eqb v 1 e) e | no e ↦ rw (ne-eqb v 1 e) (omega arith) ]
 
   total-is : total ≡ rootSum g (rootTest roots) trees
   unfolding rootSum rootTerm rootTest trees theoryOf

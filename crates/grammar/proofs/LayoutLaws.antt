@@ -1,11 +1,27 @@
 -- Laws of the layout: each part begins where the one before ends, and all of them end at the length called for.
 use Prim.Native.Nat.{ℕ, _+_, _*_, _≤_, _<_}
-use mathlib.Core.Path.{_≡_}
+use mathlib.Core.Path.{_≡_, ap}
 use mathlib.Core.List.{List}
 use native.Mathlib.Omega.{arith}
+use Rattle.charset.specs.Set.{characters}
 use Rattle.common.proofs.BelowLaws.{sum-more, sum-bound, sum-grows, sum-double}
 use Rattle.common.specs.Below.{sumBelow}
-use Rattle.grammar.specs.Layout.{byteAt, productions, classes, declarations, argumentCount, rangeCount, bodiesAt, productionAt, classAt, declarationAt, neededLength}
+use Rattle.grammar.specs.Layout.{byteAt, productions, classes, declarations, argumentCountAt, rangeCountAt, argumentCount, rangeCount, bodiesAt, productionAt, classAt, low, high, declarationAt, neededLength}
+use Rattle.grammar.specs.Limits.{headerLength}
+
+-- ---- how far the parts can reach, whatever the bytes are
+
+-- the bodies begin at most here: one count is a byte
+abbrev pub bodiesLimit : ℕ
+bodiesLimit = headerLength + 2 * characters
+
+-- the classes, behind as many productions as a byte can count, each of as many bytes
+abbrev pub classesLimit : ℕ
+classesLimit = bodiesLimit + characters * characters
+
+-- the declarations, behind as many classes, each of as many ranges of two bytes
+abbrev pub declarationsLimit : ℕ
+declarationsLimit = classesLimit + characters * (2 * characters)
 
 -- ---- the bodies follow one another
 
@@ -33,6 +49,15 @@ module _ (b : List ℕ) where
   pub declaration-next : (d : ℕ) → declarationAt b (d + 1) ≡ declarationAt b d + 3
   unfolding declarationAt
   declaration-next d = omega arith
+
+  -- the ends of a range of class k, read from where the class begins
+  pub low-read : (k at r : ℕ) → at ≡ classAt b k → byteAt b (at + 2 * r) ≡ low b k r
+  unfolding low
+  low-read k at r e = ap (λ (a : ℕ). byteAt b (a + 2 * r)) e
+
+  pub high-read : (k at r : ℕ) → at ≡ classAt b k → byteAt b (at + 2 * r + 1) ≡ high b k r
+  unfolding high
+  high-read k at r e = ap (λ (a : ℕ). byteAt b (a + 2 * r + 1)) e
 
   -- each part ends before the next one of its kind begins
   pub production-before : (p q : ℕ) → p < q → productionAt b p + (1 + argumentCount b p) ≤ productionAt b q
@@ -77,23 +102,23 @@ module _ (b : List ℕ) where
   needed-is-end = omega (arith, sum-double (λ k. rangeCount b k) (classes b))
 
   -- ---- no sum wraps: counts are bytes
-  module _ (bytes : (k : ℕ) → byteAt b k < 256) where
-    pub count-small : (p : ℕ) → argumentCount b p < 256
+  module _ (bytes : (k : ℕ) → byteAt b k < characters) where
+    pub count-small : (p : ℕ) → argumentCount b p < characters
     unfolding argumentCount
-    count-small p = bytes (6 + p)
+    count-small p = bytes (argumentCountAt b p)
 
-    pub range-count-small : (k : ℕ) → rangeCount b k < 256
+    pub range-count-small : (k : ℕ) → rangeCount b k < characters
     unfolding rangeCount
-    range-count-small k = bytes (6 + productions b + k)
+    range-count-small k = bytes (rangeCountAt b k)
 
-    pub production-small : (p : ℕ) → productionAt b p ≤ 516 + p * 256
+    pub production-small : (p : ℕ) → productionAt b p ≤ bodiesLimit + p * characters
     unfolding productionAt
-    production-small p = omega (arith, bytes 1, bytes 2, sum-bound 256 (λ q. 1 + argumentCount b q) (λ k. omega (arith, count-small k)) p)
+    production-small p = omega (arith, bytes 1, bytes 2, sum-bound characters (λ q. 1 + argumentCount b q) (λ k. omega (arith, count-small k)) p)
 
-    pub class-small : (k : ℕ) → classAt b k ≤ 516 + 255 * 256 + k * 510
+    pub class-small : (k : ℕ) → classAt b k ≤ classesLimit + k * (2 * characters)
     unfolding classAt
-    class-small k = omega (arith, bytes 1, production-small (productions b), sum-bound 510 (λ j. 2 * rangeCount b j) (λ j. omega (arith, range-count-small j)) k)
+    class-small k = omega (arith, bytes 1, production-small (productions b), sum-bound (2 * characters) (λ j. 2 * rangeCount b j) (λ j. omega (arith, range-count-small j)) k)
 
-    pub declaration-small : (d : ℕ) → declarationAt b d ≤ 200000 + 3 * d
+    pub declaration-small : (d : ℕ) → declarationAt b d ≤ declarationsLimit + 3 * d
     unfolding declarationAt
     declaration-small d = omega (arith, bytes 2, class-small (classes b))

@@ -2,3 +2,4 @@
 pub mod LayoutLaws
 pub mod VerdictLaws
 pub mod FormedLaws
+pub mod ClassesLaws

@@ -5,8 +5,9 @@ use mathlib.Core.List.{List, [], _∷_}
 use lib.Dec.{leb, ltb, eqb}
 use lib.ListN.{length}
 use Rattle.common.specs.Below.{allBelow, anyBelow}
+use Rattle.grammar.specs.Classes.{isClass}
 use Rattle.grammar.specs.Layout.{byteAt, sorts, productions, classes, declarations, startSort, argumentCountAt, rangeCountAt, argumentCount, rangeCount, bodiesAt, productionAt, argumentAt, result, argument, rangeAt, low, high, declarationAt, kind, first, second, neededLength}
-use Rattle.grammar.specs.Limits.{sortLimit, productionLimit, classLimit, argumentLimit, rangeLimit, kindLimit, classBase, headerLength}
+use Rattle.grammar.specs.Limits.{sortLimit, productionLimit, classLimit, argumentLimit, rangeLimit, kindLimit, headerLength}
 use Rattle.grammar.specs.Verdict.{refuseIf, andThen, firstRefusal, inOrder}
 use Rattle.grammar.specs.declared.Verdict.{Verdict}
 
@@ -57,7 +58,7 @@ badLength b = refuseIf (not (eqb (length b) (neededLength b))) 4 (min (length b)
 
 -- an argument byte that names something: a sort, or a class
 unfoldable pub namesArgument : List ℕ → ℕ → Bool
-namesArgument b x = ltb x (sorts b) || leb classBase x && ltb x (classBase + classes b)
+namesArgument b x = ltb x (sorts b) || isClass b x
 
 -- 5: a result or argument byte that names nothing; the place is that byte
 unfoldable pub badArgument : List ℕ → ℕ → ℕ → Verdict

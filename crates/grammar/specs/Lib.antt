@@ -1,6 +1,7 @@
 -- What the contracts of the grammar's bytes cite.
 pub mod Limits
 pub mod Layout
+pub mod Classes
 pub mod Verdict
 pub mod Check
 pub mod Formed

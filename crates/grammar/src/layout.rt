@@ -2,9 +2,9 @@
 use crate::limits::HEADER_LENGTH;
 ghost use mathlib.Core.Path.{_≡_};
 ghost use Prim.Native.Nat.{_+_, _<_, _≤_};
-ghost use lib.ListN.{length, getD};
+ghost use lib.ListN.{length};
 ghost use Rattle.grammar.specs.Limits.{headerLength};
-ghost use Rattle.grammar.specs.Layout.{byteAt, sorts, productions, classes, declarations, startSort, argumentCount, rangeCount, bodiesAt, productionAt, result, argument, classAt, low, high, declarationAt, kind, first, second};
+ghost use Rattle.grammar.specs.Layout.{byteAt, sorts, productions, classes, declarations, startSort, argumentCount, rangeCount, bodiesAt, productionAt, result, argument, classAt, declarationAt};
 ghost use Rattle.grammar.specs.Formed.{Framed};
 
 // Byte k as a number.
@@ -143,51 +143,4 @@ pub fn argument(book: &[u8], p: usize, i: usize) -> usize
     ensures { λ r. ⌜ r ≡ argument (now (book .entry)) p i ⌝ }
 {
     byte_at(book, production_at(book, p) + 1 + i)
-}
-
-// The low character of range r of class k.
-pub fn range_low(book: &[u8], k: usize, r: usize) -> usize
-    requires { ⌜ Framed (now book) ⌝ }
-    requires { ⌜ k < classes (now book) ⌝ }
-    requires { ⌜ r < rangeCount (now book) k ⌝ }
-    ensures { λ x. ⌜ x ≡ low (now (book .entry)) k r ⌝ }
-{
-    byte_at(book, class_at(book, k) + 2 * r)
-}
-
-// The high character of range r of class k.
-pub fn range_high(book: &[u8], k: usize, r: usize) -> usize
-    requires { ⌜ Framed (now book) ⌝ }
-    requires { ⌜ k < classes (now book) ⌝ }
-    requires { ⌜ r < rangeCount (now book) k ⌝ }
-    ensures { λ x. ⌜ x ≡ high (now (book .entry)) k r ⌝ }
-{
-    byte_at(book, class_at(book, k) + 2 * r + 1)
-}
-
-// The kind of declaration d.
-pub fn kind(book: &[u8], d: usize) -> usize
-    requires { ⌜ Framed (now book) ⌝ }
-    requires { ⌜ d < declarations (now book) ⌝ }
-    ensures { λ r. ⌜ r ≡ kind (now (book .entry)) d ⌝ }
-{
-    byte_at(book, declaration_at(book, d))
-}
-
-// The first production of declaration d.
-pub fn first(book: &[u8], d: usize) -> usize
-    requires { ⌜ Framed (now book) ⌝ }
-    requires { ⌜ d < declarations (now book) ⌝ }
-    ensures { λ r. ⌜ r ≡ first (now (book .entry)) d ⌝ }
-{
-    byte_at(book, declaration_at(book, d) + 1)
-}
-
-// The second production of declaration d.
-pub fn second(book: &[u8], d: usize) -> usize
-    requires { ⌜ Framed (now book) ⌝ }
-    requires { ⌜ d < declarations (now book) ⌝ }
-    ensures { λ r. ⌜ r ≡ second (now (book .entry)) d ⌝ }
-{
-    byte_at(book, declaration_at(book, d) + 2)
 }

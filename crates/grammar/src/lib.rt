@@ -1,5 +1,6 @@
-// The grammar's bytes (01's book): where each part stands, and refusals 1 to 8.
+// The grammar's bytes (01's book): where each part stands, the character classes as sets, and refusals 1 to 8.
 pub mod check;
+pub mod classes;
 pub mod layout;
 pub mod limits;
 

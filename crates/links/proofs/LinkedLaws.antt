@@ -1,15 +1,16 @@
 -- Laws of the tables of users and uses, written row by row.
 use Prim.Native.Nat.{ℕ, _+_, _≤_, _<_}
-use mathlib.Core.Path.{_≡_, refl, _∙_, ap, subst, subst⁻¹}
+use mathlib.Core.Path.{_≡_, _∙_, ap, subst}
 use mathlib.Core.List.{List}
 use mathlib.Core.Logic.{by-cases}
 use native.Mathlib.Omega.{arith}
-use native.Mathlib.Decide.{ℕ-discrete, decLt}
+use native.Mathlib.Decide.{decLt}
 use lib.Dec.{eqb}
 use lib.ListN.{length, getD}
 use Rattle.ccg.specs.Tables.{slot, subAt}
 use Rattle.chart.proofs.LayoutLaws.{row-in, row-next, row-same, row-shift, rows-few}
 use Rattle.chart.specs.Layout.{rowLimit, arityIn, rowOf, rowCount}
+use Rattle.common.proofs.BelowLaws.{bit-test}
 use Rattle.common.specs.Below.{sumBelow, bitOf}
 use Rattle.common.specs.Zeros.{AllZero}
 use Rattle.grammar.specs.Check.{outside}
@@ -20,14 +21,6 @@ use Rattle.span.specs.Tables.{userAt, useAt, userBytes, useBytes, Links, UsersA
 -- no row stands too far back
 pub row-below : (counts : List ℕ) (p d : ℕ) → length counts ≤ productionLimit → ((k : ℕ) → arityIn counts k ≤ argumentLimit) → p < length counts → d ≤ arityIn counts p → rowOf (arityIn counts) p d < rowLimit
 row-below counts p d few short l h = omega (arith, row-in (arityIn counts) p d (length counts) l h, rows-few (arityIn counts) (length counts) few short)
-
--- a bit is 1 or not
-bit-is : (v : ℕ) → v ≤ 1 → v ≡ bitOf (eqb v 1)
-bit-is v l =
-    elim (ℕ-discrete v 1) [
-      | yes e ↦ subst⁻¹ (λ (x : ℕ). x ≡ bitOf (eqb x 1)) e refl
-      | no e ↦ let z : v ≡ 0 = omega arith in subst⁻¹ (λ (x : ℕ). x ≡ bitOf (eqb x 1)) z refl
-    ]
 
 module _ (counts subs : List ℕ) where
   -- before the first row
@@ -134,5 +127,5 @@ module _ (counts subs : List ℕ) where
       pub linked-users : UsersAre counts users (λ p d q. eqb (getD subs (subAt (slot p d) q) 0) 1)
       linked-users =
           record {
-            takes = λ p d q l h m. subst (λ (v : ℕ). getD users (userAt q (rowOf (arityIn counts) p d)) 0 ≡ bitOf (eqb v 1)) (t .takes p d q l h m (inside p d l h)) (bit-is (getD users (userAt q (rowOf (arityIn counts) p d)) 0) (t .bits (userAt q (rowOf (arityIn counts) p d))));
+            takes = λ p d q l h m. subst (λ (v : ℕ). getD users (userAt q (rowOf (arityIn counts) p d)) 0 ≡ bitOf (eqb v 1)) (t .takes p d q l h m (inside p d l h)) (bit-test (getD users (userAt q (rowOf (arityIn counts) p d)) 0) (t .bits (userAt q (rowOf (arityIn counts) p d))));
           }

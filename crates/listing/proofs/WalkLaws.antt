@@ -11,7 +11,6 @@ use lib.Dec.{leb, ltb, eqb}
 use lib.ListN.{length, getD, drop, drop-of-length-le}
 use lib.Seq.{drop-cons, drop-drop}
 use borrow.Author.Tests.{ltb-true, leb-true, lt-ltb, le-ltb, le-leb, lt-leb, ne-eqb}
-use Rattle.ccg.proofs.FlatLaws.{sort-no-class}
 use Rattle.ccg.proofs.TableTextLaws.{table-of-character, table-between, table-of-production}
 use Rattle.ccg.specs.Ccg.{Class, Line, noLine, noClass}
 use Rattle.ccg.specs.Flat.{isProduction, plainClass}
@@ -21,6 +20,7 @@ use Rattle.charset.specs.Set.{characters}
 use Rattle.common.proofs.BoolLaws.{and-first-true, and-second-true, not-both}
 use Rattle.common.proofs.ListLaws.{length-tabulate, getD-tabulate}
 use Rattle.common.specs.Lists.{tabulate}
+use Rattle.grammar.proofs.ClassesLaws.{sort-no-class}
 use Rattle.grammar.specs.Formed.{WellFormed}
 use Rattle.grammar.specs.Layout.{productions, startSort, result}
 use Rattle.listing.proofs.TerminalLaws.{table-production, table-terminal}

@@ -5,9 +5,9 @@ use mathlib.Core.List.{List, [], _∷_, _++_}
 use lib.Dec.{leb, ltb, eqb}
 use lib.ListN.{length, getD, replicate}
 use Rattle.ccg.specs.Flat.{mayStand}
-use Rattle.ccg.specs.Trees.{isClass, classHas}
 use Rattle.charset.specs.Set.{characters}
 use Rattle.common.specs.Below.{allBelow, bitOf}
+use Rattle.grammar.specs.Classes.{isClass, classHas}
 use Rattle.grammar.specs.Layout.{productions, startSort, argumentCount, result, argument}
 use Rattle.grammar.specs.Limits.{classBase}
 use Rattle.grammar.specs.declared.Verdict.{Verdict}

@@ -4,12 +4,12 @@ use mathlib.Core.Path.{_≡_, refl}
 use mathlib.Core.Bool.{true}
 use mathlib.Core.List.{List, [], _∷_}
 use Rattle.ccg.specs.Flat.{mayStand}
-use Rattle.ccg.specs.Trees.{isClass, classHas}
 use Rattle.charset.specs.Set.{inRange}
 use Rattle.chart.specs.Layout.{rowCount, spanCount}
 use Rattle.common.specs.Below.{sumBelow, allBelow, anyBelow}
 use Rattle.common.specs.Lists.{tabulate}
 use Rattle.grammar.specs.Check.{shortHeader, headerBytes, badHeader, shortContents, badArgumentCount, badRangeCount, badLength, namesArgument, badArgument, badProduction, badRange, declarationBytes, badDeclaration, sameProduction, repeatedProduction}
+use Rattle.grammar.specs.Classes.{isClass, classHas}
 use Rattle.grammar.specs.Layout.{argumentCount, rangeCount, productionAt, result, argument, classAt, low, high, declarationAt, kind, first, second, neededLength}
 use Rattle.grammar.specs.Verdict.{firstRefusal}
 use Rattle.marked.proofs.CaseLaws.{table-true}

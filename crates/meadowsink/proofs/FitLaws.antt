@@ -7,7 +7,7 @@ use native.Mathlib.Omega.{arith}
 use lib.Dec.{leb, ltb, eqb}
 use lib.ListN.{length}
 use borrow.Author.Tests.{ltb-false}
-use Rattle.ccg.proofs.TextLaws.{tabulate-text-short}
+use Rattle.ccg.proofs.TextLaws.{grammarTextLimit, tabulate-text-short}
 use Rattle.ccg.specs.Ccg.{Class, Line}
 use Rattle.ccg.specs.Flat.{flatClass, flatLine, flatGrammar, plainClass}
 use Rattle.ccg.specs.Text.{grammarText, writeAnswer, flatAnswer}
@@ -61,13 +61,13 @@ conflict-fits b p i q =
 
 -- ---- writing a character class grammar
 
-flat-text-short : (b : List ℕ) → WellFormed b → length (grammarText (flatGrammar b)) ≤ 200000000
+flat-text-short : (b : List ℕ) → WellFormed b → length (grammarText (flatGrammar b)) ≤ grammarTextLimit
 unfolding flatGrammar flatLine
 flat-text-short b formed =
     tabulate-text-short (productions b) (flatLine b) (formed .framed .fewProductions)
     (λ p l. omega (arith, length-tabulate (argumentCount b p) (flatClass b p), formed .framed .fewArguments p l))
 
-write-fits : (n size : ℕ) → n ≤ 200000000 → flatNumber (writeAnswer n size) < 2 ^ 64
+write-fits : (n size : ℕ) → n ≤ grammarTextLimit → flatNumber (writeAnswer n size) < 2 ^ 64
 unfolding writeAnswer flatNumber
 write-fits n size h = elim (leb n size) as (λ (t : Bool). flatNumber (cond t (Written n) (NotWritten 21 n)) < 2 ^ 64) [ true ↦ omega arith | false ↦ omega arith ]
 

@@ -12,9 +12,9 @@ use borrow.Author.Tests.{lt-ltb}
 use Rattle.ccg.specs.Flat.{mayStand}
 use Rattle.ccg.specs.Tables.{slot, tableMay, tableHas, tableCount, subAt, slotHas, FlatTables}
 use Rattle.ccg.specs.Theory.{theoryOf}
-use Rattle.ccg.specs.Trees.{isClass, classHas}
 use Rattle.charset.specs.Set.{characters}
 use Rattle.common.specs.Below.{bitOf}
+use Rattle.grammar.specs.Classes.{isClass, classHas}
 use Rattle.grammar.specs.Formed.{WellFormed}
 use Rattle.grammar.specs.Layout.{productions, startSort, argumentCount, result, argument}
 use Rattle.grammar.specs.Limits.{classBase}

@@ -10,11 +10,13 @@ use lib.ListN.{length, getD}
 use lib.Seq.{take-length}
 use borrow.Author.Tests.{eqb-true, not-true, eq-eqb}
 use Rattle.ccg.proofs.ConflictFreeLaws.{conflict-free-argument, conflict-free-root, conflict-free-leaf, conflict-free-node}
-use Rattle.ccg.proofs.FlatLaws.{class-small, sort-no-class, at-last, at-none, at-more, arguments-size}
+use Rattle.ccg.proofs.FlatLaws.{at-last, at-none, at-more, arguments-size}
 use Rattle.ccg.specs.Flat.{mayStand}
-use Rattle.ccg.specs.Trees.{isClass, classHas, Built, Arguments, RootConflict, conflictAt, ConflictFree}
+use Rattle.ccg.specs.Trees.{Built, Arguments, RootConflict, conflictAt, ConflictFree}
 use Rattle.charset.specs.Set.{characters}
 use Rattle.common.proofs.BoolLaws.{and-both, and-first-true, and-second-true, true-or-false, not-both}
+use Rattle.grammar.proofs.ClassesLaws.{sort-no-class, class-character}
+use Rattle.grammar.specs.Classes.{isClass, classHas}
 use Rattle.grammar.specs.Formed.{WellFormed}
 use Rattle.grammar.specs.Layout.{productions, startSort, argumentCount, result, argument}
 use Rattle.grammar.specs.Limits.{classBase}
@@ -107,7 +109,7 @@ module _ (b : List ℕ) (formed : WellFormed b) (bytes : (k : ℕ) → getD b k 
     built-derived : (t : Tree) (p d : ℕ) → p < productions b → d < argumentCount b p → Built b (argument b p d) t → ConflictFree b t → Apart b p d t
         → DerivedAt g p d t
     built-derived (leaf c) p d lp ld h free apart =
-        tests .charsAre p d c lp ld (class-small b bytes (argument b p d - classBase) c (h .1))
+        tests .charsAre p d c lp ld (class-character b bytes (argument b p d - classBase) c (h .1))
         ∙ and-both (isClass b (argument b p d)) (classHas b (argument b p d - classBase) c) (h .0) (h .1)
     built-derived (node q f) p d lp ld h free apart = (
       omega (arith, tests .countIs, h .0),

@@ -18,7 +18,6 @@ use Rattle.ccg.specs.declared.FlatAnswer.the-variants.{Written, Refused}
 use Rattle.charset.specs.Set.{characters}
 use Rattle.grammar.specs.Formed.{WellFormed}
 use Rattle.grammar.specs.Layout.{productions}
-use Rattle.priority.specs.Conflict.{fits}
 use Rattle.ccg.proofs.write_accepted.Statement.{statement}
 use Rattle.ccg.proofs.write_accepted.Tie as tie
 

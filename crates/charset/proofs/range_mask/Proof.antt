@@ -4,6 +4,7 @@ use mathlib.Core.Path.{_≡_}
 use native.Mathlib.Omega.{arith}
 use borrow.Author.Needs.{needs}
 use Rattle.charset.proofs.BitLaws.{mask-none, mask-block}
+use Rattle.charset.specs.Set.{wordBits}
 use Rattle.charset.proofs.range_mask.Statement.{statement}
 use Rattle.charset.proofs.range_mask.Tie as tie
 
@@ -47,7 +48,7 @@ returns-4 : tie.Need-returns-4
 returns-4 c b h =
     let s = c .before .before .before .before .before .args in
     let from : c .before .above .result ≡ s .low - s .base = c .before .above .ensures in
-    let to : c .at-most-63 .result ≡ min (s .high - s .base) 63 = c .at-most-63 .ensures in
+    let to : c .at-most-63 .result ≡ min (s .high - s .base) (wordBits - 1) = c .at-most-63 .ensures in
     rw (from, to) (mask-block (s .low) (s .high) (s .base) (omega arith) (omega arith) (omega arith) b h)
 
 pub range-mask-spec : {M : Type 1} → statement M

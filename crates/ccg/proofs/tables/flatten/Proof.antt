@@ -5,7 +5,7 @@ use native.Mathlib.Omega.{arith}
 use Rattle.ccg.proofs.TableLaws.{barring-rows, ProductionsWritten, productions-none, productions-more, productions-all}
 use Rattle.grammar.proofs.FormedLaws.{production-in, bodies-in}
 use Rattle.grammar.proofs.LayoutLaws.{production-first, production-next}
-use Rattle.grammar.specs.Layout.{sorts, productions, argumentCount, productionAt}
+use Rattle.grammar.specs.Layout.{productions, argumentCount, productionAt}
 use Rattle.priority.specs.Priorities.{kindNumber}
 use Rattle.ccg.proofs.tables.flatten.Statement.{statement}
 use Rattle.ccg.proofs.tables.flatten.Tie as tie

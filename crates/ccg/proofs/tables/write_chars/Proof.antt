@@ -5,6 +5,7 @@ use mathlib.Core.List.{List}
 use native.Mathlib.Omega.{arith}
 use lib.ListN.{getD}
 use borrow.Author.Needs.{needs}
+use Rattle.ccg.specs.Tables.{slotWords}
 use Rattle.common.proofs.RegionLaws.{region-none, region-more}
 use Rattle.common.specs.Region.{Region}
 use Rattle.ccg.proofs.tables.write_chars.Statement.{statement}
@@ -14,10 +15,10 @@ Word : List ℕ → ℕ → ℕ → Type 0
 Word words k v = v ≡ getD words k 0
 
 abbrev Inv-loop : tie.InvT-loop
-Inv-loop chars₀ base words k₀ chars k = Region (Word words) 0 base k chars₀ chars × (k ≤ 4)
+Inv-loop chars₀ base words k₀ chars k = Region (Word words) 0 base k chars₀ chars × (k ≤ slotWords)
 
 abbrev μ-loop : tie.MeasureT-loop
-μ-loop chars₀ base words k₀ chars k = 4 - k
+μ-loop chars₀ base words k₀ chars k = slotWords - k
 
 loop-holds : tie.Need-loop-holds Inv-loop μ-loop
 loop-holds c = (region-none (Word (c .before .args .set .words)) 0 (c .before .args .base) (c .before .args .chars .now), omega arith)
@@ -53,7 +54,7 @@ same-length c = c .before .loop .inv .0 .long
 returns : tie.Need-returns Inv-loop μ-loop
 unfolding Word
 returns c =
-    let e : c .before .loop .k ≡ 4 = omega arith in
+    let e : c .before .loop .k ≡ slotWords = omega arith in
     subst (λ (n : ℕ). Region (Word (c .before .before .before .args .set .words)) 0 (c .before .before .before .args .base) n (c .before .before .before .args .chars .now) (c .before .loop .chars)) e (c .before .loop .inv .0)
 
 pub write-chars-spec : {M : Type 1} → statement M

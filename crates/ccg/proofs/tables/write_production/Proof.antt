@@ -4,24 +4,26 @@ use mathlib.Core.Path.{_≡_, _∙_, ap, subst}
 use mathlib.Core.Bool.{false, _&&_}
 use mathlib.Core.List.{List}
 use native.Mathlib.Omega.{arith}
-use lib.ListN.{getD, set}
-use Rattle.ccg.proofs.TableLaws.{argument-below, arguments-none, arguments-more, barred-row}
-use Rattle.ccg.specs.Tables.{charWords, subBytes, ArgumentsWritten}
-use Rattle.ccg.specs.Trees.{isClass, classHas}
+use lib.ListN.{getD}
+use Rattle.ccg.proofs.TableLaws.{arguments-none, arguments-more, barred-row}
+use Rattle.ccg.specs.Tables.{charWords, subBytes, ArgumentsWritten, slotWords}
 use Rattle.charset.specs.Set.{characters, has}
+use Rattle.grammar.proofs.ClassesLaws.{argument-below}
 use Rattle.grammar.proofs.FormedLaws.{production-in, bodies-in}
+use Rattle.grammar.specs.Classes.{isClass, classHas}
 use Rattle.grammar.specs.Formed.{WellFormed}
 use Rattle.grammar.specs.Layout.{productions, argumentCount, productionAt, argument}
+use Rattle.grammar.specs.Limits.{productionLimit, argumentLimit, classBase}
 use Rattle.priority.specs.Conflict.{barred}
 use Rattle.ccg.proofs.tables.write_production.Statement.{statement}
 use Rattle.ccg.proofs.tables.write_production.Tie as tie
 
 -- production p has a slot for each of its arguments
 module _ (b : List ℕ) (w : WellFormed b) (p i : ℕ) (lp : p < productions b) (li : i < argumentCount b p) where
-  in-subs : (p * 8 + i) * 64 + 64 ≤ subBytes
+  in-subs : (p * argumentLimit + i) * productionLimit + productionLimit ≤ subBytes
   in-subs = omega (arith, w .framed .fewProductions, w .framed .fewArguments p lp)
 
-  in-chars : (p * 8 + i) * 4 + 4 ≤ charWords
+  in-chars : (p * argumentLimit + i) * slotWords + slotWords ≤ charWords
   in-chars = omega (arith, w .framed .fewProductions, w .framed .fewArguments p lp)
 
   argument-read : (at x : ℕ) → at ≡ productionAt b p → x ≡ getD b (at + 1 + i) 0 → x ≡ argument b p i
@@ -101,7 +103,7 @@ loop-again c =
     let li : i < argumentCount b p = omega (arith, c .before .before .before .before .before .before .before .before .before .before .before .before .before .before .argument-count .ensures) in
     let x = argument-read b (c .before .before .before .before .before .before .before .before .before .before .before .before .before .before .before .before .before .before .pre .0) p i (c .before .before .before .before .before .before .before .before .before .before .before .before .before .before .before .before .before .before .pre .1 .0 .0) li (s .at) (c .before .before .before .before .wide .result) (c .before .before .before .before .before .before .before .before .before .before .before .before .before .before .before .before .before .before .pre .1 .0 .1) (c .before .before .before .before .wide .ensures) in
     let bars : (q : ℕ) → getD (c .before .before .before .before .before .before .before .before .before .before .barred-at .result) q false ≡ barred b p i q = λ q. c .before .before .before .before .before .before .before .before .before .before .barred-at .ensures q ∙ barred-row b p i (c .before .before .before .before .before .before .before .before .before .before .before .before .before .before .argument-count .result) (s .above) (s .firsts) (s .lasts) (c .before .before .before .before .before .before .before .before .before .before .before .before .before .before .before .before .before .before .pre .1 .1 .1 .0) (c .before .before .before .before .before .before .before .before .before .before .before .before .before .before .argument-count .ensures) q in
-    let set : (z : ℕ) → z < characters → has (c .before .before .before .argument-set .result .words) z ≡ (isClass b (c .before .before .before .before .wide .result) && classHas b (c .before .before .before .before .wide .result - 64) z) = c .before .before .before .argument-set .ensures in
+    let set : (z : ℕ) → z < characters → has (c .before .before .before .argument-set .result .words) z ≡ (isClass b (c .before .before .before .before .wide .result) && classHas b (c .before .before .before .before .wide .result - classBase) z) = c .before .before .before .argument-set .ensures in
     (arguments-more b (c .before .before .before .before .before .before .before .before .before .before .before .before .before .before .before .before .before .before .pre .0) p i (c .before .before .before .before .wide .result) (c .before .before .before .before .before .before .before .before .before .before .before .before .before .before .before .before .before .before .pre .1 .0 .0) li x (s .results) (c .before .before .before .before .before .before .before .before .before .before .barred-at .result) (c .before .before .before .argument-set .result .words) (c .before .before .before .before .before .before .before .before .before .before .before .before .before .before .before .before .before .before .pre .1 .1 .1 .1) bars set (s .chars .now) (s .subs .now) (c .before .before .before .before .before .before .before .before .before .before .before .before .before .loop .chars) (c .before .before .before .before .before .before .before .before .before .before .before .before .before .loop .subs) (c .before .before .write-chars .last .0) (c .before .before .before .before .before .before .before .before .write-subs .last .0) (c .before .before .before .before .before .before .before .before .before .before .before .before .before .loop .inv .0) (c .before .before .write-chars .ensures) (rw (← (c .before .before .before .before .wide .ensures)) at (c .before .before .before .before .before .before .before .before .write-subs .ensures)), omega arith)
 
 same-length : tie.Need-same-length Inv-loop μ-loop

@@ -9,7 +9,7 @@ use lib.ListN.{getD}
 use Rattle.common.proofs.RegionLaws.{region-none, region-more}
 use Rattle.common.specs.Below.{bitOf}
 use Rattle.common.specs.Region.{Region}
-use Rattle.priority.specs.Conflict.{barred}
+use Rattle.grammar.specs.Limits.{productionLimit}
 use Rattle.ccg.proofs.tables.write_subs.Statement.{statement}
 use Rattle.ccg.proofs.tables.write_subs.Tie as tie
 
@@ -17,10 +17,10 @@ Entry : List ℕ → ℕ → List Bool → ℕ → ℕ → Type 0
 Entry results x barred q v = v ≡ bitOf (eqb (getD results q 0) x && not (getD barred q false))
 
 abbrev Inv-loop : tie.InvT-loop
-Inv-loop subs₀ base x barred results q₀ subs q = Region (Entry results x barred) 0 base q subs₀ subs × (q ≤ 64)
+Inv-loop subs₀ base x barred results q₀ subs q = Region (Entry results x barred) 0 base q subs₀ subs × (q ≤ productionLimit)
 
 abbrev μ-loop : tie.MeasureT-loop
-μ-loop subs₀ base x barred results q₀ subs q = 64 - q
+μ-loop subs₀ base x barred results q₀ subs q = productionLimit - q
 
 loop-holds : tie.Need-loop-holds Inv-loop μ-loop
 loop-holds c = (region-none (Entry (c .before .args .t5) (c .before .args .x) (c .before .args .t4)) 0 (c .before .args .base) (c .before .args .subs .now), omega arith)
@@ -56,7 +56,7 @@ same-length c = c .before .loop .inv .0 .long
 returns : tie.Need-returns Inv-loop μ-loop
 unfolding Entry
 returns c =
-    let e : c .before .loop .q ≡ 64 = omega arith in
+    let e : c .before .loop .q ≡ productionLimit = omega arith in
     subst (λ (n : ℕ). Region (Entry (c .before .before .before .args .t5) (c .before .before .before .args .x) (c .before .before .before .args .t4)) 0 (c .before .before .before .args .base) n (c .before .before .before .args .subs .now) (c .before .loop .subs)) e (c .before .loop .inv .0)
 
 pub write-subs-spec : {M : Type 1} → statement M

@@ -2,7 +2,6 @@
 use Prim.Native.Nat.{_-_}
 use mathlib.Core.Path.{sym, _∙_}
 use native.Mathlib.Omega.{arith}
-use lib.ListN.{set}
 use borrow.Author.Needs.{needs}
 use Rattle.ccg.proofs.PutLaws.{put-long}
 use Rattle.ccg.proofs.RunPutLaws.{RunsPut, runs-put-none, runs-put-end, runs-put-past, run-low, run-rises, run-below, run-room, runs-put-more}

@@ -6,14 +6,16 @@ use native.Mathlib.Omega.{arith}
 use lib.ListN.{length, length-append}
 use borrow.Author.Needs.{needs}
 use Rattle.ccg.proofs.PutLaws.{put-append, put-same}
-use Rattle.ccg.proofs.TableTextLaws.{table-of-character, table-of-production, table-class-characters, table-class-257}
+use Rattle.ccg.proofs.TableTextLaws.{table-of-character, table-of-production, table-between}
 use Rattle.ccg.proofs.TextLaws.{class-text-parts}
 use Rattle.ccg.specs.Tables.{subAt, slotHas, tableClass, subNumber}
-use Rattle.ccg.specs.Text.{rangeText, classText}
+use Rattle.ccg.specs.Text.{rangeText, classText, bracketOpen, bracketClose}
 use Rattle.charset.proofs.RunLaws.{runs-same}
 use Rattle.charset.specs.Runs.{Range, runs}
 use Rattle.charset.specs.Set.{characters, has}
 use Rattle.common.specs.Lists.{joined}
+use Rattle.grammar.specs.Limits.{productionLimit}
+use Rattle.theory.specs.Tree.{productionNumber}
 use Rattle.ccg.proofs.text.put_class.Statement.{statement}
 use Rattle.ccg.proofs.text.put_class.Tie as tie
 
@@ -21,20 +23,20 @@ module _ (chars subs : List ℕ) (s : ℕ) (words : List ℕ) (ws : (c : ℕ) �
   character-runs : runs (tableClass chars subs s) 0 characters ≡ runs (has words) 0 characters
   character-runs = runs-same (tableClass chars subs s) (has words) 0 characters (λ k l h. table-of-character chars subs s k (omega arith) ∙ sym (ws k (omega arith)))
 
-  number-runs : runs (tableClass chars subs s) 258 64 ≡ runs (subNumber subs (s * 64)) 258 64
+  number-runs : runs (tableClass chars subs s) (productionNumber 0) productionLimit ≡ runs (subNumber subs (s * productionLimit)) (productionNumber 0) productionLimit
   unfolding subNumber subAt
-  number-runs = runs-same (tableClass chars subs s) (subNumber subs (s * 64)) 258 64 (λ k l h. table-of-production chars subs s k l h)
+  number-runs = runs-same (tableClass chars subs s) (subNumber subs (s * productionLimit)) (productionNumber 0) productionLimit (λ k l h. table-of-production chars subs s k l h)
 
-  class-is : classText (tableClass chars subs s) ≡ (91 ∷ []) ++ (joined rangeText (runs (has words) 0 characters) ++ (joined rangeText (runs (subNumber subs (s * 64)) 258 64) ++ (93 ∷ [])))
+  class-is : classText (tableClass chars subs s) ≡ (bracketOpen ∷ []) ++ (joined rangeText (runs (has words) 0 characters) ++ (joined rangeText (runs (subNumber subs (s * productionLimit)) (productionNumber 0) productionLimit) ++ (bracketClose ∷ [])))
   class-is =
-      class-text-parts (tableClass chars subs s) (table-class-characters chars subs s) (table-class-257 chars subs s)
-      ∙ ap₂ (λ (a c : List Range). 91 ∷ (joined rangeText a ++ (joined rangeText c ++ (93 ∷ [])))) character-runs number-runs
+      class-text-parts (tableClass chars subs s) (table-between chars subs s)
+      ∙ ap₂ (λ (a c : List Range). bracketOpen ∷ (joined rangeText a ++ (joined rangeText c ++ (bracketClose ∷ [])))) character-runs number-runs
 
-  class-long : length (classText (tableClass chars subs s)) ≡ 1 + (length (joined rangeText (runs (has words) 0 characters)) + (length (joined rangeText (runs (subNumber subs (s * 64)) 258 64)) + 1))
+  class-long : length (classText (tableClass chars subs s)) ≡ 1 + (length (joined rangeText (runs (has words) 0 characters)) + (length (joined rangeText (runs (subNumber subs (s * productionLimit)) (productionNumber 0) productionLimit)) + 1))
   class-long = ap (length {A = ℕ}) class-is ∙ simp length-append (omega arith)
 
 put-requires : tie.Need-put-requires
-put-requires c κs = omega (arith, c .before .before .before .before .pre .1, ap (length {A = ℕ}) (class-text-parts (tableClass (c .before .before .before .before .args .chars .now) (c .before .before .before .before .args .subs .now) (c .before .before .before .before .args .s)) (table-class-characters (c .before .before .before .before .args .chars .now) (c .before .before .before .before .args .subs .now) (c .before .before .before .before .args .s)) (table-class-257 (c .before .before .before .before .args .chars .now) (c .before .before .before .before .args .subs .now) (c .before .before .before .before .args .s))))
+put-requires c κs = omega (arith, c .before .before .before .before .pre .1, ap (length {A = ℕ}) (class-text-parts (tableClass (c .before .before .before .before .args .chars .now) (c .before .before .before .before .args .subs .now) (c .before .before .before .before .args .s)) (table-between (c .before .before .before .before .args .chars .now) (c .before .before .before .before .args .subs .now) (c .before .before .before .before .args .s))))
 
 slot-set-requires : tie.Need-slot-set-requires
 slot-set-requires c κs = search needs

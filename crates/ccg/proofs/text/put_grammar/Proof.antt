@@ -6,25 +6,26 @@ use native.Mathlib.Omega.{arith}
 use lib.ListN.{length, getD}
 use Rattle.ccg.proofs.LineLaws.{lines-text-none, lines-text-next}
 use Rattle.ccg.proofs.PutLaws.{put-none, put-append, put-long, put-same}
-use Rattle.ccg.proofs.TextLaws.{line-text-short, tabulate-text-short}
+use Rattle.ccg.proofs.TextLaws.{line-text-short, tabulate-text-short, lineTextLimit, grammarTextLimit}
 use Rattle.ccg.specs.Put.{Put}
 use Rattle.ccg.specs.Tables.{slot, tableClass, slotLine, tableLine, tableGrammar, FewArguments}
 use Rattle.ccg.specs.Text.{lineText, grammarText}
 use Rattle.common.proofs.ListLaws.{length-tabulate}
 use Rattle.common.specs.Lists.{tabulate}
+use Rattle.grammar.specs.Limits.{productionLimit, argumentLimit}
 use Rattle.ccg.proofs.text.put_grammar.Statement.{statement}
 use Rattle.ccg.proofs.text.put_grammar.Tie as tie
 
 module _ (counts chars subs : List ℕ) (few : FewArguments counts chars subs) where
-  argument-few : (p : ℕ) → length (tableLine counts chars subs p .arguments) ≤ 8
+  argument-few : (p : ℕ) → length (tableLine counts chars subs p .arguments) ≤ argumentLimit
   unfolding tableLine slotLine
   argument-few p = omega (arith, length-tabulate (getD counts p 0) (λ i. tableClass chars subs (slot p i)), few .few p)
 
-  line-short : (p : ℕ) → length (lineText (slotLine chars subs p (getD counts p 0))) ≤ 3000000
+  line-short : (p : ℕ) → length (lineText (slotLine chars subs p (getD counts p 0))) ≤ lineTextLimit
   unfolding tableLine
   line-short p = line-text-short (tableLine counts chars subs p) (argument-few p)
 
-  lines-short : (n : ℕ) → n ≤ 64 → length (grammarText (tabulate n (tableLine counts chars subs))) ≤ 200000000
+  lines-short : (n : ℕ) → n ≤ productionLimit → length (grammarText (tabulate n (tableLine counts chars subs))) ≤ grammarTextLimit
   lines-short n l = tabulate-text-short n (tableLine counts chars subs) l (λ p h. argument-few p)
 
 abbrev Inv-loop : tie.InvT-loop

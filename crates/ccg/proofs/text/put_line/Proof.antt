@@ -11,18 +11,19 @@ use Rattle.ccg.specs.Put.{Put}
 use Rattle.ccg.specs.Tables.{slot, tableClass, slotLine}
 use Rattle.ccg.specs.Text.{argumentsText, resultText, lineText}
 use Rattle.common.specs.Lists.{tabulate}
+use Rattle.theory.specs.Tree.{productionNumber}
 use Rattle.ccg.proofs.text.put_line.Statement.{statement}
 use Rattle.ccg.proofs.text.put_line.Tie as tie
 
 classes : List ℕ → List ℕ → ℕ → ℕ → Class
 classes chars subs p i = tableClass chars subs (slot p i)
 
-line-is : (chars subs : List ℕ) (p count : ℕ) → argumentsText (tabulate count (classes chars subs p)) ++ resultText (258 + p) ≡ lineText (slotLine chars subs p count)
+line-is : (chars subs : List ℕ) (p count : ℕ) → argumentsText (tabulate count (classes chars subs p)) ++ resultText (productionNumber p) ≡ lineText (slotLine chars subs p count)
 unfolding lineText slotLine classes
 line-is chars subs p count = refl
 
-line-long : (chars subs : List ℕ) (p count : ℕ) → length (lineText (slotLine chars subs p count)) ≡ length (argumentsText (tabulate count (classes chars subs p))) + length (resultText (258 + p))
-line-long chars subs p count = sym (ap (length {A = ℕ}) (line-is chars subs p count)) ∙ length-append (argumentsText (tabulate count (classes chars subs p))) (resultText (258 + p))
+line-long : (chars subs : List ℕ) (p count : ℕ) → length (lineText (slotLine chars subs p count)) ≡ length (argumentsText (tabulate count (classes chars subs p))) + length (resultText (productionNumber p))
+line-long chars subs p count = sym (ap (length {A = ℕ}) (line-is chars subs p count)) ∙ length-append (argumentsText (tabulate count (classes chars subs p))) (resultText (productionNumber p))
 
 abbrev Inv-loop : tie.InvT-loop
 Inv-loop out₀ at chars subs p count place₀ i₀ out place i = Put (argumentsText (tabulate i (classes chars subs p))) out₀ at out place × (i ≤ count)
@@ -78,7 +79,7 @@ returns : tie.Need-returns Inv-loop μ-loop
 returns c =
     let e : c .before .before .before .before .before .loop .i ≡ c .before .before .before .before .before .before .before .before .before .args .count = omega arith in
     let g = classes (c .before .before .before .before .before .before .before .before .before .args .chars .now) (c .before .before .before .before .before .before .before .before .before .args .subs .now) (c .before .before .before .before .before .before .before .before .before .args .p) in
-    put-same _ _ _ _ _ _ (ap (λ (k : ℕ). argumentsText (tabulate k g) ++ resultText (258 + c .before .before .before .before .before .before .before .before .before .args .p)) e ∙ line-is (c .before .before .before .before .before .before .before .before .before .args .chars .now) (c .before .before .before .before .before .before .before .before .before .args .subs .now) (c .before .before .before .before .before .before .before .before .before .args .p) (c .before .before .before .before .before .before .before .before .before .args .count))
+    put-same _ _ _ _ _ _ (ap (λ (k : ℕ). argumentsText (tabulate k g) ++ resultText (productionNumber (c .before .before .before .before .before .before .before .before .before .args .p))) e ∙ line-is (c .before .before .before .before .before .before .before .before .before .args .chars .now) (c .before .before .before .before .before .before .before .before .before .args .subs .now) (c .before .before .before .before .before .before .before .before .before .args .p) (c .before .before .before .before .before .before .before .before .before .args .count))
     (put-append _ _ _ _ _ _ _ _ (c .before .before .before .before .before .loop .inv .0) (c .before .before .put-result .ensures))
 
 pub put-line-spec : {M : Type 1} → statement M

@@ -8,25 +8,25 @@ use lib.ListN.{length, length-append}
 use borrow.Author.Tests.{eq-eqb, ne-eqb}
 use borrow.Author.Needs.{needs}
 use Rattle.ccg.proofs.PutLaws.{put-append, put-same}
-use Rattle.ccg.specs.Text.{numeral, rangeText}
+use Rattle.ccg.specs.Text.{numeral, rangeText, dash, backslash}
 use Rattle.charset.specs.Runs.{range}
 use Rattle.ccg.proofs.text.put_range.Statement.{statement}
 use Rattle.ccg.proofs.text.put_range.Tie as tie
 
-one : (n m : ℕ) → n ≡ m → 92 ∷ numeral n ≡ rangeText (range n m)
+one : (n m : ℕ) → n ≡ m → backslash ∷ numeral n ≡ rangeText (range n m)
 unfolding rangeText
 one n m e = sym (rw (eq-eqb n m e) refl)
 
-two : (n m : ℕ) → (n ≡ m → ⊥) → (92 ∷ numeral n) ++ (45 ∷ (92 ∷ numeral m)) ≡ rangeText (range n m)
+two : (n m : ℕ) → (n ≡ m → ⊥) → (backslash ∷ numeral n) ++ (dash ∷ (backslash ∷ numeral m)) ≡ rangeText (range n m)
 unfolding rangeText
 two n m e = sym (rw (ne-eqb n m e) refl)
 
 -- the text of a range begins with its low number
-low-fits : (n m : ℕ) → length (92 ∷ numeral n) ≤ length (rangeText (range n m))
+low-fits : (n m : ℕ) → length (backslash ∷ numeral n) ≤ length (rangeText (range n m))
 low-fits n m =
     elim (ℕ-discrete n m) [
       | yes e ↦ omega (arith, ap (length {A = ℕ}) (one n m e))
-      | no e ↦ omega (arith, ap (length {A = ℕ}) (two n m e), length-append (92 ∷ numeral n) (45 ∷ (92 ∷ numeral m)))
+      | no e ↦ omega (arith, ap (length {A = ℕ}) (two n m e), length-append (backslash ∷ numeral n) (dash ∷ (backslash ∷ numeral m)))
     ]
 
 put-number-requires : tie.Need-put-number-requires
@@ -41,12 +41,12 @@ returns c = put-same _ _ _ _ _ _ (one (c .before .before .before .before .before
 put-requires : tie.Need-put-requires
 put-requires c κs =
     let t = two (c .before .before .before .before .before .before .before .args .low) (c .before .before .before .before .before .before .before .args .high) (c .before .if1 .left) in
-    omega (arith, c .before .before .before .before .before .before .before .pre .1, c .before .before .before .before .put-number .ensures .next, ap (length {A = ℕ}) t, length-append (92 ∷ numeral (c .before .before .before .before .before .before .before .args .low)) (45 ∷ (92 ∷ numeral (c .before .before .before .before .before .before .before .args .high))))
+    omega (arith, c .before .before .before .before .before .before .before .pre .1, c .before .before .before .before .put-number .ensures .next, ap (length {A = ℕ}) t, length-append (backslash ∷ numeral (c .before .before .before .before .before .before .before .args .low)) (dash ∷ (backslash ∷ numeral (c .before .before .before .before .before .before .before .args .high))))
 
 put-number-requires-2 : tie.Need-put-number-requires-2
 put-number-requires-2 c κs =
     let t = two (c .before .before .before .before .before .before .before .before .before .before .before .args .low) (c .before .before .before .before .before .before .before .before .before .before .before .args .high) (c .before .before .before .before .before .if1 .left) in
-    (c .before .before .before .before .before .before .before .before .before .before .before .pre .0 .1, omega (arith, c .before .before .before .before .before .before .before .before .before .before .before .pre .1, c .before .before .before .before .before .before .before .before .put-number .ensures .next, c .before .before .before .put .ensures .next, ap (length {A = ℕ}) t, length-append (92 ∷ numeral (c .before .before .before .before .before .before .before .before .before .before .before .args .low)) (45 ∷ (92 ∷ numeral (c .before .before .before .before .before .before .before .before .before .before .before .args .high)))))
+    (c .before .before .before .before .before .before .before .before .before .before .before .pre .0 .1, omega (arith, c .before .before .before .before .before .before .before .before .before .before .before .pre .1, c .before .before .before .before .before .before .before .before .put-number .ensures .next, c .before .before .before .put .ensures .next, ap (length {A = ℕ}) t, length-append (backslash ∷ numeral (c .before .before .before .before .before .before .before .before .before .before .before .args .low)) (dash ∷ (backslash ∷ numeral (c .before .before .before .before .before .before .before .before .before .before .before .args .high)))))
 
 same-length-2 : tie.Need-same-length-2
 same-length-2 c = search needs

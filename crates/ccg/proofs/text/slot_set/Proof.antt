@@ -6,18 +6,18 @@ use native.Mathlib.Omega.{arith}
 use native.Mathlib.Nat.{add-zero}
 use lib.ListN.{getD}
 use borrow.Author.Needs.{needs}
-use Rattle.ccg.specs.Tables.{wordAt, slotHas}
-use Rattle.charset.specs.Set.{characters, bit, has}
+use Rattle.ccg.specs.Tables.{wordAt, slotHas, slotWords}
+use Rattle.charset.specs.Set.{characters, bit, has, wordBits}
 use Rattle.ccg.proofs.text.slot_set.Statement.{statement}
 use Rattle.ccg.proofs.text.slot_set.Tie as tie
 
 four-words : (chars : List ℕ) (s c : ℕ) → c < characters
-    → has (getD chars (s * 4) 0 ∷ getD chars (s * 4 + 1) 0 ∷ getD chars (s * 4 + 2) 0 ∷ getD chars (s * 4 + 3) 0 ∷ []) c ≡ slotHas chars s c
+    → has (getD chars (s * slotWords) 0 ∷ getD chars (s * slotWords + 1) 0 ∷ getD chars (s * slotWords + 2) 0 ∷ getD chars (s * slotWords + 3) 0 ∷ []) c ≡ slotHas chars s c
 unfolding has slotHas wordAt
-four-words chars s c l = ap (λ (v : ℕ). bit v (c % 64)) (word (c / 64) (omega arith))
+four-words chars s c l = ap (λ (v : ℕ). bit v (c % wordBits)) (word (c / wordBits) (omega arith))
   where
-    word : (k : ℕ) → k < 4 → getD (getD chars (s * 4) 0 ∷ getD chars (s * 4 + 1) 0 ∷ getD chars (s * 4 + 2) 0 ∷ getD chars (s * 4 + 3) 0 ∷ []) k 0 ≡ getD chars (s * 4 + k) 0
-    word zero h = ap (λ (n : ℕ). getD chars n 0) (sym (add-zero (s * 4)))
+    word : (k : ℕ) → k < slotWords → getD (getD chars (s * slotWords) 0 ∷ getD chars (s * slotWords + 1) 0 ∷ getD chars (s * slotWords + 2) 0 ∷ getD chars (s * slotWords + 3) 0 ∷ []) k 0 ≡ getD chars (s * slotWords + k) 0
+    word zero h = ap (λ (n : ℕ). getD chars n 0) (sym (add-zero (s * slotWords)))
     word (suc zero) h = refl
     word (suc (suc zero)) h = refl
     word (suc (suc (suc zero))) h = refl

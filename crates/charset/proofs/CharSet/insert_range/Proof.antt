@@ -1,6 +1,6 @@
 -- `insert_range` meets its contract: each word is joined with its mask.
 use borrow.Author.Needs.{needs}
-use Rattle.charset.proofs.BitLaws.{has-joined}
+use Rattle.charset.proofs.BitLaws.{has-or}
 use Rattle.charset.proofs.CharSet.insert_range.Statement.{statement}
 use Rattle.charset.proofs.CharSet.insert_range.Tie as tie
 
@@ -31,7 +31,7 @@ range-mask-requires-4 c κs = search needs
 returns : tie.Need-returns
 returns c =
     let s = c .before .before .before .before .before .args in
-    has-joined (s .self .words) (s .low) (s .high) _ _ _ _ (c .before .before .before .range-mask .ensures) (c .before .before .range-mask2 .ensures) (c .before .range-mask3 .ensures) (c .range-mask4 .ensures)
+    has-or (s .self .words) (s .low) (s .high) _ _ _ _ (c .before .before .before .range-mask .ensures) (c .before .before .range-mask2 .ensures) (c .before .range-mask3 .ensures) (c .range-mask4 .ensures)
 
 pub insert-range-spec : {M : Type 1} → statement M
 insert-range-spec =

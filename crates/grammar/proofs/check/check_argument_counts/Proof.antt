@@ -6,6 +6,7 @@ use borrow.Author.Tests.{lt-ltb, le-ltb}
 use borrow.Author.Needs.{needs}
 use Rattle.grammar.proofs.VerdictLaws.{first-none, first-more, first-found, first-done}
 use Rattle.grammar.specs.Check.{badArgumentCount}
+use Rattle.grammar.specs.Limits.{headerLength}
 use Rattle.grammar.specs.Verdict.{firstRefusal}
 use Rattle.grammar.specs.declared.Verdict.the-variants.{Accepted}
 use Rattle.grammar.proofs.check.check_argument_counts.Statement.{statement}
@@ -34,7 +35,7 @@ unfolding badArgumentCount
 returns c =
     let b = c .before .before .before .before .before .before .args .book .now in
     let p = c .before .before .before .loop .p in
-    sym (first-found (badArgumentCount b) p _ 3 (6 + p) (omega (arith, c .before .before .before .before .production-count .ensures)) (c .before .before .before .loop .inv .1) (rw (← (c .before .argument-count .ensures), lt-ltb _ _ (c .if1 .taken)) refl))
+    sym (first-found (badArgumentCount b) p _ 3 (headerLength + p) (omega (arith, c .before .before .before .before .production-count .ensures)) (c .before .before .before .loop .inv .1) (rw (← (c .before .argument-count .ensures), lt-ltb _ _ (c .if1 .taken)) refl))
 
 add-p : tie.Need-add-p Inv-loop μ-loop
 add-p c = omega arith

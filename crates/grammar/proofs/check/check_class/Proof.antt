@@ -1,26 +1,17 @@
 -- `check_class` meets its contract: no range passed is refused.
-use Prim.Native.Nat.{ℕ, _+_, _-_, _*_, _≤_}
-use mathlib.Core.Path.{_≡_, refl, sym, _∙_, ap}
-use mathlib.Core.List.{count}
+use Prim.Native.Nat.{_+_, _-_, _*_, _≤_}
+use mathlib.Core.Path.{_≡_, refl, sym, _∙_}
 use native.Mathlib.Omega.{arith}
-use lib.ListN.{getD}
 use borrow.Author.Tests.{lt-ltb, le-ltb}
 use Rattle.grammar.proofs.FormedLaws.{class-in, bodies-in}
+use Rattle.grammar.proofs.LayoutLaws.{low-read, high-read}
 use Rattle.grammar.proofs.VerdictLaws.{first-none, first-more, first-found, first-done}
 use Rattle.grammar.specs.Check.{badRange}
-use Rattle.grammar.specs.Layout.{classAt, low, high}
+use Rattle.grammar.specs.Layout.{classAt}
 use Rattle.grammar.specs.Verdict.{firstRefusal}
 use Rattle.grammar.specs.declared.Verdict.the-variants.{Accepted}
 use Rattle.grammar.proofs.check.check_class.Statement.{statement}
 use Rattle.grammar.proofs.check.check_class.Tie as tie
-
-low-is : (b : _) (k at r x : ℕ) → at ≡ classAt b k → x ≡ getD b (at + 2 * r) 0 → x ≡ low b k r
-unfolding low
-low-is b k at r x e f = f ∙ ap (λ (a : ℕ). getD b (a + 2 * r) 0) e
-
-high-is : (b : _) (k at r x : ℕ) → at ≡ classAt b k → x ≡ getD b (at + 2 * r + 1) 0 → x ≡ high b k r
-unfolding high
-high-is b k at r x e f = f ∙ ap (λ (a : ℕ). getD b (a + 2 * r + 1) 0) e
 
 abbrev Inv-loop : tie.InvT-loop
 Inv-loop book k at count r₀ r = (r ≤ count) × (firstRefusal r (badRange book k) ≡ Accepted)
@@ -67,8 +58,8 @@ returns c =
     let b = c .before .before .before .before .before .before .before .args .book .now in
     let k = c .before .before .before .before .before .before .before .args .k in
     let r = c .before .before .before .before .loop .r in
-    let h = high-is b k (c .before .before .before .before .before .before .before .args .at) r (c .before .before .byte-at .result) (c .before .before .before .before .before .before .before .pre .1 .1) (c .before .before .byte-at .ensures) in
-    let l = low-is b k (c .before .before .before .before .before .before .before .args .at) r (c .before .byte-at2 .result) (c .before .before .before .before .before .before .before .pre .1 .1) (c .before .byte-at2 .ensures) in
+    let h = c .before .before .byte-at .ensures ∙ high-read b k (c .before .before .before .before .before .before .before .args .at) r (c .before .before .before .before .before .before .before .pre .1 .1) in
+    let l = c .before .byte-at2 .ensures ∙ low-read b k (c .before .before .before .before .before .before .before .args .at) r (c .before .before .before .before .before .before .before .pre .1 .1) in
     rw (c .before .before .before .before .before .before .before .pre .1 .1)
     (sym (first-found (badRange b k) r _ 6 (classAt b k + 2 * r) (omega (arith, c .before .before .before .before .before .range-count .ensures)) (c .before .before .before .before .loop .inv .1) (rw (← h, ← l, lt-ltb _ _ (c .if1 .taken)) refl)))
 
@@ -84,8 +75,8 @@ loop-again c =
     let b = c .before .before .before .before .before .before .before .args .book .now in
     let k = c .before .before .before .before .before .before .before .args .k in
     let r = c .before .before .before .before .loop .r in
-    let h = high-is b k (c .before .before .before .before .before .before .before .args .at) r (c .before .before .byte-at .result) (c .before .before .before .before .before .before .before .pre .1 .1) (c .before .before .byte-at .ensures) in
-    let l = low-is b k (c .before .before .before .before .before .before .before .args .at) r (c .before .byte-at2 .result) (c .before .before .before .before .before .before .before .pre .1 .1) (c .before .byte-at2 .ensures) in
+    let h = c .before .before .byte-at .ensures ∙ high-read b k (c .before .before .before .before .before .before .before .args .at) r (c .before .before .before .before .before .before .before .pre .1 .1) in
+    let l = c .before .byte-at2 .ensures ∙ low-read b k (c .before .before .before .before .before .before .before .args .at) r (c .before .before .before .before .before .before .before .pre .1 .1) in
     (omega arith, first-more (badRange b k) r (c .before .before .before .before .loop .inv .1) (rw (← h, ← l, le-ltb _ _ (c .if1 .left)) refl))
 
 returns-2 : tie.Need-returns-2 Inv-loop μ-loop

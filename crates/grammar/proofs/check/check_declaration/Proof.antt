@@ -2,6 +2,7 @@
 use Prim.Native.Nat.{ℕ, _<_}
 use native.Mathlib.Omega.{arith}
 use borrow.Author.Needs.{needs}
+use Rattle.charset.specs.Set.{characters}
 use Rattle.grammar.proofs.FormedLaws.{declaration-in}
 use Rattle.grammar.proofs.LayoutLaws.{declaration-small}
 use Rattle.grammar.specs.Check.{badDeclaration}
@@ -29,7 +30,7 @@ byte-at-requires-3 c κs = omega (arith, declaration-in (c .before .before .befo
 
 check-declaration-bytes-requires : tie.Need-check-declaration-bytes-requires
 check-declaration-bytes-requires c κs =
-    let bytes : (k : ℕ) → byteAt (c .before .before .before .before .before .args .book .now) k < 256 = λ k. omega (arith, c .before .before .before .before .shared-slice-known .given k) in
+    let bytes : (k : ℕ) → byteAt (c .before .before .before .before .before .args .book .now) k < characters = λ k. omega (arith, c .before .before .before .before .shared-slice-known .given k) in
     omega (arith, declaration-small (c .before .before .before .before .before .args .book .now) bytes (c .before .before .before .before .before .args .d), bytes 3)
 
 returns : tie.Need-returns

@@ -1,7 +1,6 @@
 -- `check_declarations` meets its contract: no declaration passed is refused.
 use Prim.Native.Nat.{_-_, _≤_}
 use mathlib.Core.Path.{_≡_, sym, _∙_}
-use mathlib.Core.List.{count}
 use native.Mathlib.Omega.{arith}
 use borrow.Author.Needs.{needs}
 use Rattle.grammar.proofs.FormedLaws.{declaration-in, bodies-in}

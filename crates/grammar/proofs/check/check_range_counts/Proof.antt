@@ -7,6 +7,7 @@ use borrow.Author.Needs.{needs}
 use Rattle.grammar.proofs.VerdictLaws.{first-none, first-more, first-found, first-done}
 use Rattle.grammar.specs.Check.{badRangeCount}
 use Rattle.grammar.specs.Layout.{productions}
+use Rattle.grammar.specs.Limits.{headerLength}
 use Rattle.grammar.specs.Verdict.{firstRefusal}
 use Rattle.grammar.specs.declared.Verdict.the-variants.{Accepted}
 use Rattle.grammar.proofs.check.check_range_counts.Statement.{statement}
@@ -42,7 +43,7 @@ returns c =
     let b = c .before .before .before .before .before .before .before .args .book .now in
     let k = c .before .before .before .before .loop .k in
     rw (c .production-count .ensures)
-    (sym (first-found (badRangeCount b) k _ 3 (6 + productions b + k) (omega (arith, c .before .before .before .before .before .class-count .ensures)) (c .before .before .before .before .loop .inv .1) (rw (← (c .before .before .range-count .ensures), lt-ltb _ _ (c .before .if1 .taken)) refl)))
+    (sym (first-found (badRangeCount b) k _ 3 (headerLength + productions b + k) (omega (arith, c .before .before .before .before .before .class-count .ensures)) (c .before .before .before .before .loop .inv .1) (rw (← (c .before .before .range-count .ensures), lt-ltb _ _ (c .before .if1 .taken)) refl)))
 
 add-k : tie.Need-add-k Inv-loop μ-loop
 add-k c = omega arith

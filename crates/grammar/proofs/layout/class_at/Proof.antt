@@ -3,6 +3,7 @@ use Prim.Native.Nat.{ℕ, _-_, _≤_, _<_}
 use mathlib.Core.Path.{_≡_, sym, _∙_, ap, subst}
 use native.Mathlib.Omega.{arith}
 use borrow.Author.Needs.{needs}
+use Rattle.charset.specs.Set.{characters}
 use Rattle.grammar.proofs.LayoutLaws.{class-first, class-next, range-count-small, class-small}
 use Rattle.grammar.specs.Layout.{byteAt, productionAt, classAt}
 use Rattle.grammar.proofs.layout.class_at.Statement.{statement}
@@ -31,14 +32,14 @@ range-count-requires c κs = (c .before .before .before .before .before .pre .0,
 mul-at : tie.Need-mul-at Inv-loop μ-loop
 mul-at c =
     let b = c .before .before .before .before .before .before .args .book .now in
-    let bytes : (k : ℕ) → byteAt b k < 256 = λ k. omega (arith, c .before .before .before .before .before .shared-slice-known .given k) in
+    let bytes : (k : ℕ) → byteAt b k < characters = λ k. omega (arith, c .before .before .before .before .before .shared-slice-known .given k) in
     omega (arith, c .range-count .ensures, range-count-small b bytes (c .before .before .loop .j))
 
 add-at : tie.Need-add-at Inv-loop μ-loop
 add-at c =
     let b = c .before .before .before .before .before .before .args .book .now in
     let j = c .before .before .loop .j in
-    let bytes : (k : ℕ) → byteAt b k < 256 = λ k. omega (arith, c .before .before .before .before .before .shared-slice-known .given k) in
+    let bytes : (k : ℕ) → byteAt b k < characters = λ k. omega (arith, c .before .before .before .before .before .shared-slice-known .given k) in
     omega (arith, c .range-count .ensures, range-count-small b bytes j, class-small b bytes j, bytes 2)
 
 add-j : tie.Need-add-j Inv-loop μ-loop

@@ -3,6 +3,7 @@ use Prim.Native.Nat.{ℕ, _+_, _*_, _<_}
 use mathlib.Core.Path.{_∙_, ap}
 use native.Mathlib.Omega.{arith}
 use borrow.Author.Needs.{needs}
+use Rattle.charset.specs.Set.{characters}
 use Rattle.grammar.proofs.LayoutLaws.{class-small}
 use Rattle.grammar.specs.Layout.{byteAt, classAt, declarationAt}
 use Rattle.grammar.proofs.layout.declaration_at.Statement.{statement}
@@ -20,7 +21,7 @@ mul-result c = omega (arith, c .before .before .shared-slice-known .given 3)
 add-result : tie.Need-add-result
 add-result c =
     let b = c .before .before .before .args .book .now in
-    let bytes : (k : ℕ) → byteAt b k < 256 = λ k. omega (arith, c .before .before .shared-slice-known .given k) in
+    let bytes : (k : ℕ) → byteAt b k < characters = λ k. omega (arith, c .before .before .shared-slice-known .given k) in
     omega (arith, c .class-at .ensures, c .before .class-count .ensures, class-small b bytes (c .before .class-count .result), bytes 2, bytes 3)
 
 returns : tie.Need-returns

@@ -3,6 +3,7 @@ use Prim.Native.Nat.{ℕ, _-_, _≤_, _<_}
 use mathlib.Core.Path.{_≡_, sym, _∙_, subst}
 use native.Mathlib.Omega.{arith}
 use borrow.Author.Needs.{needs}
+use Rattle.charset.specs.Set.{characters}
 use Rattle.grammar.proofs.LayoutLaws.{production-first, production-next, count-small, production-small}
 use Rattle.grammar.specs.Layout.{byteAt, productionAt}
 use Rattle.grammar.proofs.layout.production_at.Statement.{statement}
@@ -26,14 +27,14 @@ argument-count-requires c κs = (c .before .before .before .before .pre .0, omeg
 add-at : tie.Need-add-at Inv-loop μ-loop
 add-at c =
     let b = c .before .before .before .before .before .args .book .now in
-    let bytes : (k : ℕ) → byteAt b k < 256 = λ k. omega (arith, c .before .before .before .before .shared-slice-known .given k) in
+    let bytes : (k : ℕ) → byteAt b k < characters = λ k. omega (arith, c .before .before .before .before .shared-slice-known .given k) in
     omega (arith, c .argument-count .ensures, count-small b bytes (c .before .before .loop .q))
 
 add-at-2 : tie.Need-add-at-2 Inv-loop μ-loop
 add-at-2 c =
     let b = c .before .before .before .before .before .args .book .now in
     let q = c .before .before .loop .q in
-    let bytes : (k : ℕ) → byteAt b k < 256 = λ k. omega (arith, c .before .before .before .before .shared-slice-known .given k) in
+    let bytes : (k : ℕ) → byteAt b k < characters = λ k. omega (arith, c .before .before .before .before .shared-slice-known .given k) in
     omega (arith, c .argument-count .ensures, count-small b bytes q, production-small b bytes q, bytes 1)
 
 add-q : tie.Need-add-q Inv-loop μ-loop

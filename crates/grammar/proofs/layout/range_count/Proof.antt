@@ -6,6 +6,7 @@ use borrow.Author.Needs.{needs}
 use Rattle.grammar.specs.Layout.{rangeCount}
 use Rattle.grammar.proofs.layout.range_count.Statement.{statement}
 use Rattle.grammar.proofs.layout.range_count.Tie as tie
+use Rattle.grammar.specs.Limits.{headerLength}
 
 production-count-requires : tie.Need-production-count-requires
 production-count-requires c κs = search needs
@@ -21,7 +22,7 @@ byte-at-requires c κs = search needs
 
 returns : tie.Need-returns
 unfolding rangeCount
-returns c = c .byte-at .ensures ∙ ap (λ (r : _). getD (c .before .before .before .args .book .now) (6 + r + c .before .before .before .args .k) 0) (c .before .production-count .ensures)
+returns c = c .byte-at .ensures ∙ ap (λ (r : _). getD (c .before .before .before .args .book .now) (headerLength + r + c .before .before .before .args .k) 0) (c .before .production-count .ensures)
 
 pub range-count-spec : {M : Type 1} → statement M
 range-count-spec =

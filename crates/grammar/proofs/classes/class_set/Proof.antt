@@ -1,32 +1,24 @@
 -- `class_set` meets its contract: the set holds the characters of the ranges passed.
-use Prim.Native.Nat.{ℕ, _+_, _-_, _*_, _≤_, _<_}
+use Prim.Native.Nat.{ℕ, _+_, _-_, _≤_, _<_}
 use mathlib.Core.Path.{_≡_, sym, _∙_, ap}
 use mathlib.Core.Bool.{Bool, _||_}
 use mathlib.Core.List.{List}
 use native.Mathlib.Omega.{arith}
-use lib.ListN.{getD, set}
-use Rattle.ccg.specs.Trees.{classHas}
 use Rattle.charset.specs.Set.{characters, has, inRange}
 use Rattle.common.proofs.BelowLaws.{any-none, any-next}
 use Rattle.common.specs.Below.{anyBelow}
 use Rattle.grammar.proofs.FormedLaws.{class-in, bodies-in}
-use Rattle.grammar.specs.Layout.{rangeCount, classAt, low, high}
-use Rattle.ccg.proofs.tables.class_set.Statement.{statement}
-use Rattle.ccg.proofs.tables.class_set.Tie as tie
+use Rattle.grammar.proofs.LayoutLaws.{low-read, high-read}
+use Rattle.grammar.specs.Classes.{classHas}
+use Rattle.grammar.specs.Layout.{rangeCount, low, high}
+use Rattle.grammar.proofs.classes.class_set.Statement.{statement}
+use Rattle.grammar.proofs.classes.class_set.Tie as tie
 
 -- the characters of the ranges below r
 inRanges : List ℕ → ℕ → ℕ → ℕ → Bool
 inRanges b k r c = anyBelow r (λ j. inRange (low b k j) (high b k j) c)
 
-module _ (b : List ℕ) (k at r : ℕ) (e : at ≡ classAt b k) where
-  low-is : getD b (at + 2 * r) 0 ≡ low b k r
-  unfolding low
-  low-is = ap (λ (a : ℕ). getD b (a + 2 * r) 0) e
-
-  high-is : getD b (at + 2 * r + 1) 0 ≡ high b k r
-  unfolding high
-  high-is = ap (λ (a : ℕ). getD b (a + 2 * r + 1) 0) e
-
+-- one range more
 next-range : (b : List ℕ) (k r c : ℕ) → inRanges b k (r + 1) c ≡ (inRanges b k r c || inRange (low b k r) (high b k r) c)
 unfolding inRanges
 next-range b k r c = any-next (λ j. inRange (low b k j) (high b k j) c) r
@@ -85,8 +77,8 @@ loop-again c =
     let b = c .before .before .before .before .before .before .before .before .before .args .book .now in
     let k = c .before .before .before .before .before .before .before .before .before .args .k in
     let r = c .before .before .before .before .loop .r in
-    let lo = low-is b k (c .before .before .before .before .before .class-at .result) r (c .before .before .before .before .before .class-at .ensures) in
-    let hi = high-is b k (c .before .before .before .before .before .class-at .result) r (c .before .before .before .before .before .class-at .ensures) in
+    let lo = low-read b k (c .before .before .before .before .before .class-at .result) r (c .before .before .before .before .before .class-at .ensures) in
+    let hi = high-read b k (c .before .before .before .before .before .class-at .result) r (c .before .before .before .before .before .class-at .ensures) in
     (omega arith, λ x l. c .insert-range .ensures x l ∙ rw (lo, hi, c .before .before .before .before .loop .inv .1 x l) (sym (next-range b k r x)))
 
 returns : tie.Need-returns Inv-loop μ-loop

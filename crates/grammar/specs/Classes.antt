@@ -1,0 +1,17 @@
+-- The character classes of a grammar (01, "The book"): which argument bytes are classes, and which characters a class has.
+use Prim.Native.Nat.{ℕ, _+_}
+use mathlib.Core.Bool.{Bool, _&&_}
+use mathlib.Core.List.{List}
+use lib.Dec.{leb, ltb}
+use Rattle.charset.specs.Set.{inRange}
+use Rattle.common.specs.Below.{anyBelow}
+use Rattle.grammar.specs.Layout.{classes, rangeCount, low, high}
+use Rattle.grammar.specs.Limits.{classBase}
+
+-- An argument byte that is a class.
+unfoldable pub isClass : List ℕ → ℕ → Bool
+isClass b x = leb classBase x && ltb x (classBase + classes b)
+
+-- Character c is in class k: in one of its ranges.
+unfoldable pub classHas : List ℕ → ℕ → ℕ → Bool
+classHas b k c = anyBelow (rangeCount b k) (λ r. inRange (low b k r) (high b k r) c)
