@@ -9,14 +9,14 @@ use native.Mathlib.Nat.{mod-lt, div-add-mod', div-lt-iff-lt-mul}
 use lib.ListN.{length, getD, take}
 use lib.Seq.{ext-getD}
 use Rattle.chart.proofs.LayoutLaws.{start-end}
+use Rattle.chart.specs.Counted.{entryOf}
 use Rattle.chart.specs.Layout.{rowOf, rowCount, spanCount, startAt, cellAt, chartBytes, entryAt}
 use Rattle.common.specs.Below.{sumBelow}
 use Rattle.common.specs.Lists.{overwritten}
-use Rattle.engine.specs.Outcome.{Answered, ChartAfter, Parsed}
+use Rattle.engine.specs.Outcome.{Parsing, Answered, ChartAfter, Parsed}
 use Rattle.engine.specs.declared.Answer.{Answer}
 use Rattle.engine.specs.declared.Answer.the-variants.{None, One, Several, Refused}
 use Rattle.extract.specs.Written.{bytesOf}
-use Rattle.grammar.specs.Layout.{low, high}
 use Rattle.theory.proofs.CountLaws.{counts-unique}
 use Rattle.theory.specs.Counts.{Only, Two}
 use Rattle.theory.specs.Tree.{Tree, Forest, listing}
@@ -63,18 +63,20 @@ cell-found arity count n k l =
 
 -- ---- the chart
 
-module _ (E : ℕ → ℕ → ℕ → ℕ → Forest → Type 0) (arity : ℕ → ℕ) (count n : ℕ) (c₀ c c′ : List ℕ)
-    (a : ChartAfter E arity count n c₀ c) (b : ChartAfter E arity count n c₀ c′) where
+module _ (s : Parsing) (c₀ c c′ : List ℕ) (a : ChartAfter s c₀ c) (b : ChartAfter s c₀ c′) where
   -- an entry is the count of the same lists of trees
-  cell-unique : (p d i j : ℕ) → p < count → d ≤ arity p → i ≤ j → j ≤ n
-      → entryAt (a .entries) (cellAt n (rowOf arity p d) i j) ≡ entryAt (b .entries) (cellAt n (rowOf arity p d) i j)
-  cell-unique p d i j lp ld ij jn = counts-unique (E p d i j) _ _ (a .cells p d i j lp ld ij jn) (b .cells p d i j lp ld ij jn)
+  cell-unique : (p d i j : ℕ) → p < s .count → d ≤ s .arity p → i ≤ j → j ≤ s .size
+      → entryOf (s .arity) (s .size) (a .entries) p d i j ≡ entryOf (s .arity) (s .size) (b .entries) p d i j
+  cell-unique p d i j lp ld ij jn =
+      counts-unique (s .entry p d i j) (entryOf (s .arity) (s .size) (a .entries) p d i j) (entryOf (s .arity) (s .size) (b .entries) p d i j)
+      (a .counted .counts p d i j lp ld ij jn refl) (b .counted .counts p d i j lp ld ij jn refl)
 
   -- so all entries are the same
   entries-unique : a .entries ≡ b .entries
+  unfolding entryOf entryAt
   entries-unique =
       ext-getD 0 (a .entries) (b .entries) (a .long ∙ sym (b .long))
-      (λ k l. let (p, d, i, j, lp, ld, ij, jn, e) = cell-found arity count n k (omega (arith, a .long)) in rw e (cell-unique p d i j lp ld ij jn))
+      (λ k l. let (p, d, i, j, lp, ld, ij, jn, e) = cell-found (s .arity) (s .count) (s .size) k (omega (arith, a .long)) in rw e (cell-unique p d i j lp ld ij jn))
 
   -- two charts that meet the promise are the same
   pub chart-unique : c ≡ c′
@@ -122,8 +124,7 @@ module _ (P : Tree → Type 0) (l₀ : List ℕ) where
 -- ---- the outcome
 
 -- for one input, two outcomes that meet the promise have the same answer and the same bytes
-pub parsed-unique : (P : Tree → Type 0) (E : ℕ → ℕ → ℕ → ℕ → Forest → Type 0) (arity : ℕ → ℕ) (count n : ℕ) (c₀ l₀ : List ℕ) (r r′ : Answer) (c c′ l l′ : List ℕ)
-    → Parsed P E arity count n c₀ l₀ r c l → Parsed P E arity count n c₀ l₀ r′ c′ l′ → (r ≡ r′) × (c ≡ c′) × (l ≡ l′)
-parsed-unique P E arity count n c₀ l₀ r r′ c c′ l l′ a b =
-    let (same-answer, same-listing) = answer-unique P l₀ r r′ l l′ (a .answer) (b .answer) in
-    (same-answer, chart-unique E arity count n c₀ c c′ (a .chart) (b .chart), same-listing)
+pub parsed-unique : (s : Parsing) (c₀ l₀ : List ℕ) (r r′ : Answer) (c c′ l l′ : List ℕ) → Parsed s c₀ l₀ r c l → Parsed s c₀ l₀ r′ c′ l′ → (r ≡ r′) × (c ≡ c′) × (l ≡ l′)
+parsed-unique s c₀ l₀ r r′ c c′ l l′ a b =
+    let (same-answer, same-listing) = answer-unique (s .parse) l₀ r r′ l l′ (a .answer) (b .answer) in
+    (same-answer, chart-unique s c₀ c c′ (a .chart) (b .chart), same-listing)

@@ -2,14 +2,25 @@
 use Prim.Native.Nat.{ℕ, _*_, _≤_, _<_}
 use mathlib.Core.Path.{_≡_}
 use mathlib.Core.List.{List}
-use lib.ListN.{length, getD, take}
-use Rattle.chart.specs.Layout.{rowOf, cellAt, chartBytes, entryAt}
+use lib.ListN.{length, take}
+use Rattle.chart.specs.Counted.{Counted}
+use Rattle.chart.specs.Layout.{chartBytes}
 use Rattle.common.specs.Lists.{overwritten}
 use Rattle.engine.specs.declared.Answer.{Answer}
 use Rattle.engine.specs.declared.Answer.the-variants.{None, One, Several, Refused}
 use Rattle.extract.specs.Written.{bytesOf, room}
-use Rattle.theory.specs.Counts.{Only, Two, Counts}
+use Rattle.theory.specs.Counts.{Only, Two}
+use Rattle.theory.specs.Steps.{everything}
 use Rattle.theory.specs.Tree.{Tree, Forest, listing}
+
+-- What is asked of a text of `size` characters: `parse` says which trees are its parses; `entry p d i j` says which lists of trees the entry of the chart counts for
+-- production p, the first d of its arguments, start i and end j.
+pub record Parsing : Type 1 where
+  pub parse : Tree → Type 0
+  pub entry : ℕ → ℕ → ℕ → ℕ → Forest → Type 0
+  pub arity : ℕ → ℕ
+  pub count : ℕ
+  pub size : ℕ
 
 -- The answer, if P says which trees are parses of the text; the buffer for the listing held l₀ before, and holds l afterwards.
 -- After none and several the buffer stays. After one it starts with the listing, two bytes a number, and stays beyond.
@@ -21,14 +32,13 @@ Answered P l₀ Several l = Two P × (l ≡ l₀)
 Answered P l₀ (Refused number place) l =
     (t : Tree) × Only P t × (number ≡ 22) × (place ≡ room l₀) × (length l₀ < 2 * length (listing t)) × (l ≡ overwritten (bytesOf (take place (listing t))) l₀)
 
--- The chart, if E p d i j says which lists of trees its entries count: it starts with an entry for each production p, each count d of its arguments,
--- each start i and end j in a text of n characters; bytes beyond stay.
-pub record ChartAfter (E : ℕ → ℕ → ℕ → ℕ → Forest → Type 0) (arity : ℕ → ℕ) (count n : ℕ) (c₀ c : List ℕ) : Type 0 where
+-- The chart, which held c₀ before, starts with its entries, each the count of its lists of trees; bytes beyond stay.
+pub record ChartAfter (s : Parsing) (c₀ c : List ℕ) : Type 0 where
   pub entries : List ℕ
-  pub long : length entries ≡ chartBytes arity count n
-  pub cells : (p d i j : ℕ) → p < count → d ≤ arity p → i ≤ j → j ≤ n → Counts (E p d i j) (entryAt entries (cellAt n (rowOf arity p d) i j))
+  pub long : length entries ≡ chartBytes (s .arity) (s .count) (s .size)
+  pub counted : Counted (s .entry) (s .arity) (s .count) (s .size) everything entries
   pub whole : c ≡ overwritten entries c₀
 
-pub record Parsed (P : Tree → Type 0) (E : ℕ → ℕ → ℕ → ℕ → Forest → Type 0) (arity : ℕ → ℕ) (count n : ℕ) (c₀ l₀ : List ℕ) (r : Answer) (c l : List ℕ) : Type 0 where
-  pub chart : ChartAfter E arity count n c₀ c
-  pub answer : Answered P l₀ r l
+pub record Parsed (s : Parsing) (c₀ l₀ : List ℕ) (r : Answer) (c l : List ℕ) : Type 0 where
+  pub chart : ChartAfter s c₀ c
+  pub answer : Answered (s .parse) l₀ r l

@@ -1,18 +1,19 @@
 // Parses a text by the flat tables and the productions allowed at the root, whichever grammar they come from.
 use chart::layout::get;
+use chart::sums::capped;
 use extract::row_bases;
-use extract::write_tree;
+use extract::write_only;
 use fill::fill;
 use grammar::layout::wide;
 ghost use mathlib.Core.Path.{_≡_};
 ghost use Prim.Native.Nat.{ℕ, _+_, _*_, _<_, _≤_};
 ghost use lib.ListN.{length, getD};
 ghost use Rattle.common.specs.Below.{sumBelow};
-ghost use Rattle.theory.specs.Grammar.{Parse, Spells};
-ghost use Rattle.ccg.specs.Theory.{theoryOf, ParserTables};
-ghost use Rattle.chart.specs.Layout.{arityIn, textLimit, chartBytes};
-ghost use Rattle.engine.specs.Outcome.{Parsed};
-ghost use Rattle.engine.specs.Roots.{byteValues, RootsReady, rootTerm, rootTest};
+ghost use Rattle.theory.specs.Counts.{Counts};
+ghost use Rattle.theory.specs.Grammar.{Parse};
+ghost use Rattle.ccg.specs.Theory.{theoryOf};
+ghost use Rattle.engine.specs.Outcome.{Answered, ChartAfter, Parsed};
+ghost use Rattle.engine.specs.Roots.{byteValues, rootTerm, rootTest, parsingBy, Lent, Filled, RootsReady};
 
 // What parsing a text gives.
 pub enum Answer {
@@ -72,6 +73,48 @@ fn first_root(chart: &[u8], text: &[u8], counts: &[u8], bases: &[usize], roots: 
     p
 }
 
+// Fills the chart, and counts the parses: 0, 1, or 2 for more.
+pub fn count_parses(
+    counts: &[u8],
+    chars: &[u64],
+    subs: &[u8],
+    roots: &[u8],
+    text: &[u8],
+    chart: &mut [u8],
+) -> u8
+    requires { ⌜ Lent (now counts) (now chars) (now subs) (now roots) (now text) (now chart) ⌝ }
+    ensures { λ r. ⌜ Counts (Parse (theoryOf (now (counts .entry)) (now (chars .entry)) (now (subs .entry))) (rootTest (now (roots .entry))) (now (text .entry))) r ⌝ }
+    ensures { λ _. ⌜ Filled (now (counts .entry)) (now (chars .entry)) (now (subs .entry)) (now (roots .entry)) (now (text .entry)) (now (chart .exit)) ⌝ }
+    ensures { λ _. ⌜ ChartAfter (parsingBy (now (counts .entry)) (now (chars .entry)) (now (subs .entry)) (now (roots .entry)) (now (text .entry))) (now (chart .entry)) (now (chart .exit)) ⌝ }
+{
+    fill(chart, text, counts, chars, subs);
+    let bases = row_bases(counts);
+    capped(root_sum(chart, text, counts, &bases, roots))
+}
+
+// Writes the listing of the only parse, as far as there is room.
+pub fn write_parse(
+    counts: &[u8],
+    chars: &[u64],
+    subs: &[u8],
+    roots: &[u8],
+    text: &[u8],
+    chart: &[u8],
+    listing: &mut [u8],
+) -> Answer
+    requires { ⌜ Filled (now counts) (now chars) (now subs) (now roots) (now text) (now chart) ⌝ }
+    requires { ⌜ Counts (Parse (theoryOf (now counts) (now chars) (now subs)) (rootTest (now roots)) (now text)) 1 ⌝ }
+    ensures { λ r. ⌜ Answered (Parse (theoryOf (now (counts .entry)) (now (chars .entry)) (now (subs .entry))) (rootTest (now (roots .entry))) (now (text .entry))) (now (listing .entry)) r (now (listing .exit)) ⌝ }
+{
+    let bases = row_bases(counts);
+    let root = first_root(chart, text, counts, &bases, roots);
+    let next = write_only(chart, text, counts, chars, subs, &bases, listing, root);
+    if listing.len() / 2 < next {
+        return Answer::Refused(22, listing.len() / 2);
+    }
+    Answer::One(next)
+}
+
 // The chart is filled; a text with one parse has its listing written, as far as there is room.
 pub fn parse_tables(
     counts: &[u8],
@@ -82,36 +125,15 @@ pub fn parse_tables(
     chart: &mut [u8],
     listing: &mut [u8],
 ) -> Answer
-    requires { ⌜ ParserTables (now counts) (now chars) (now subs) ⌝ }
-    requires { ⌜ (length (now counts) ≤ length (now roots)) × ((k : ℕ) → getD (now roots) k 0 ≤ 1) ⌝ }
-    requires { ⌜ (1 ≤ length (now counts)) × (length (now text) ≤ textLimit) × (chartBytes (arityIn (now counts)) (length (now counts)) (length (now text)) ≤ length (now chart)) ⌝ }
-    ensures { λ r. ⌜ Parsed (Parse (theoryOf (now (counts .entry)) (now (chars .entry)) (now (subs .entry))) (rootTest (now (roots .entry))) (now (text .entry))) (λ p d i j f. Spells (theoryOf (now (counts .entry)) (now (chars .entry)) (now (subs .entry))) (now (text .entry)) p f d i j) (arityIn (now (counts .entry))) (length (now (counts .entry))) (length (now (text .entry))) (now (chart .entry)) (now (listing .entry)) r (now (chart .exit)) (now (listing .exit)) ⌝ }
+    requires { ⌜ Lent (now counts) (now chars) (now subs) (now roots) (now text) (now chart) ⌝ }
+    ensures { λ r. ⌜ Parsed (parsingBy (now (counts .entry)) (now (chars .entry)) (now (subs .entry)) (now (roots .entry)) (now (text .entry))) (now (chart .entry)) (now (listing .entry)) r (now (chart .exit)) (now (listing .exit)) ⌝ }
 {
-    fill(chart, text, counts, chars, subs);
-    let bases = row_bases(counts);
-    let found = root_sum(chart, text, counts, &bases, roots);
+    let found = count_parses(counts, chars, subs, roots, text, chart);
     if found == 0 {
         return Answer::None;
     }
     if 1 < found {
         return Answer::Several;
     }
-    let root = first_root(chart, text, counts, &bases, roots);
-    let next = write_tree(
-        chart,
-        text,
-        counts,
-        chars,
-        subs,
-        &bases,
-        listing,
-        0,
-        root,
-        0,
-        text.len(),
-    );
-    if listing.len() / 2 < next {
-        return Answer::Refused(22, listing.len() / 2);
-    }
-    Answer::One(next)
+    write_parse(counts, chars, subs, roots, text, chart, listing)
 }

@@ -28,6 +28,10 @@ levelBytes = endCount + 2
 abbrev pub levelLimit : ℕ
 levelLimit = productionLimit * places
 
+-- levels that are enough for a short text
+abbrev pub fewLevels : ℕ
+fewLevels = 2048
+
 unfoldable pub productionOf : List ℕ → ℕ → ℕ
 productionOf levels n = getD levels (n * levelBytes) 0
 

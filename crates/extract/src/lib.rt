@@ -11,6 +11,7 @@ use grammar::limits::PRODUCTION_LIMIT;
 use levels::Due;
 use levels::ENDS;
 use levels::LEVEL;
+use levels::LEVELS;
 use levels::count_argument;
 use levels::due_at;
 use levels::narrow;
@@ -29,7 +30,7 @@ ghost use Rattle.ccg.specs.Tables.{slot, slots, subAt, slotHas, charWords};
 ghost use Rattle.chart.specs.Layout.{textLimit};
 ghost use Rattle.ccg.specs.Theory.{theoryOf, ParserTables};
 ghost use Rattle.extract.specs.Written.{room, Written};
-ghost use Rattle.extract.specs.Walk.{levelBytes, productionOf, writtenOf, Midway, Further, WrittenOut, OnlyWritten};
+ghost use Rattle.extract.specs.Walk.{levelBytes, fewLevels, productionOf, writtenOf, Midway, Further, WrittenOut, OnlyWritten};
 ghost use Rattle.extract.specs.Places.{Bases, Walkable, cellOf, FirstChild, Splits};
 
 // What writing has come to.
@@ -330,9 +331,8 @@ fn write_levels(
     next
 }
 
-// Writes the only tree of production q over the whole text: as many of its numbers as there is room for. The next place comes back, or one past the room.
-// The levels have room for as many as there are productions and places.
-pub fn write_tree(
+// Writes the only tree of production q over the whole text, with levels that have room for as many as there are productions and places.
+fn write_tree(
     chart: &[u8],
     text: &[u8],
     counts: &[u8],
@@ -352,4 +352,67 @@ pub fn write_tree(
     open_level(levels, 0, q, ends);
     let next = put_number(out, 0, FIRST_PRODUCTION + q);
     write_levels(chart, text, counts, chars, subs, bases, levels, out, next)
+}
+
+// Levels that are enough for a short text; it is spared the clearing of many.
+const FEW_LEVELS: usize = 2048;
+
+// The same with a few levels of its own.
+fn write_low(
+    chart: &[u8],
+    text: &[u8],
+    counts: &[u8],
+    chars: &[u64],
+    subs: &[u8],
+    bases: &[usize],
+    out: &mut [u8],
+    q: usize,
+) -> usize
+    requires { ⌜ Walkable (now counts) (now chars) (now subs) (now bases) (now text) (now chart) ⌝ }
+    requires { ⌜ (q < length (now counts)) × (cellOf (now counts) (now text) (now chart) q (getD (now counts) q 0) 0 (length (now text)) ≡ 1) ⌝ }
+    requires { ⌜ length (now counts) * (length (now text) + 1) ≤ fewLevels ⌝ }
+    ensures { λ r. ⌜ OnlyWritten (theoryOf (now (counts .entry)) (now (chars .entry)) (now (subs .entry))) (now (text .entry)) q (now (out .entry)) (now (out .exit)) r ⌝ }
+{
+    let mut levels = [0; FEW_LEVELS * LEVEL];
+    write_tree(chart, text, counts, chars, subs, bases, &mut levels, out, q)
+}
+
+// The same with as many levels as any only tree has.
+fn write_high(
+    chart: &[u8],
+    text: &[u8],
+    counts: &[u8],
+    chars: &[u64],
+    subs: &[u8],
+    bases: &[usize],
+    out: &mut [u8],
+    q: usize,
+) -> usize
+    requires { ⌜ Walkable (now counts) (now chars) (now subs) (now bases) (now text) (now chart) ⌝ }
+    requires { ⌜ (q < length (now counts)) × (cellOf (now counts) (now text) (now chart) q (getD (now counts) q 0) 0 (length (now text)) ≡ 1) ⌝ }
+    ensures { λ r. ⌜ OnlyWritten (theoryOf (now (counts .entry)) (now (chars .entry)) (now (subs .entry))) (now (text .entry)) q (now (out .entry)) (now (out .exit)) r ⌝ }
+{
+    let mut levels = [0; LEVELS * LEVEL];
+    write_tree(chart, text, counts, chars, subs, bases, &mut levels, out, q)
+}
+
+// Writes the only tree of production q over the whole text: as many of its numbers as there is room for. The next place comes back, or one past the room.
+pub fn write_only(
+    chart: &[u8],
+    text: &[u8],
+    counts: &[u8],
+    chars: &[u64],
+    subs: &[u8],
+    bases: &[usize],
+    out: &mut [u8],
+    q: usize,
+) -> usize
+    requires { ⌜ Walkable (now counts) (now chars) (now subs) (now bases) (now text) (now chart) ⌝ }
+    requires { ⌜ (q < length (now counts)) × (cellOf (now counts) (now text) (now chart) q (getD (now counts) q 0) 0 (length (now text)) ≡ 1) ⌝ }
+    ensures { λ r. ⌜ OnlyWritten (theoryOf (now (counts .entry)) (now (chars .entry)) (now (subs .entry))) (now (text .entry)) q (now (out .entry)) (now (out .exit)) r ⌝ }
+{
+    if counts.len() * (text.len() + 1) <= FEW_LEVELS {
+        return write_low(chart, text, counts, chars, subs, bases, out, q);
+    }
+    write_high(chart, text, counts, chars, subs, bases, out, q)
 }

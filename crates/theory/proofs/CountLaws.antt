@@ -92,11 +92,11 @@ module _ (g : Grammar) (w : List ℕ) (wanted : Wanted) (dues : DueWanted g w wa
 
 -- ---- the parses
 
--- v p is the number of lists of trees of production p for the whole text
+-- v p is the number of lists of trees for the whole text of a production p that is allowed at the root
 module _ (g : Grammar) (w : List ℕ) (roots : ℕ → Bool) (v : ℕ → ℕ)
-    (counts : (p : ℕ) → p < g .count → Counts (λ (f : Forest). Spells g w p f (g .arity p) 0 (length w)) (v p)) where
-  bounds : (p : ℕ) → p < g .count → Bounds (λ (f : Forest). Spells g w p f (g .arity p) 0 (length w)) (v p)
-  bounds p l = counts-bounds (λ (f : Forest). Spells g w p f (g .arity p) 0 (length w)) (v p) (counts p l)
+    (counts : (p : ℕ) → p < g .count → roots p ≡ true → Counts (λ (f : Forest). Spells g w p f (g .arity p) 0 (length w)) (v p)) where
+  bounds : (p : ℕ) → p < g .count → roots p ≡ true → Bounds (λ (f : Forest). Spells g w p f (g .arity p) 0 (length w)) (v p)
+  bounds p l e = counts-bounds (λ (f : Forest). Spells g w p f (g .arity p) 0 (length w)) (v p) (counts p l e)
 
   root : ℕ → ℕ
   root p = bitOf (roots p) * v p
@@ -113,16 +113,17 @@ module _ (g : Grammar) (w : List ℕ) (roots : ℕ → Bool) (v : ℕ → ℕ)
   unfolding root
   root-one p l h =
       let a = product-one (bitOf (roots p)) (v p) h in
-      let s = bounds p l .one (a .1) in
-      (node p (s .0), parse-of p (s .0) l (bit-one (roots p) (a .0)) (s .1), (s .0, refl))
+      let e = bit-one (roots p) (a .0) in
+      let s = bounds p l e .one (a .1) in
+      (node p (s .0), parse-of p (s .0) l e (s .1), (s .0, refl))
 
   root-two : (p : ℕ) → p < g .count → 2 ≤ root p → Two (Parse g roots w)
   unfolding root
   root-two p l h =
       ⊎-elim
       (λ a. absurd (omega (arith, a .0, bit-small (roots p))))
-      (λ a. let s = bounds p l .two (a .1) in
-      let e = bit-one (roots p) (a .0) in
+      (λ a. let e = bit-one (roots p) (a .0) in
+      let s = bounds p l e .two (a .1) in
       (node p (s .0), node p (s .1), parse-of p (s .0) l e (s .2), parse-of p (s .1) l e (s .3), λ q. s .4 (node-forest p p (s .0) (s .1) q)))
       (product-two (bitOf (roots p)) (v p) h)
 
@@ -147,7 +148,7 @@ module _ (g : Grammar) (w : List ℕ) (roots : ℕ → Bool) (v : ℕ → ℕ)
 
   root-counted : (p : ℕ) (f : Forest) → Parse g roots w (node p f) → (p < g .count) × (1 ≤ root p)
   unfolding Parse root
-  root-counted p f s = (s .0, one-product (bitOf (roots p)) (v p) (true-bit (roots p) (s .1)) (bounds p (s .0) .some f (spells-of p f s)))
+  root-counted p f s = (s .0, one-product (bitOf (roots p)) (v p) (true-bit (roots p) (s .1)) (bounds p (s .0) (s .1) .some f (spells-of p f s)))
 
   some-parse : (t : Tree) → Parse g roots w t → 1 ≤ rootSum g roots v
   unfolding Parse rootSum root
@@ -171,7 +172,7 @@ module _ (g : Grammar) (w : List ℕ) (roots : ℕ → Bool) (v : ℕ → ℕ)
       let b = root-counted q k r in
       let e : p ≡ q = meets (λ l. one-root h p q l (b .0) (a .1) (b .1)) (λ l. one-root h q p l (a .0) (b .1) (a .1)) in
       let r′ = subst⁻¹ (λ (n : ℕ). Spells g w n k (g .arity n) 0 (length w)) e (spells-of q k r) in
-      ap₂ node e (bounds p (s .0) .same (root-small p (s .0) (s .1) h) f k (spells-of p f s) r′)
+      ap₂ node e (bounds p (s .0) (s .1) .same (root-small p (s .0) (s .1) h) f k (spells-of p f s) r′)
 
   -- Parses of every size are counted, and no other.
   pub parse-counts : Counts (Parse g roots w) (cap (rootSum g roots v))

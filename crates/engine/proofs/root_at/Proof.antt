@@ -5,6 +5,7 @@ use native.Mathlib.Omega.{arith}
 use native.Mathlib.Nat.{le-refl, mul-le-mul}
 use lib.ListN.{length, getD}
 use borrow.Author.Needs.{needs}
+use Rattle.chart.specs.Counted.{entryOf}
 use Rattle.chart.specs.Layout.{arityIn, rowOf, spanCount, cellAt, entryAt}
 use Rattle.engine.proofs.RootLaws.{whole-row, whole-few, whole-room}
 use Rattle.engine.specs.Roots.{rootTerm}
@@ -55,7 +56,7 @@ mul-result : tie.Need-mul-result
 mul-result c = omega (arith, product-few (c .before .before .before .before .before .wide .ensures) (c .wide3 .ensures) (omega (arith, c .before .before .before .before .before .before .shared-slice-known6 .given (c .before .before .before .before .before .before .before .before .before .before .before .before .args .p))) (omega arith))
 
 returns : tie.Need-returns
-unfolding rootTerm cellOf
+unfolding rootTerm cellOf entryOf
 returns c =
     let row = whole-row (c .before .before .before .before .before .before .before .before .before .before .before .before .args .counts .now) (c .before .before .before .before .before .before .before .before .before .before .before .before .args .bases .now) (c .before .before .before .before .before .before .before .before .before .before .before .before .args .roots .now) (c .before .before .before .before .before .before .before .before .before .before .before .before .args .text .now) (c .before .before .before .before .before .before .before .before .before .before .before .before .args .chart .now) (c .before .before .before .before .before .before .before .before .before .before .before .before .pre .0) (c .before .before .before .before .before .before .before .before .before .before .before .before .args .p) (c .before .before .before .before .before .before .before .before .before .before .before .before .pre .1) in
     let e : getD (c .before .before .before .before .before .before .before .before .before .before .before .before .args .bases .now) (c .before .before .before .before .before .before .before .before .before .before .before .before .args .p) 0 + c .before .before .wide2 .result ≡ rowOf (arityIn (c .before .before .before .before .before .before .before .before .before .before .before .before .args .counts .now)) (c .before .before .before .before .before .before .before .before .before .before .before .before .args .p) (arityIn (c .before .before .before .before .before .before .before .before .before .before .before .before .args .counts .now) (c .before .before .before .before .before .before .before .before .before .before .before .before .args .p)) = omega (arith, c .before .before .wide2 .ensures, row) in (

@@ -1,0 +1,29 @@
+-- `write_high` meets its contract: an only tree has no more levels.
+use Prim.Native.Nat.{ℕ, _+_, _*_, _≤_}
+use native.Mathlib.Omega.{arith}
+use native.Mathlib.Nat.{mul-le-mul, mul-le-mul-right}
+use lib.ListN.{length, length-replicate}
+use borrow.Author.Needs.{needs}
+use Rattle.chart.specs.Layout.{places}
+use Rattle.extract.specs.Walk.{levelBytes, levelLimit}
+use Rattle.extract.proofs.write_high.Statement.{statement}
+use Rattle.extract.proofs.write_high.Tie as tie
+
+slice-aggregate-write-tree : tie.Need-slice-aggregate-write-tree
+slice-aggregate-write-tree c = search needs
+
+write-tree-requires : tie.Need-write-tree-requires
+write-tree-requires c κs =
+    let h = c .before .before .before .before .before .before .before .before .before .pre .0 in
+    let places-few : length (c .before .before .before .before .before .before .before .before .before .args .text .now) + 1 ≤ places = omega (arith, h .short) in
+    (h, (c .before .before .before .before .before .before .before .before .before .pre .1, rw (length-replicate {A = ℕ} (levelLimit * levelBytes) 0) (mul-le-mul-right levelBytes (mul-le-mul (h .tables .fewProductions) places-few))))
+
+same-length : tie.Need-same-length
+same-length c = search needs
+
+returns : tie.Need-returns
+returns c = search needs
+
+pub write-high-spec : {M : Type 1} → statement M
+write-high-spec =
+    tie.close (tie.spec slice-aggregate-write-tree write-tree-requires same-length returns)
