@@ -4,6 +4,8 @@ pub mod FlatLaws
 pub mod FlatClassLaws
 pub mod VisserLaws
 pub mod TableLaws
+pub mod TestsLaws
+pub mod BookLaws
 pub mod TextLaws
 pub mod TableTextLaws
 pub mod NumeralLaws

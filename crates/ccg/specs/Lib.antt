@@ -1,5 +1,6 @@
 -- What the contracts of the character class grammar cite.
 pub mod Trees
+pub mod Reading
 pub mod Ccg
 pub mod Flat
 pub mod Tables

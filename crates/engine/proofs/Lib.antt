@@ -3,3 +3,4 @@ pub mod RootLaws
 pub mod EngineLaws
 pub mod UniqueLaws
 pub mod AnswerLaws
+pub mod RefusalsLaws

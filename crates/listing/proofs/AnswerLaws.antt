@@ -24,8 +24,8 @@ use Rattle.listing.specs.Numbers.{numbersOf}
 use Rattle.listing.specs.Parts.{afterPart, Walked}
 use Rattle.listing.specs.declared.ListingAnswer.the-variants.{Refused}
 use Rattle.listing.specs.declared.Part.{Part}
-use Rattle.parse.proofs.CarryLaws.{cut-count}
-use Rattle.parse.specs.Outcome.{tooLong}
+use Rattle.ccg.proofs.BookLaws.{cut-count}
+use Rattle.engine.specs.Refusals.{tooLong}
 
 module _ (b w l : List ℕ) where
   -- the verdict once the grammar is accepted

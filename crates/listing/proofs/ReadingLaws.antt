@@ -28,7 +28,7 @@ use Rattle.listing.specs.Answer.{byteLimit, badListing, judged, afterVer
 use Rattle.listing.specs.Numbers.{numbersOf}
 use Rattle.listing.specs.declared.ListingAnswer.the-variants.{Right, Refused}
 use Rattle.parse.specs.Outcome.{tooLong, tooShort, refusal, AfterVerdict, Outcome}
-use Rattle.parse.specs.Reading.{Reading}
+use Rattle.ccg.specs.Reading.{Reading}
 use Rattle.priority.proofs.CheckLaws.{accepted-formed}
 use Rattle.priority.specs.Check.{checked}
 use Rattle.theory.specs.Tree.{Tree, listing}
@@ -92,29 +92,15 @@ listing-right b bytes w l = (
   (λ h. right-parts b w l .1 (h .0, judged-right b (refusals-formed b w l (h .0)) bytes w l .1 (h .1))),
 )
 
--- ---- what parsing answers with one
+-- ---- a listing that was written
 
 -- an even byte count within the limit is not refused
 pub listing-accepted : (l : List ℕ) → length l % 2 ≡ 0 → length l ≤ byteLimit → badListing l ≡ Accepted
 unfolding badListing
 listing-accepted l even short = rw (ne-eqb (length l % 2) 1 (λ e. omega arith), le-ltb byteLimit (length l) short) refl
 
-module _ (b w c₀ l₀ : List ℕ) (n : ℕ) (c l : List ℕ) where
-  -- one is no refusal
-  one-accepted : (v : Verdict) → AfterVerdict b w c₀ l₀ (One n) c l v → (v ≡ Accepted) × Answered (Reading b w) l₀ (One n) l
-  unfolding AfterVerdict
-  one-accepted Accepted h = (refl, h .answer)
-  one-accepted (Rejected number place) h = let e = h .0 in let z : _≡_ {A = ℕ} 0 1 = cc in absurd (omega arith)
-
-  one-parts : Outcome b w c₀ l₀ (One n) c l → (checked b ≡ Accepted) × (tooLong w ≡ Accepted) × Answered (Reading b w) l₀ (One n) l
-  unfolding Outcome refusal
-  one-parts h =
-      let (accepted, answered) = one-accepted (refusal b w c₀) h in
-      let later = and-second (checked b) (andThen (tooLong w) (tooShort b w c₀)) accepted in
-      (and-first (checked b) (andThen (tooLong w) (tooShort b w c₀)) accepted, and-first (tooLong w) (tooShort b w c₀) later, answered)
-
 -- the listing of a parse, written at the start of a buffer, is found right
-reading-written : (b : List ℕ) → ((k : ℕ) → getD b k 0 < characters) → (w l₀ l : List ℕ) (t : Tree) → checked b ≡ Accepted → tooLong w ≡ Accepted → Reading b w t
+pub reading-written : (b : List ℕ) → ((k : ℕ) → getD b k 0 < characters) → (w l₀ l : List ℕ) (t : Tree) → checked b ≡ Accepted → tooLong w ≡ Accepted → Reading b w t
     → 2 * length (listing t) ≤ byteLimit → l ≡ overwritten (bytesOf (listing t)) l₀ → listingAnswer b w (take (2 * length (listing t)) l) ≡ Right
 reading-written b bytes w l₀ l t good short reading small wrote =
     let ns = listing t in
@@ -122,13 +108,3 @@ reading-written b bytes w l₀ l t good short reading small wrote =
     let start : take (2 * length ns) l ≡ bytesOf ns = rw wrote (take-at (bytesOf ns) (drop (length (bytesOf ns)) l₀) (2 * length ns) long) in
     let few = listing-accepted (bytesOf ns) (omega arith) (omega arith) in
     rw start (listing-right b bytes w (bytesOf ns) .1 (rw (good, short) few, (t, reading, sym (numbers-joined ns))))
-
--- What parsing answers with one is found right, if it is short enough to be checked.
-pub one-right : (b : List ℕ) → ((k : ℕ) → getD b k 0 < characters) → (w c₀ l₀ : List ℕ) (n : ℕ) (c l : List ℕ) → Outcome b w c₀ l₀ (One n) c l → 2 * n ≤ byteLimit
-    → listingAnswer b w (take (2 * n) l) ≡ Right
-unfolding Answered
-one-right b bytes w c₀ l₀ n c l outcome small =
-    let (good, short, answered) = one-parts b w c₀ l₀ n c l outcome in
-    let (t, only, count, enough, wrote) = answered in
-    subst⁻¹ (λ (m : ℕ). listingAnswer b w (take (2 * m) l) ≡ Right) count
-    (reading-written b bytes w l₀ l t good short (only .holds) (omega arith) wrote)

@@ -22,9 +22,9 @@ use Rattle.listing.specs.Answer.{byteLimit, badListing, judged, afterVer
 use Rattle.listing.specs.Judge.{isRight, dueAfter, textAfter, judge}
 use Rattle.listing.specs.Numbers.{numbersOf}
 use Rattle.listing.specs.declared.ListingAnswer.the-variants.{Right, Wrong, Refused}
-use Rattle.parse.specs.Outcome.{tooLong}
-use Rattle.parse.specs.Reading.{Reading}
-use Rattle.parse.proofs.RefusalLaws.{long-text, short-text, text-short, text-long}
+use Rattle.engine.specs.Refusals.{tooLong}
+use Rattle.ccg.specs.Reading.{Reading}
+use Rattle.engine.proofs.RefusalsLaws.{long-text, short-text, text-short, text-long}
 use Rattle.priority.proofs.RefusalLaws.{checked-number}
 use Rattle.priority.specs.Check.{checked}
 use Rattle.theory.specs.Tree.{Tree, listing}

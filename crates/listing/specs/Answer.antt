@@ -12,7 +12,7 @@ use Rattle.listing.specs.Judge.{judge}
 use Rattle.listing.specs.Numbers.{numbersOf}
 use Rattle.listing.specs.declared.ListingAnswer.{ListingAnswer}
 use Rattle.listing.specs.declared.ListingAnswer.the-variants.{Refused}
-use Rattle.parse.specs.Outcome.{tooLong}
+use Rattle.engine.specs.Refusals.{tooLong}
 use Rattle.priority.specs.Check.{checked}
 
 -- most bytes of a listing that is checked

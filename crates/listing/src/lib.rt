@@ -30,7 +30,7 @@ ghost use Rattle.ccg.specs.Flat.{plainClass};
 ghost use Rattle.ccg.specs.Tables.{slot, slots, slotHas, charWords, subBytes, subAt, tableClass, tableGrammar};
 ghost use Rattle.ccg.specs.Theory.{ParserTables};
 ghost use Rattle.theory.specs.Tree.{productionNumber};
-ghost use Rattle.parse.specs.Outcome.{tooLong};
+ghost use Rattle.engine.specs.Refusals.{tooLong};
 ghost use Rattle.listing.specs.Numbers.{numbersOf};
 ghost use Rattle.listing.specs.Judge.{isNext};
 ghost use Rattle.listing.specs.Answer.{badListing, afterVerdict, listingAnswer};

@@ -16,7 +16,8 @@ use Rattle.marked.proofs.CaseLaws.{table-true}
 use Rattle.marked.proofs.CaseTests.{same, allBytes, occurrences, grammarOf, derives, parses, Spans, chartOf, emptyTest, stepTest, parseSum, accepts, refuses, tests, every, Shown, caseTest, tableTest}
 use Rattle.marked.proofs.PromisedLaws.{all-promised}
 use Rattle.marked.specs.Cases.{Statement, Promised, All, caseA, caseB, caseC, caseD, caseE, caseF, caseG, caseH, caseI, caseJ, caseK, table}
-use Rattle.parse.specs.Outcome.{needed, tooLong, tooShort, refusal}
+use Rattle.engine.specs.Refusals.{tooLong, chartTooShort}
+use Rattle.parse.specs.Outcome.{needed, tooShort, refusal}
 use Rattle.priority.specs.Chain.{through}
 use Rattle.priority.specs.Check.{circle, checked}
 use Rattle.priority.specs.Conflict.{isSort, fits, isFirst, isLast, rightOrNonassoc, leftOrNonassoc, barred, conflicts}
@@ -111,7 +112,7 @@ shown =
     ∷ []
 
 tested : tableTest shown ≡ true
-unfolding tableTest caseTest tests every same allBytes occurrences grammarOf derives parses chartOf emptyTest stepTest parseSum accepts refuses splitSum argumentSum charEntry listing yield sumBelow allBelow anyBelow tabulate refusal tooLong tooShort needed rowCount spanCount checked circle isHigher through declaredIn declarationsOf declarationOf covers kindNumber eitherWay namesPair isSort fits isFirst isLast rightOrNonassoc leftOrNonassoc barred conflicts mayStand isClass classHas inRange argumentCount rangeCount productionAt result argument classAt low high declarationAt kind first second neededLength shortHeader headerBytes badHeader shortContents badArgumentCount badRangeCount badLength namesArgument badArgument badProduction badRange declarationBytes badDeclaration sameProduction repeatedProduction firstRefusal
+unfolding tableTest caseTest tests every same allBytes occurrences grammarOf derives parses chartOf emptyTest stepTest parseSum accepts refuses splitSum argumentSum charEntry listing yield sumBelow allBelow anyBelow tabulate refusal tooLong chartTooShort needed rowCount spanCount checked circle isHigher through declaredIn declarationsOf declarationOf covers kindNumber eitherWay namesPair isSort fits isFirst isLast rightOrNonassoc leftOrNonassoc barred conflicts mayStand isClass classHas inRange argumentCount rangeCount productionAt result argument classAt low high declarationAt kind first second neededLength shortHeader headerBytes badHeader shortContents badArgumentCount badRangeCount badLength namesArgument badArgument badProduction badRange declarationBytes badDeclaration sameProduction repeatedProduction firstRefusal
 tested = refl
 
 pub marked-cases : All Statement table

@@ -11,13 +11,14 @@ use Rattle.extract.specs.Written.{bytesOf}
 use Rattle.marked.specs.Cases.{Expected, noReading, oneReading, severalReadings, badGrammar, refused, Says, Case, Statement, Answers, Promised, All}
 use Rattle.parse.proofs.AnswerLaws.{refused-outcome, accepted-outcome}
 use Rattle.parse.proofs.RefusalLaws.{refusal-grammar}
+use Rattle.engine.specs.Refusals.{chartTooShort}
 use Rattle.parse.specs.Outcome.{tooShort, refusal, Outcome}
-use Rattle.parse.specs.Reading.{Reading}
+use Rattle.ccg.specs.Reading.{Reading}
 use Rattle.priority.proofs.RefusalLaws.{checked-number}
 
 -- of the chart only the length decides on a refusal
 refusal-length : (b w c c′ : List ℕ) → length c ≡ length c′ → refusal b w c ≡ refusal b w c′
-unfolding refusal tooShort
+unfolding refusal chartTooShort
 refusal-length b w c c′ e = rw e refl
 
 module _ (b w c₀ l₀ : List ℕ) (r : Answer) (c l : List ℕ) (o : Outcome b w c₀ l₀ r c l) where

@@ -28,7 +28,7 @@ use Rattle.listing.specs.Numbers.{numbersOf}
 use Rattle.listing.specs.declared.ListingAnswer.the-variants.{Wrong}
 use Rattle.meadowsink.specs.Calls.{conflictNumber, flatNumber, listingNumber}
 use Rattle.parse.proofs.NumberLaws.{largestNumber, Numbered, grammar-numbered}
-use Rattle.parse.specs.Outcome.{tooLong}
+use Rattle.engine.specs.Refusals.{tooLong}
 use Rattle.priority.proofs.CheckLaws.{accepted-formed}
 use Rattle.priority.specs.Check.{checked}
 use Rattle.priority.specs.Conflict.{conflicts, isThere, yesOrNo, conflictAnswer}

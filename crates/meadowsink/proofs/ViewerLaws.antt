@@ -17,7 +17,7 @@ use Rattle.meadowsink.specs.Viewer.{listingLimit, viewerNumber, UsedOutc
 use Rattle.parse.proofs.NumberLaws.{Numbered, refusal-numbered}
 use Rattle.parse.proofs.OutcomeLaws.{outcome-unique}
 use Rattle.parse.specs.Outcome.{refusal, AfterVerdict, Outcome}
-use Rattle.parse.specs.Reading.{Reading}
+use Rattle.ccg.specs.Reading.{Reading}
 use Rattle.theory.specs.Tree.{Tree}
 use Rattle.grammar.specs.declared.Verdict.the-variants.{Refused as Rejected}
 

@@ -14,8 +14,8 @@ use Rattle.grammar.specs.Layout.{productions, argumentCount}
 use Rattle.grammar.specs.declared.Verdict.{Verdict}
 use Rattle.grammar.specs.declared.Verdict.the-variants.{Accepted, Refused as Rejected}
 use Rattle.parse.proofs.RefusalLaws.{refusal-grammar, refusal-ten, refusal-twenty, Readable, readable-accepted}
-use Rattle.parse.specs.Outcome.{needed, refusal, AfterVerdict, Outcome}
-use Rattle.parse.specs.Reading.{Reading, EntryList}
+use Rattle.parse.specs.Outcome.{needed, refusal, AfterVerdict, Outcome, readingBy}
+use Rattle.ccg.specs.Reading.{Reading, EntryList}
 use Rattle.priority.specs.Check.{checked}
 
 rejected : (n k m j : ℕ) → Refused n k ≡ Refused m j → Rejected n k ≡ Rejected m j
@@ -33,11 +33,11 @@ module _ (b w c₀ l₀ : List ℕ) (r : Answer) (c l : List ℕ) (o : Outcome b
   refused-outcome n k e = subst (AfterVerdict b w c₀ l₀ r c l) e o
 
   -- otherwise chart and answer are those of the grammar's own trees
-  pub accepted-outcome : refusal b w c₀ ≡ Accepted → Parsed (Reading b w) (EntryList b w) (argumentCount b) (productions b) (length w) c₀ l₀ r c l
+  pub accepted-outcome : refusal b w c₀ ≡ Accepted → Parsed (readingBy b w) c₀ l₀ r c l
   unfolding Outcome AfterVerdict
   accepted-outcome e = subst (AfterVerdict b w c₀ l₀ r c l) e o
 
-  pub parsed-outcome : Readable b w c₀ → Parsed (Reading b w) (EntryList b w) (argumentCount b) (productions b) (length w) c₀ l₀ r c l
+  pub parsed-outcome : Readable b w c₀ → Parsed (readingBy b w) c₀ l₀ r c l
   parsed-outcome h = accepted-outcome (readable-accepted b w c₀ h)
 
   by-verdict : ((n : ℕ) × (k : ℕ) × (refusal b w c₀ ≡ Rejected n k) × (r ≡ Refused n k)) ⊎ Answered (Reading b w) l₀ r l

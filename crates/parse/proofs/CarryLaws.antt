@@ -1,7 +1,7 @@
 -- The promise about the flat tables, carried to the grammar they come from.
 use Prim.Native.Nat.{ℕ, _+_, _*_, _/_, _%_, _≤_, _<_}
 use mathlib.Core.Path.{_≡_, sym, _∙_, ap, subst, subst⁻¹}
-use mathlib.Core.Bool.{Bool, false, true}
+use mathlib.Core.Bool.{Bool, false, true, true≢false}
 use mathlib.Core.List.{List}
 use mathlib.Core.Logic.{_↔_, by-cases}
 use native.Mathlib.Omega.{arith}
@@ -13,24 +13,25 @@ use Rattle.ccg.specs.Tables.{slot, tableMay, subAt, subBytes, FlatTables}
 use Rattle.ccg.specs.Theory.{theoryOf, ParserTables}
 use Rattle.charset.specs.Set.{characters}
 use Rattle.chart.proofs.LayoutLaws.{rows-few}
-use Rattle.chart.specs.Layout.{rowLimit, arityIn, rowOf, rowCount, spanCount, cellAt, chartBytes}
+use Rattle.chart.specs.Layout.{rowLimit, arityIn, rowOf, rowCount, spanCount, cellAt, chartBytes, entryAt}
 use Rattle.common.proofs.BelowLaws.{sum-same}
 use Rattle.common.specs.Below.{bitOf}
 use Rattle.engine.specs.Outcome.{Answered, Parsed}
-use Rattle.engine.specs.Roots.{rootTest}
+use Rattle.engine.specs.Roots.{rootTest, parsingBy}
 use Rattle.engine.specs.declared.Answer.{Answer}
 use Rattle.engine.specs.declared.Answer.the-variants.{Refused, None, One, Several}
 use Rattle.grammar.specs.Formed.{WellFormed}
 use Rattle.grammar.specs.Layout.{productions, startSort, argumentCount, result}
-use Rattle.parse.proofs.BookLaws.{book-count, book-arity, book-lists, book-parses}
-use Rattle.parse.specs.Outcome.{needed}
+use Rattle.ccg.proofs.BookLaws.{book-count, book-arity, book-lists, book-parses, cut-tables}
+use Rattle.parse.specs.Outcome.{needed, readingBy}
 use Rattle.parse.specs.Roots.{RootsAre}
-use Rattle.parse.specs.Reading.{Reading, EntryList}
+use Rattle.ccg.specs.Reading.{Reading, EntryList}
 use Rattle.theory.proofs.CountLaws.{counts-same}
 use Rattle.theory.proofs.SoundLaws.{bit-small}
 use Rattle.theory.specs.Counts.{Only, Counts}
 use Rattle.theory.specs.Grammar.{Grammar, Spells, Parse}
 use Rattle.theory.specs.Tree.{Tree, leaf, node, Forest}
+use Rattle.chart.specs.Counted.{entryOf}
 
 -- ---- the same answer for a predicate that says the same
 
@@ -73,28 +74,6 @@ module _ (b : List ℕ) (formed : WellFormed b) (bytes : (k : ℕ) → getD b k 
   unfolding needed
   same-needed n = ap (λ (m : ℕ). m * spanCount n) same-rows
 
-  -- every byte of the table of productions is 0 or 1
-  subs-bits : (k : ℕ) → getD subs k 0 ≤ 1
-  unfolding subAt slot
-  subs-bits k =
-      by-cases (decLt k subBytes)
-      (λ l. let e : (k / 64 / 8 * 8 + k / 64 % 8) * 64 + k % 64 ≡ k = omega arith in
-      let it = tables .subsAre (k / 64 / 8) (k / 64 % 8) (k % 64) (omega arith) (omega arith) (omega arith) in
-      omega (arith, subst (λ (n : ℕ). getD subs n 0 ≡ bitOf (tableMay b (k / 64 / 8) (k / 64 % 8) (k % 64))) e it, bit-small (tableMay b (k / 64 / 8) (k / 64 % 8) (k % 64))))
-      (λ l. omega (arith, List·getD-eq-default subs 0 {n = k} (omega (arith, tables .subsLong))))
-
-  pub parser-tables : ParserTables kept chars subs
-  parser-tables =
-      record {
-        fewProductions = omega (arith, same-count, formed .framed .fewProductions);
-        fewArguments = λ p. by-cases (decLt p (productions b))
-            (λ l. omega (arith, same-arity p l, formed .framed .fewArguments p l))
-            (λ l. omega (arith, List·getD-eq-default kept 0 {n = p} (omega (arith, same-count))));
-        charsLong = tables .charsLong;
-        subsLong = tables .subsLong;
-        bits = subs-bits;
-      }
-
   module _ (w : List ℕ) (text : (k : ℕ) → getD w k 0 < characters) (roots : List ℕ) (rootsAre : RootsAre b roots) where
     abbrev g : Grammar
     g = theoryOf kept chars subs
@@ -123,17 +102,21 @@ module _ (b : List ℕ) (formed : WellFormed b) (bytes : (k : ℕ) → getD b k 
 
     -- the whole promise
     pub parsed-carried : (c₀ l₀ : List ℕ) (r : Answer) (c l : List ℕ)
-        → Parsed (Parse g (rootTest roots) w) (λ p d i j f. Spells g w p f d i j) (arityIn kept) (length kept) (length w) c₀ l₀ r c l
-        → Parsed (Reading b w) (EntryList b w) (argumentCount b) (productions b) (length w) c₀ l₀ r c l
+        → Parsed (parsingBy kept chars subs roots w) c₀ l₀ r c l
+        → Parsed (readingBy b w) c₀ l₀ r c l
+    unfolding entryOf
     parsed-carried c₀ l₀ r c l h =
         record {
           chart = record {
             entries = h .chart .entries;
             long = h .chart .long ∙ ap (λ (x : ℕ). x * spanCount (length w)) same-rows;
-            cells = λ p d i j lp ld ij jw. subst (λ (n : ℕ). Counts (EntryList b w p d i j) (getD (h .chart .entries) (cellAt (length w) n i j) 0)) (row-same-arity (arityIn kept) (argumentCount b) (productions b) p d lp same-arity)
-                (counts-same (λ (f : Forest). Spells g w p f d i j) (EntryList b w p d i j) (getD (h .chart .entries) (cellAt (length w) (rowOf (arityIn kept) p d) i j) 0)
-                (λ f. book-lists b formed bytes counts chars subs tables w text p d i j lp ld ij jw f)
-                (h .chart .cells p d i j (omega (arith, same-count)) (omega (arith, same-arity p lp)) ij jw));
+            counted = record {
+              counts = λ p d i j lp ld ij jw wp. subst (λ (n : ℕ). Counts (EntryList b w p d i j) (entryAt (h .chart .entries) (cellAt (length w) n i j))) (row-same-arity (arityIn kept) (argumentCount b) (productions b) p d lp same-arity)
+                  (counts-same (λ (f : Forest). Spells g w p f d i j) (EntryList b w p d i j) (entryAt (h .chart .entries) (cellAt (length w) (rowOf (arityIn kept) p d) i j))
+                  (λ f. book-lists b formed bytes counts chars subs tables w text p d i j lp ld ij jw f)
+                  (h .chart .counted .counts p d i j (omega (arith, same-count)) (omega (arith, same-arity p lp)) ij jw wp));
+              unwanted = λ p d i j lp ld ij jw no. absurd (true≢false no);
+            };
             whole = h .chart .whole;
           };
           answer = answered-same (Parse g (rootTest roots) w) (Reading b w) same-parses l₀ r l (h .answer);
@@ -143,21 +126,15 @@ module _ (b : List ℕ) (formed : WellFormed b) (bytes : (k : ℕ) → getD b k 
 
 module _ (b : List ℕ) (formed : WellFormed b) (bytes : (k : ℕ) → getD b k 0 < characters) (counts chars subs : List ℕ) (tables : FlatTables b counts chars subs)
     (n : ℕ) (e : n ≡ productions b) where
-  pub cut-count : length (take n counts) ≡ n
-  cut-count = subst⁻¹ (λ (m : ℕ). length (take m counts) ≡ m) e (book-count b formed bytes counts chars subs tables)
-
   pub cut-needed : (m : ℕ) → chartBytes (arityIn (take n counts)) (length (take n counts)) m ≡ needed b m
   cut-needed m = subst⁻¹ (λ (k : ℕ). chartBytes (arityIn (take k counts)) (length (take k counts)) m ≡ needed b m) e (same-needed b formed bytes counts chars subs tables m)
 
-  pub cut-tables : ParserTables (take n counts) chars subs
-  cut-tables = subst⁻¹ (λ (k : ℕ). ParserTables (take k counts) chars subs) e (parser-tables b formed bytes counts chars subs tables)
-
   pub cut-rows : rowCount (arityIn (take n counts)) (length (take n counts)) ≤ rowLimit
-  cut-rows = rows-few (arityIn (take n counts)) (length (take n counts)) (cut-tables .fewProductions) (cut-tables .fewArguments)
+  cut-rows = rows-few (arityIn (take n counts)) (length (take n counts)) (cut-tables b formed bytes counts chars subs tables n e .fewProductions) (cut-tables b formed bytes counts chars subs tables n e .fewArguments)
 
   pub cut-parsed : (w : List ℕ) → ((k : ℕ) → getD w k 0 < characters) → (roots : List ℕ) → RootsAre b roots → (c₀ l₀ : List ℕ) (r : Answer) (c l : List ℕ)
-      → Parsed (Parse (theoryOf (take n counts) chars subs) (rootTest roots) w) (λ p d i j f. Spells (theoryOf (take n counts) chars subs) w p f d i j) (arityIn (take n counts)) (length (take n counts)) (length w) c₀ l₀ r c l
-      → Parsed (Reading b w) (EntryList b w) (argumentCount b) (productions b) (length w) c₀ l₀ r c l
+      → Parsed (parsingBy (take n counts) chars subs roots w) c₀ l₀ r c l
+      → Parsed (readingBy b w) c₀ l₀ r c l
   cut-parsed w text roots ra c₀ l₀ r c l h =
       parsed-carried b formed bytes counts chars subs tables w text roots ra c₀ l₀ r c l
-      (subst (λ (k : ℕ). Parsed (Parse (theoryOf (take k counts) chars subs) (rootTest roots) w) (λ p d i j f. Spells (theoryOf (take k counts) chars subs) w p f d i j) (arityIn (take k counts)) (length (take k counts)) (length w) c₀ l₀ r c l) e h)
+      (subst (λ (k : ℕ). Parsed (parsingBy (take k counts) chars subs roots w) c₀ l₀ r c l) e h)

@@ -1,6 +1,4 @@
 -- Laws of parsing.
-pub mod TestsLaws
-pub mod BookLaws
 pub mod CarryLaws
 pub mod OutcomeLaws
 pub mod RefusalLaws

@@ -9,14 +9,15 @@ use borrow.Author.Tests.{lt-ltb, le-ltb}
 use Rattle.chart.specs.Layout.{textLimit, rowLimit, spanCount}
 use Rattle.engine.proofs.UniqueLaws.{parsed-unique}
 use Rattle.engine.specs.Outcome.{Parsed}
+use Rattle.engine.specs.Refusals.{tooLong, chartTooShort}
 use Rattle.engine.specs.declared.Answer.{Answer}
 use Rattle.engine.specs.declared.Answer.the-variants.{Refused}
 use Rattle.grammar.specs.Layout.{productions, argumentCount}
 use Rattle.grammar.specs.Verdict.{inOrder}
 use Rattle.grammar.specs.declared.Verdict.{Verdict}
 use Rattle.grammar.specs.declared.Verdict.the-variants.{Accepted}
-use Rattle.parse.specs.Outcome.{needed, tooLong, tooShort, refusal, AfterVerdict, Outcome}
-use Rattle.parse.specs.Reading.{Reading, EntryList}
+use Rattle.parse.specs.Outcome.{needed, tooShort, readingBy, refusal, AfterVerdict, Outcome}
+use Rattle.ccg.specs.Reading.{Reading, EntryList}
 use Rattle.priority.specs.Check.{checked}
 use Rattle.grammar.specs.declared.Verdict.the-variants.{Refused as Rejected}
 
@@ -30,13 +31,13 @@ module _ (b w c₀ l₀ : List ℕ) where
   after-long h = rw (lt-ltb textLimit (length w) h) (refl, refl, refl)
 
   pub after-short : (n : ℕ) → length w ≤ textLimit → n ≡ needed b (length w) → length c₀ < n → AfterVerdict b w c₀ l₀ (Refused 20 n) c₀ l₀ rest
-  unfolding AfterVerdict tooLong tooShort
+  unfolding AfterVerdict tooLong chartTooShort
   after-short n short e h =
       rw (le-ltb textLimit (length w) short, lt-ltb (length c₀) (needed b (length w)) (omega arith)) (ap (Refused 20) e, refl, refl)
 
   pub after-parsed : (n : ℕ) (r : Answer) (c l : List ℕ) → length w ≤ textLimit → n ≡ needed b (length w) → n ≤ length c₀
-      → Parsed (Reading b w) (EntryList b w) (argumentCount b) (productions b) (length w) c₀ l₀ r c l → AfterVerdict b w c₀ l₀ r c l rest
-  unfolding AfterVerdict tooLong tooShort
+      → Parsed (readingBy b w) c₀ l₀ r c l → AfterVerdict b w c₀ l₀ r c l rest
+  unfolding AfterVerdict tooLong chartTooShort
   after-parsed n r c l short e h p = rw (le-ltb textLimit (length w) short, le-ltb (length c₀) (needed b (length w)) (omega arith)) p
 
   -- ---- the whole outcome
@@ -51,7 +52,7 @@ module _ (b w c₀ l₀ : List ℕ) where
 
   after-unique : (v : Verdict) (r r′ : Answer) (c c′ l l′ : List ℕ) → AfterVerdict b w c₀ l₀ r c l v → AfterVerdict b w c₀ l₀ r′ c′ l′ v → (r ≡ r′) × (c ≡ c′) × (l ≡ l′)
   unfolding AfterVerdict
-  after-unique Accepted r r′ c c′ l l′ h k = parsed-unique (Reading b w) (EntryList b w) (argumentCount b) (productions b) (length w) c₀ l₀ r r′ c c′ l l′ h k
+  after-unique Accepted r r′ c c′ l l′ h k = parsed-unique (readingBy b w) c₀ l₀ r r′ c c′ l l′ h k
   after-unique (Rejected number place) r r′ c c′ l l′ h k = (h .0 ∙ sym (k .0), h .1 ∙ sym (k .1), h .2 ∙ sym (k .2))
 
   -- For one input, two outcomes that meet the promise have the same answer and the same bytes.

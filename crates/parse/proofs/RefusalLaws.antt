@@ -11,72 +11,35 @@ use Rattle.chart.specs.Layout.{textLimit}
 use Rattle.grammar.proofs.VerdictLaws.{refuse-accepted, refuse-case, FirstIn, here, there, order-first}
 use Rattle.grammar.specs.declared.Verdict.{Verdict}
 use Rattle.grammar.specs.declared.Verdict.the-variants.{Accepted, Refused}
-use Rattle.parse.specs.Outcome.{needed, tooLong, tooShort, refusal}
+use Rattle.engine.proofs.RefusalsLaws.{long-text, short-text, text-short, text-long, short-chart, long-chart, chart-short}
+use Rattle.engine.specs.Refusals.{tooLong}
+use Rattle.parse.specs.Outcome.{needed, tooShort, refusal}
 use Rattle.priority.proofs.RefusalLaws.{checked-number}
 use Rattle.priority.specs.Check.{checked}
 
--- ---- 10
-
-module _ (w : List ℕ) where
-  pub long-text : textLimit < length w → tooLong w ≡ Refused 10 (length w)
-  unfolding tooLong
-  long-text h = rw (lt-ltb textLimit (length w) h) refl
-
-  pub short-text : length w ≤ textLimit → tooLong w ≡ Accepted
-  unfolding tooLong
-  short-text h = rw (le-ltb textLimit (length w) h) refl
-
-  pub text-short : tooLong w ≡ Accepted → length w ≤ textLimit
-  unfolding tooLong
-  text-short e = ltb-false textLimit (length w) (refuse-accepted _ 10 (length w) e)
-
-  pub text-long : {n k : ℕ} → tooLong w ≡ Refused n k → (n ≡ 10) × (textLimit < length w) × (k ≡ length w)
-  unfolding tooLong
-  text-long e =
-      refuse-case (λ n k. (n ≡ 10) × (textLimit < length w) × (k ≡ length w)) (ltb textLimit (length w)) 10 (length w) e
-      (λ t. (refl, ltb-true textLimit (length w) t, refl))
-
--- ---- 20
-
 module _ (b w chart : List ℕ) where
-  short-chart : length chart < needed b (length w) → tooShort b w chart ≡ Refused 20 (needed b (length w))
-  unfolding tooShort
-  short-chart h = rw (lt-ltb (length chart) (needed b (length w)) h) refl
-
-  long-chart : needed b (length w) ≤ length chart → tooShort b w chart ≡ Accepted
-  unfolding tooShort
-  long-chart h = rw (le-ltb (length chart) (needed b (length w)) h) refl
-
-  chart-short : {n k : ℕ} → tooShort b w chart ≡ Refused n k → (n ≡ 20) × (k ≡ needed b (length w)) × (length chart < k)
-  unfolding tooShort
-  chart-short e =
-      refuse-case (λ n k. (n ≡ 20) × (k ≡ needed b (length w)) × (length chart < k)) (ltb (length chart) (needed b (length w))) 20 (needed b (length w)) e
-      (λ t. (refl, refl, ltb-true (length chart) (needed b (length w)) t))
-
-  -- ---- in order
-
   abbrev lines : List Verdict
   lines = checked b ∷ tooLong w ∷ tooShort b w chart ∷ []
 
   by-grammar : {n k : ℕ} → FirstIn lines n k → n ≤ 9 → checked b ≡ Refused n k
   by-grammar (here e) small = e
   by-grammar (there a (here e)) small = absurd (omega (arith, text-long w e .0))
-  by-grammar (there a (there c (here e))) small = absurd (omega (arith, chart-short e .0))
+  by-grammar (there a (there c (here e))) small = absurd (omega (arith, chart-short (needed b (length w)) chart e .0))
 
   by-ten : {n k : ℕ} → FirstIn lines n k → n ≡ 10 → (checked b ≡ Accepted) × (textLimit < length w) × (k ≡ length w)
   by-ten (here e) ten = absurd (omega (arith, checked-number b e))
   by-ten (there a (here e)) ten = let h = text-long w e in (a, h .1, h .2)
-  by-ten (there a (there c (here e))) ten = absurd (omega (arith, chart-short e .0))
+  by-ten (there a (there c (here e))) ten = absurd (omega (arith, chart-short (needed b (length w)) chart e .0))
 
   by-twenty : {n k : ℕ} → FirstIn lines n k → n ≡ 20 → (checked b ≡ Accepted) × (length w ≤ textLimit) × (k ≡ needed b (length w)) × (length chart < k)
   by-twenty (here e) twenty = absurd (omega (arith, checked-number b e))
   by-twenty (there a (here e)) twenty = absurd (omega (arith, text-long w e .0))
-  by-twenty (there a (there c (here e))) twenty = let h = chart-short e in (a, text-short w c, h .1, h .2)
+  by-twenty (there a (there c (here e))) twenty = let h = chart-short (needed b (length w)) chart e in (a, text-short w c, h .1, h .2)
 
   by-number : {n k : ℕ} → FirstIn lines n k → n ≤ 20
   by-number (here e) = omega (arith, checked-number b e)
   by-number (there a (here e)) = omega (arith, text-long w e .0)
-  by-number (there a (there c (here e))) = omega (arith, chart-short e .0)
+  by-number (there a (there c (here e))) = omega (arith, chart-short (needed b (length w)) chart e .0)
 
   first-line : {n k : ℕ} → refusal b w chart ≡ Refused n k → FirstIn lines n k
   unfolding refusal
@@ -97,7 +60,7 @@ module _ (b w chart : List ℕ) where
   unfolding refusal
   refusal-twenty k = (
     (λ e. by-twenty (first-line e) refl),
-    (λ (e, short, place, less). rw (e, short-text w short, short-chart (omega arith)) (ap (Refused 20) (sym place))),
+    (λ (e, short, place, less). rw (e, short-text w short, short-chart (needed b (length w)) chart (omega arith)) (ap (Refused 20) (sym place))),
   )
 
   -- There is no other number.
@@ -112,4 +75,4 @@ module _ (b w chart : List ℕ) where
 
   pub readable-accepted : Readable → refusal b w chart ≡ Accepted
   unfolding refusal
-  readable-accepted h = rw (h .accepted, short-text w (h .short), long-chart (h .enough)) refl
+  readable-accepted h = rw (h .accepted, short-text w (h .short), long-chart (needed b (length w)) chart (h .enough)) refl

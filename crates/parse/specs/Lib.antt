@@ -1,4 +1,3 @@
 -- What the contracts of parsing cite.
-pub mod Reading
 pub mod Outcome
 pub mod Roots

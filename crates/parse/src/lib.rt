@@ -19,7 +19,8 @@ ghost use mathlib.Core.List.{[], _∷_};
 ghost use Prim.Native.Nat.{_<_};
 ghost use Rattle.grammar.specs.Formed.{WellFormed};
 ghost use Rattle.grammar.specs.Verdict.{inOrder};
-ghost use Rattle.parse.specs.Outcome.{Outcome, AfterVerdict, tooLong, tooShort};
+ghost use Rattle.engine.specs.Refusals.{tooLong};
+ghost use Rattle.parse.specs.Outcome.{Outcome, AfterVerdict, tooShort};
 ghost use Rattle.parse.specs.Roots.{RootsAre};
 
 // Parses a text. The chart and the listing are lent; what they held before is never read.

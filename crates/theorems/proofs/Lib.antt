@@ -1,2 +1,3 @@
 -- The theorems of the page hold.
+pub mod OneRightLaws
 pub mod Theorems

@@ -14,12 +14,12 @@ use Rattle.ccg.specs.Flat.{flatGrammar, plainClass}
 use Rattle.engine.proofs.AnswerLaws.{none-exactly, none-buffer, several-exactly, several-buffer, one-exactly, one-buffer, long-exactly, long-buffer, refused-is-long}
 use Rattle.extract.specs.Written.{room}
 use Rattle.grammar.specs.Layout.{startSort}
-use Rattle.listing.proofs.ReadingLaws.{one-right}
+use Rattle.theorems.proofs.OneRightLaws.{one-right}
 use Rattle.listing.proofs.RefusedLaws.{grammar-exactly as listing-grammar, ten-exactly as listing-ten, eleven-exactly, right-exactly}
 use Rattle.marked.proofs.Marked.{marked-outcomes}
 use Rattle.parse.proofs.AnswerLaws.{parsed-outcome, refused-unchanged, grammar-exactly, ten-exactly, twenty-exactly}
 use Rattle.parse.proofs.OutcomeLaws.{outcome-unique}
-use Rattle.parse.specs.Reading.{Reading}
+use Rattle.ccg.specs.Reading.{Reading}
 use Rattle.priority.proofs.CheckLaws.{accepted-formed}
 use Rattle.priority.proofs.ConflictAnswerLaws.{conflict-yes, conflict-no, conflict-absent, conflict-refused}
 use Rattle.priority.proofs.DeclarationLaws.{accepted-declares}

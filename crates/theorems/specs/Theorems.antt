@@ -40,7 +40,7 @@ use Rattle.listing.specs.Numbers.{numbersOf}
 use Rattle.listing.specs.declared.ListingAnswer.the-variants.{Right, Refused as NotChecked}
 use Rattle.marked.specs.Cases.{All, Promised, table}
 use Rattle.parse.specs.Outcome.{needed, Outcome}
-use Rattle.parse.specs.Reading.{Reading, EntryList}
+use Rattle.ccg.specs.Reading.{Reading, EntryList}
 use Rattle.priority.specs.Check.{checked}
 use Rattle.priority.specs.Conflict.{Conflict, There, conflictAnswer}
 use Rattle.priority.specs.Priorities.{PriorityDeclaration}

@@ -5,7 +5,7 @@ use lib.ListN.{length, take}
 use borrow.Author.Needs.{needs}
 use Rattle.ccg.specs.Tables.{tableGrammar}
 use Rattle.listing.proofs.AnswerLaws.{answer-long, answer-odd, answer-over, answer-judged, walk-judged}
-use Rattle.parse.proofs.CarryLaws.{cut-count, cut-tables}
+use Rattle.ccg.proofs.BookLaws.{cut-count, cut-tables}
 use Rattle.listing.proofs.check_accepted.Statement.{statement}
 use Rattle.listing.proofs.check_accepted.Tie as tie
 

@@ -7,7 +7,8 @@ use lib.ListN.{length, getD}
 use borrow.Author.Needs.{needs}
 use Rattle.charset.specs.Set.{characters}
 use Rattle.chart.specs.Layout.{rowLimit}
-use Rattle.parse.proofs.CarryLaws.{cut-count, cut-needed, cut-tables, cut-rows, cut-parsed}
+use Rattle.ccg.proofs.BookLaws.{cut-count, cut-tables}
+use Rattle.parse.proofs.CarryLaws.{cut-needed, cut-rows, cut-parsed}
 use Rattle.parse.proofs.OutcomeLaws.{after-long, after-short, after-parsed, needed-fits}
 use Rattle.parse.specs.Outcome.{needed}
 use Rattle.priority.specs.Conflict.{fits}
@@ -94,13 +95,15 @@ parse-tables-requires c κs =
     let b = c .before .before .before .before .before .before .before .before .before .before .before .before .before .before .before .before .before .before .before .before .before .before .before .before .before .before .before .args .book .now in
     let known = bytes-of b (c .before .before .before .before .before .before .before .before .before .before .before .before .before .before .before .before .before .before .before .before .before .before .before .before .before .before .shared-slice-known .given) in
     let count = cut-count b ((c .before .before .before .before .before .before .before .before .before .before .before .before .before .before .before .before .before .before .before .before .before .before .before .before .before .before .before .pre)) known (c .before .before .before .before .before .before .before .before .before .before .before .before .before .before .before .flatten .last .1 .0) (c .before .before .before .before .before .before .before .before .before .before .before .before .before .before .before .flatten .last .1 .1 .0) (c .before .before .before .before .before .before .before .before .before .before .before .before .before .before .before .flatten .last .1 .1 .1 .0) (c .before .before .before .before .before .before .before .before .before .before .before .before .before .before .before .flatten .ensures) (c .before .before .before .before .before .before .before .before .before .before .before .production-count .result) (c .before .before .before .before .before .before .before .before .before .before .before .production-count .ensures) in
-    let roots = c .before .before .before .before .before .before .start-productions .ensures in (
-      cut-tables b ((c .before .before .before .before .before .before .before .before .before .before .before .before .before .before .before .before .before .before .before .before .before .before .before .before .before .before .before .pre)) known (c .before .before .before .before .before .before .before .before .before .before .before .before .before .before .before .flatten .last .1 .0) (c .before .before .before .before .before .before .before .before .before .before .before .before .before .before .before .flatten .last .1 .1 .0) (c .before .before .before .before .before .before .before .before .before .before .before .before .before .before .before .flatten .last .1 .1 .1 .0) (c .before .before .before .before .before .before .before .before .before .before .before .before .before .before .before .flatten .ensures) (c .before .before .before .before .before .before .before .before .before .before .before .production-count .result) (c .before .before .before .before .before .before .before .before .before .before .before .production-count .ensures),
-      (
-        (omega (arith, count, roots .long, c .before .before .before .before .before .before .before .before .before .before .before .production-count .ensures, c .before .before .before .before .before .before .before .before .before .before .before .before .before .before .before .before .before .before .before .before .before .before .before .before .before .before .before .pre .framed .fewProductions), roots .bits),
-        (omega (arith, count, c .before .before .before .before .before .before .before .before .before .before .before .production-count .ensures, c .before .before .before .before .before .before .before .before .before .before .before .before .before .before .before .before .before .before .before .before .before .before .before .before .before .before .before .pre .framed .someProduction), c .before .before .before .before .before .before .before .before .before .before .before .before .before .before .before .before .before .before .before .before .before .before .if1 .left, omega (arith, ap₂ _*_ (c .before .before .before .before .before .before .before .before .before .row-count .ensures) (c .before .before .before .before .before .before .before .before .span-count .ensures), c .before .before .before .before .before .before .before .if2 .left)),
-      ),
-    )
+    let roots = c .before .before .before .before .before .before .start-productions .ensures in
+    record {
+      tables = cut-tables b ((c .before .before .before .before .before .before .before .before .before .before .before .before .before .before .before .before .before .before .before .before .before .before .before .before .before .before .before .pre)) known (c .before .before .before .before .before .before .before .before .before .before .before .before .before .before .before .flatten .last .1 .0) (c .before .before .before .before .before .before .before .before .before .before .before .before .before .before .before .flatten .last .1 .1 .0) (c .before .before .before .before .before .before .before .before .before .before .before .before .before .before .before .flatten .last .1 .1 .1 .0) (c .before .before .before .before .before .before .before .before .before .before .before .before .before .before .before .flatten .ensures) (c .before .before .before .before .before .before .before .before .before .before .before .production-count .result) (c .before .before .before .before .before .before .before .before .before .before .before .production-count .ensures);
+      some = omega (arith, count, c .before .before .before .before .before .before .before .before .before .before .before .production-count .ensures, c .before .before .before .before .before .before .before .before .before .before .before .before .before .before .before .before .before .before .before .before .before .before .before .before .before .before .before .pre .framed .someProduction);
+      rootsLong = omega (arith, count, roots .long, c .before .before .before .before .before .before .before .before .before .before .before .production-count .ensures, c .before .before .before .before .before .before .before .before .before .before .before .before .before .before .before .before .before .before .before .before .before .before .before .before .before .before .before .pre .framed .fewProductions);
+      rootBits = roots .bits;
+      short = c .before .before .before .before .before .before .before .before .before .before .before .before .before .before .before .before .before .before .before .before .before .before .if1 .left;
+      longEnough = omega (arith, ap₂ _*_ (c .before .before .before .before .before .before .before .before .before .row-count .ensures) (c .before .before .before .before .before .before .before .before .span-count .ensures), c .before .before .before .before .before .before .before .if2 .left);
+    }
 
 same-length : tie.Need-same-length
 same-length c = search needs

@@ -20,7 +20,7 @@ use Rattle.grammar.specs.Classes.{isClass, classHas}
 use Rattle.grammar.specs.Formed.{WellFormed}
 use Rattle.grammar.specs.Layout.{productions, startSort, argumentCount, result, argument}
 use Rattle.grammar.specs.Limits.{classBase}
-use Rattle.parse.specs.Reading.{Reading, EntryList}
+use Rattle.ccg.specs.Reading.{Reading, EntryList}
 use Rattle.priority.proofs.ConflictLaws.{fits-result, conflict-test}
 use Rattle.priority.specs.Conflict.{fits, Conflict, conflicts}
 use Rattle.theory.proofs.SpellsLaws.{spells-yield, derived-spells}
