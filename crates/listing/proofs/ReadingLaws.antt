@@ -1,7 +1,7 @@
 -- What checking a listing answers, over the grammar's own trees: right exactly if the numbers are the listing of a parse of the text; what parsing answers with one
 -- is found right; and each refusal is given only under its condition.
 use Prim.Native.Nat.{ℕ, _+_, _*_, _/_, _%_, _≤_, _<_}
-use mathlib.Core.Path.{_≡_, refl, sym, subst⁻¹}
+use mathlib.Core.Path.{_≡_, refl, sym}
 use mathlib.Core.List.{List, [], _∷_}
 use mathlib.Core.Logic.{_↔_}
 use native.Mathlib.Omega.{arith}
@@ -12,11 +12,9 @@ use Rattle.ccg.proofs.FlatLaws.{flat-length, flat-result, flat-trees}
 use Rattle.ccg.specs.Flat.{flatGrammar, plainClass}
 use Rattle.charset.specs.Set.{characters}
 use Rattle.common.specs.Lists.{overwritten, joined}
-use Rattle.engine.specs.Outcome.{Answered}
-use Rattle.engine.specs.declared.Answer.the-variants.{One}
 use Rattle.extract.proofs.WrittenLaws.{bytes-long}
 use Rattle.extract.specs.Written.{twoBytes, bytesOf}
-use Rattle.grammar.proofs.VerdictLaws.{and-first, and-second, unless-answer}
+use Rattle.grammar.proofs.VerdictLaws.{and-first, unless-answer}
 use Rattle.grammar.specs.Formed.{WellFormed}
 use Rattle.grammar.specs.Layout.{startSort}
 use Rattle.grammar.specs.Verdict.{andThen, inOrder}
@@ -27,12 +25,11 @@ use Rattle.listing.proofs.TreeLaws.{judge-right}
 use Rattle.listing.specs.Answer.{byteLimit, badListing, judged, afterVerdict, listingAnswer}
 use Rattle.listing.specs.Numbers.{numbersOf}
 use Rattle.listing.specs.declared.ListingAnswer.the-variants.{Right, Refused}
-use Rattle.parse.specs.Outcome.{tooLong, tooShort, refusal, AfterVerdict, Outcome}
+use Rattle.engine.specs.Refusals.{tooLong}
 use Rattle.ccg.specs.Reading.{Reading}
 use Rattle.priority.proofs.CheckLaws.{accepted-formed}
 use Rattle.priority.specs.Check.{checked}
 use Rattle.theory.specs.Tree.{Tree, listing}
-use Rattle.grammar.specs.declared.Verdict.the-variants.{Refused as Rejected}
 
 -- ---- bytes and numbers
 

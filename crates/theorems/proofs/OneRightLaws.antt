@@ -1,36 +1,22 @@
 -- What reading answers with one is found right by the check of a listing.
-use Prim.Native.Nat.{ℕ, _+_, _*_, _/_, _%_, _≤_, _<_}
-use mathlib.Core.Path.{_≡_, refl, sym, subst⁻¹}
-use mathlib.Core.List.{List, [], _∷_}
-use mathlib.Core.Logic.{_↔_}
+use Prim.Native.Nat.{ℕ, _*_, _≤_, _<_}
+use mathlib.Core.Path.{_≡_, refl, subst⁻¹}
+use mathlib.Core.List.{List}
 use native.Mathlib.Omega.{arith}
-use lib.ListN.{length, getD, take, drop}
-use lib.Seq.{take-at}
-use borrow.Author.Tests.{le-ltb, ne-eqb}
-use Rattle.ccg.proofs.FlatLaws.{flat-length, flat-result, flat-trees}
-use Rattle.ccg.specs.Flat.{flatGrammar, plainClass}
+use lib.ListN.{getD, take}
 use Rattle.charset.specs.Set.{characters}
-use Rattle.common.specs.Lists.{overwritten, joined}
 use Rattle.engine.specs.Outcome.{Answered}
 use Rattle.engine.specs.declared.Answer.the-variants.{One}
-use Rattle.extract.proofs.WrittenLaws.{bytes-long}
-use Rattle.extract.specs.Written.{twoBytes, bytesOf}
-use Rattle.grammar.proofs.VerdictLaws.{and-first, and-second, unless-answer}
-use Rattle.grammar.specs.Formed.{WellFormed}
-use Rattle.grammar.specs.Layout.{startSort}
-use Rattle.grammar.specs.Verdict.{andThen, inOrder}
+use Rattle.grammar.proofs.VerdictLaws.{and-first, and-second}
+use Rattle.grammar.specs.Verdict.{andThen}
 use Rattle.grammar.specs.declared.Verdict.{Verdict}
 use Rattle.grammar.specs.declared.Verdict.the-variants.{Accepted}
-use Rattle.listing.proofs.TerminalLaws.{OwnNumbers}
-use Rattle.listing.proofs.TreeLaws.{judge-right}
-use Rattle.listing.specs.Answer.{byteLimit, badListing, judged, afterVerdict, listingAnswer}
-use Rattle.listing.specs.Numbers.{numbersOf}
-use Rattle.listing.specs.declared.ListingAnswer.the-variants.{Right, Refused}
-use Rattle.parse.specs.Outcome.{tooLong, tooShort, refusal, AfterVerdict, Outcome}
+use Rattle.listing.specs.Answer.{byteLimit, listingAnswer}
+use Rattle.listing.specs.declared.ListingAnswer.the-variants.{Right}
+use Rattle.engine.specs.Refusals.{tooLong}
+use Rattle.parse.specs.Outcome.{tooShort, refusal, AfterVerdict, Outcome}
 use Rattle.ccg.specs.Reading.{Reading}
-use Rattle.priority.proofs.CheckLaws.{accepted-formed}
 use Rattle.priority.specs.Check.{checked}
-use Rattle.theory.specs.Tree.{Tree, listing}
 use Rattle.grammar.specs.declared.Verdict.the-variants.{Refused as Rejected}
 use Rattle.listing.proofs.ReadingLaws.{reading-written}
 
