@@ -26,10 +26,10 @@ use Rattle.parse.specs.Outcome.{tooShort, refusal}
 use Rattle.ccg.specs.Reading.{Reading}
 use Rattle.priority.proofs.CheckLaws.{accepted-formed}
 use Rattle.priority.specs.Check.{checked}
-use Rattle.theory.proofs.ClosedLaws.{stands-counted, stands-same}
+use Rattle.theory.proofs.ClosedLaws.{everything-due, stands-counted, stands-same}
 use Rattle.theory.proofs.SpellsLaws.{derived-spells}
 use Rattle.theory.specs.Grammar.{Grammar, Spells, Stands, Derived, DerivedAt, Parse}
-use Rattle.theory.specs.Steps.{Chart, cap, splitSum, Closed}
+use Rattle.theory.specs.Steps.{Chart, cap, splitSum, everything, Closed}
 use Rattle.theory.specs.Tree.{Tree, leaf, node, Forest, none, _▷_, yields, listing}
 
 -- ---- lists of numbers
@@ -94,12 +94,12 @@ parses-true g roots w (node p f) e =
 
 -- ---- charts
 
-closed-true : (g : Grammar) (w : List ℕ) (c : Chart) → emptyTest g w c ≡ true → stepTest g w c ≡ true → Closed g w c
+closed-true : (g : Grammar) (w : List ℕ) (c : Chart) → emptyTest g w c ≡ true → stepTest g w c ≡ true → Closed g w everything c
 unfolding emptyTest stepTest
 closed-true g w c e h =
     record {
-      empty = λ p i lp li. leb-true 1 (c p 0 i i) (all-here _ (length w + 1) (all-here _ (g .count) e p lp) i (omega arith));
-      step = λ p d i j lp ld ij jw. leb-true (cap (splitSum g w c p d i j)) (c p (d + 1) i j)
+      empty = λ p i lp li wp. leb-true 1 (c p 0 i i) (all-here _ (length w + 1) (all-here _ (g .count) e p lp) i (omega arith));
+      step = λ p d i j lp ld ij jw wp. leb-true (cap (splitSum g w c p d i j)) (c p (d + 1) i j)
           (all-here _ (j + 1) (all-here _ (length w + 1) (all-here _ (g .arity p) (all-here _ (g .count) h p lp) d ld) j (omega arith)) i (omega arith));
     }
 
@@ -139,18 +139,18 @@ module _ (b w : List ℕ) (good : checked b ≡ Accepted) (bytes : allBytes b �
     abbrev c : Chart
     c = chartOf spans
 
-    closed : Closed g w c
+    closed : Closed g w everything c
     closed = closed-true g w c empty step
 
     no-reading : leb (parseSum g w c) 0 ≡ true → (t : Tree) → Reading b w t → ⊥
     unfolding parseSum
     no-reading few t r =
-        omega (arith, leb-true (parseSum g w c) 0 few, stands-counted g w c closed (g .count) 0 t 0 (length w) (root-stands t (readings t .1 r)))
+        omega (arith, leb-true (parseSum g w c) 0 few, stands-counted g w everything (everything-due g w) c closed (g .count) 0 t 0 (length w) (λ q l e. refl) (root-stands t (readings t .1 r)))
 
     one-reading : leb (parseSum g w c) 1 ≡ true → (t u : Tree) → Reading b w t → Reading b w u → t ≡ u
     unfolding parseSum
     one-reading few t u r s =
-        stands-same g w c closed (g .count) 0 t u 0 (length w) (leb-true (parseSum g w c) 1 few) (root-stands t (readings t .1 r)) (root-stands u (readings u .1 s))
+        stands-same g w everything (everything-due g w) c closed (g .count) 0 t u 0 (length w) (λ q l e. refl) (leb-true (parseSum g w c) 1 few) (root-stands t (readings t .1 r)) (root-stands u (readings u .1 s))
 
 -- ---- verdicts
 

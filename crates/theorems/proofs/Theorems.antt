@@ -1,6 +1,6 @@
 -- The theorems of the page, each from the law that proves it.
 use mathlib.Core.Path.{_≡_, refl, sym, subst, subst⁻¹, fun-ext}
-use mathlib.Core.Logic.{⊎-elim, _⊎_}
+use mathlib.Core.Logic.{⊎-elim}
 use Prim.Native.Nat.{ℕ}
 use mathlib.Core.List.{List}
 use lib.ListN.{length}
@@ -106,7 +106,7 @@ read-exactly b w chart₀ l₀ r chart l o e short enough =
       unwritten = ⊎-elim (none-buffer P l₀ r l a) (several-buffer P l₀ r l a);
       whole = one-buffer P l₀ r l a;
       front = long-buffer P l₀ r l a;
-      chartCounts = (counts .entries, counts .long, counts .whole, counts .cells);
+      chartCounts = (counts .entries, counts .long, counts .whole, λ p d i j lp ld ij jw. counts .counted .counts p d i j lp ld ij jw refl);
     }
 
 -- ---- the archive

@@ -29,7 +29,8 @@ use Rattle.ccg.specs.Visser.{visserGrammar, completedGrammar, SingleHigher}
 use Rattle.ccg.specs.Written.{WrittenForm}
 use Rattle.ccg.specs.declared.FlatAnswer.the-variants.{Written, Refused as NotWritten}
 use Rattle.charset.specs.Set.{characters}
-use Rattle.chart.specs.Layout.{textLimit, rowOf, chartBytes, cellAt}
+use Rattle.chart.specs.Counted.{entryOf}
+use Rattle.chart.specs.Layout.{textLimit, chartBytes}
 use Rattle.engine.specs.declared.Answer.{Answer}
 use Rattle.engine.specs.declared.Answer.the-variants.{None, One, Several, Refused as NotRead}
 use Rattle.extract.specs.Written.{bytesOf}
@@ -159,7 +160,7 @@ pub record ReadExactly (b w chart₀ l₀ : List ℕ) (r : Answer) (chart l : Li
       → let numbers = take (length l₀ / 2) (listing t) in l ≡ bytesOf numbers ++ drop (length (bytesOf numbers)) l₀
   -- the chart starts with a count for each production p, count d of its arguments, start i and end j; what lies beyond stays
   pub chartCounts : (entries : List ℕ) × (length entries ≡ chartBytes (argumentCount b) (productions b) (length w)) × (chart ≡ entries ++ drop (length entries) chart₀)
-      × ((p d i j : ℕ) → p < productions b → d ≤ argumentCount b p → i ≤ j → j ≤ length w → Counts (EntryList b w p d i j) (getD entries (cellAt (length w) (rowOf (argumentCount b) p d) i j) 0))
+      × ((p d i j : ℕ) → p < productions b → d ≤ argumentCount b p → i ≤ j → j ≤ length w → Counts (EntryList b w p d i j) (entryOf (argumentCount b) (length w) entries p d i j))
 
 abbrev pub Read : Type 0
 Read =
