@@ -30,6 +30,7 @@ enum {
     KIND_NONE = 0,
     KIND_ONE = 1,
     KIND_SEVERAL = 2,
+    KIND_REFUSED = 3,
     CHART_SHORT = 20
 };
 
@@ -361,7 +362,7 @@ static int parse_line(void) {
     uint8_t *chart = malloc(size);
     if (chart == NULL) return fail("no memory for a chart of %zu bytes", size);
     uint64_t answer = call(meadowsink_read, chart, size);
-    if (answer == 4 * CHART_SHORT + 3) { /* another library may need another size: it says which */
+    if (answer == 4 * CHART_SHORT + KIND_REFUSED) { /* another library may need another size: it says which */
         size = call(meadowsink_read_place, chart, size);
         free(chart);
         chart = malloc(size);
@@ -460,8 +461,8 @@ static int load_files(const Options *options) {
 }
 
 static int respond(const Options *options) {
-    uint64_t refusal = meadowsink_check(book.bytes, book.length);
-    if (refusal != 0) return refuse_grammar(refusal, meadowsink_check_place(book.bytes, book.length));
+    uint64_t answer = meadowsink_check(book.bytes, book.length);
+    if (answer % 4 == KIND_REFUSED) return refuse_grammar(answer / 4, meadowsink_check_place(book.bytes, book.length));
     return options->flat ? print_flat() : parse_line();
 }
 
