@@ -88,9 +88,9 @@ books: $(BUILD)/book
 check-books: $(BUILD)/book
 	sh tests/books.sh $(BUILD)/book
 
-$(BUILD)/book: tools/book.rs
+$(BUILD)/book: tools/book/*.rs
 	mkdir -p $(BUILD)
-	$(RUSTC) -o $@ $<
+	$(RUSTC) -o $@ tools/book/main.rs
 
 # ---- speed
 

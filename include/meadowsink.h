@@ -19,9 +19,8 @@ extern "C" {
  * Stack. The two calls that read a text need fewer than 500 bytes of stack for each level of an only parse, of which there can be 12,864: let a thread that
  * makes them have 8 MB. The other calls need less than 2 MB.
  *
- * Two calls to an operation. The first gives its answer, 4 * value + kind, where kind 3 is a refusal and the value its number; meadowsink_check alone gives
- * the number as it is. The second, whose name ends in `_place`, takes the same areas, does the same to them, and gives the place of the refusal; it is 0 if
- * nothing is refused, but 0 may also be a place.
+ * Two calls to an operation. The first gives its answer, 4 * value + kind, where kind 3 is a refusal and the value its number. The second, whose name ends
+ * in `_place`, takes the same areas, does the same to them, and gives the place of the refusal; it is 0 if nothing is refused, but 0 may also be a place.
  *
  * Refusals, with their places. Bytes and rules are counted from 0. The book's refusals, 1 to 9, come before the others.
  *
@@ -48,7 +47,10 @@ extern "C" {
  *
  *   book     the bytes of the grammar
  *
- * The result is 0 if the book is accepted, otherwise the number of the refusal, 1 to 9.
+ * The result is 4 * value + kind:
+ *
+ *   kind 0   accepted; the value is 0.
+ *   kind 3   refused; the value is the number of the refusal, 1 to 9.
  */
 uint64_t meadowsink_check(const uint8_t *book, size_t book_length);
 

@@ -1,5 +1,5 @@
 #!/bin/sh
-# Tests tools/book.rs.
+# Tests tools/book.
 #
 #     books.sh BOOK-TOOL [--print]    --print: only prints what is to be stored as books.out, to be looked at and kept
 #
@@ -55,10 +55,26 @@ repeat() {
     awk -v n="$1" -v word="$2" 'BEGIN { while (n-- > 0) printf "%s", word }'
 }
 
+# Writes the bytes, given in base ten, to standard output.
+bytes() {
+    for byte; do printf "\\$(printf %03o "$byte")"; done
+}
+
 # A book of these bytes, shown.
 show() {
     echo '| bytes:' "$@"
-    for byte; do printf "\\$(printf %03o "$byte")"; done | "$tool" --show 2>&1
+    bytes "$@" | "$tool" --show 2>&1
+}
+
+# What stands at a byte of the book of these bytes, or, if that is -, at each byte from 9 on.
+explain() {
+    place=$1
+    shift
+    echo "| byte $place of:" "$@"
+    case $place in
+    -) bytes "$@" | "$tool" --explain 2>&1 | tail -n +11 ;;
+    *) bytes "$@" | "$tool" --explain - "$place" 2>&1 ;;
+    esac
 }
 
 transcript() {
@@ -139,6 +155,22 @@ transcript() {
     show 65 1 0 0 0 0 0 0
     "$tool" --show "$dir/missing" 2>&1 | sed "s|$dir/||"
     "$tool" --what 2>&1
+
+    echo '# what stands at the bytes of a book'
+    "$tool" --explain books/T.book
+    "$tool" --explain books/T.book 16
+    : > "$dir/empty"
+    "$tool" --explain - < "$dir/empty"
+    for place in 0 4 5 6; do explain $place 1 3 3 3 1; done
+    for place in 5 6 9 11 12; do explain $place 0 3 3 0 0 0 1 3 3 1 1; done
+    explain - 2 1 2 1 2 0 2 2 0 2 66 1 65 66 64 39 92 200
+    explain - 2 1 2 1 2 0 2 2 0 2 2 63 65 66 64 39 92 200 10 5 0 1 7
+    explain 18 2 1 2 1 2 0 2 2 0 2 66 1 65 66 64 39 0 0 1
+    explain 17 2 1 2 1 2 0 2 2 0 2 66 1 65 66 64 39 0 0 1
+    explain 255 255 255 255 255 255 255
+    explain x 1 1 0 0 0 0 0 0
+    explain -1 1 1 0 0 0 0 0 0
+    "$tool" --explain "$dir/missing" 2>&1 | sed "s|$dir/||"
 }
 
 if [ "$2" = --print ]; then

@@ -1,5 +1,5 @@
 #!/bin/sh
-# Tests the examples: runs the viewer and the wrapper, and compares what they print with examples.out.
+# Tests the examples: runs the viewer and the wrapper, and compares what they print with examples.out; where a book is refused, what book --explain says, too.
 #
 #     examples.sh EXAMPLES-DIRECTORY BOOK-TOOL [--print]    --print: only prints what is to be stored as examples.out, to be looked at and kept
 examples=$(cd "$1" && pwd)
@@ -36,10 +36,14 @@ answer() {
     "$examples/viewer" "$here/books/$1.book" "$2" 2>&1 | head -n 1
 }
 
-# The viewer on a book of these bytes.
+# The viewer on a book of these bytes, and what stands at the byte that it names.
 refused() {
     bytes "$@" > b
     run viewer b 8
+    place=$("$examples/viewer" b 8 2>&1 | sed -n 's/^refused [1-8] \([0-9]*\):.*/\1/p')
+    [ -z "$place" ] && return
+    echo "$ book --explain b $place"
+    "$tool" --explain b "$place" 2>&1
 }
 
 trees() {

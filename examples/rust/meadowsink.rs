@@ -97,9 +97,9 @@ fn call_text(operation: OfText, book: &[u8], text: &[u8], chart: &mut [u8], list
 
 /// Checks a book.
 pub fn check(book: &[u8]) -> Verdict {
-    match call_book(meadowsink_check, book) {
-        0 => Verdict::Accepted,
-        number => Verdict::Refused { number, place: call_book(meadowsink_check_place, book) },
+    match split(call_book(meadowsink_check, book)) {
+        (0, _) => Verdict::Accepted,
+        (_, number) => Verdict::Refused { number, place: call_book(meadowsink_check_place, book) },
     }
 }
 

@@ -25,11 +25,10 @@ fn refused_name(refused: &Refusal) -> String {
 pub fn check(bytes: &[u8], book: &Result<Book, Refusal>, dice: &mut Dice, tally: &mut Tally) -> Outcome {
     let refused = book.as_ref().err();
     tally.add("check", refused.map_or("accepted".into(), refused_name));
+    let (number, place) = packed(refused.map_or(Ok(0), |r| Err(*r)));
     let mut lent = Lent::new(bytes, dice);
-    let number = library::check(Make::Number, &mut lent);
-    same_number("meadowsink_check", refused.map_or(0, |r| r.number), number)?;
-    let place = library::check(Make::Place, &mut lent);
-    same_number("meadowsink_check_place", refused.map_or(0, |r| r.place), place)?;
+    same_number("meadowsink_check", number, library::check(Make::Number, &mut lent))?;
+    same_number("meadowsink_check_place", place, library::check(Make::Place, &mut lent))?;
     same_bytes("meadowsink_check", "book", bytes, &lent)
 }
 

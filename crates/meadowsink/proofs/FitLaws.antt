@@ -1,5 +1,5 @@
--- No answer of the other operations is too large for a 64-bit number.
-use Prim.Native.Nat.{ℕ, _+_, _*_, _%_, _^_, _≤_, _<_}
+-- The number of no answer is too large for 64 bits: each reply fits. Reading a text is in ViewerLaws.antt.
+use Prim.Native.Nat.{ℕ, _+_, _%_, _≤_, _<_}
 use mathlib.Core.Path.{_≡_, refl}
 use mathlib.Core.Bool.{Bool, false, true, cond, _||_}
 use mathlib.Core.List.{List, [], _∷_, _++_}
@@ -26,70 +26,93 @@ use Rattle.listing.specs.Answer.{byteLimit, badListing, judged, afterVerdict, l
 use Rattle.listing.specs.Judge.{isRight, dueAfter, textAfter, judge}
 use Rattle.listing.specs.Numbers.{numbersOf}
 use Rattle.listing.specs.declared.ListingAnswer.the-variants.{Wrong}
-use Rattle.meadowsink.specs.Calls.{conflictNumber, flatNumber, listingNumber}
+use Rattle.meadowsink.specs.Calls.{checkReply, conflictReply, flatReply, listingReply}
+use Rattle.meadowsink.specs.Reply.{answered, refused, kindLimit, valueLimit, Fits}
+use Rattle.meadowsink.specs.declared.reply.Reply.{Reply}
 use Rattle.parse.proofs.NumberLaws.{largestNumber, Numbered, grammar-numbered}
 use Rattle.engine.specs.Refusals.{tooLong}
 use Rattle.priority.proofs.CheckLaws.{accepted-formed}
 use Rattle.priority.specs.Check.{checked}
 use Rattle.priority.specs.Conflict.{conflicts, isThere, yesOrNo, conflictAnswer}
-use Rattle.theory.specs.Tree.{size}
 use Rattle.grammar.specs.declared.Verdict.the-variants.{Refused as Rejected}
 use Rattle.ccg.specs.declared.FlatAnswer.the-variants.{Refused as NotWritten}
 use Rattle.priority.specs.declared.ConflictAnswer.the-variants.{Refused as NotAsked}
 use Rattle.listing.specs.declared.ListingAnswer.the-variants.{Refused as NotChecked}
 
--- ---- refusals
+-- ---- what fits
 
--- An operation that refuses what a verdict refuses: its number fits if the verdict's numbers are small and its own answer fits.
-unless-fits : {A : Type 0} (number : A → ℕ) (refused : ℕ → ℕ → A) (v : Verdict) (answer : A) → ((k p : ℕ) → number (refused k p) ≡ 4 * k + 3) → Numbered v
-    → (v ≡ Accepted → number answer < 2 ^ 64) → number (unlessRefused refused v answer) < 2 ^ 64
-unless-fits number refused Accepted answer form numbered own = own refl
-unless-fits number refused (Rejected k p) answer form numbered own = omega (arith, form k p, numbered .small k p refl)
+pub answered-fits : (kind value : ℕ) → kind < kindLimit → value < valueLimit → Fits (answered kind value)
+answered-fits kind value k v = record { kind = k; value = v }
+
+pub refused-fits : (number place : ℕ) → number ≤ largestNumber → Fits (refused number place)
+refused-fits number place h = record { kind = omega arith; value = omega arith }
+
+-- An operation that refuses what a verdict refuses: its reply fits if the verdict's numbers are small and its own answer fits.
+unless-fits : {A : Type 0} (reply : A → Reply) (refusing : ℕ → ℕ → A) (v : Verdict) (answer : A) → ((k p : ℕ) → reply (refusing k p) ≡ refused k p) → Numbered v
+    → (v ≡ Accepted → Fits (reply answer)) → Fits (reply (unlessRefused refusing v answer))
+unless-fits reply refusing Accepted answer form numbered own = own refl
+unless-fits reply refusing (Rejected k p) answer form numbered own = rw (form k p) (refused-fits k p (numbered .small k p refl))
+
+-- ---- checking a grammar
+
+verdict-fits : (v : Verdict) → Numbered v → Fits (checkReply v)
+unfolding checkReply
+verdict-fits Accepted numbered = answered-fits 0 0 (omega arith) (omega arith)
+verdict-fits (Rejected k p) numbered = refused-fits k p (numbered .small k p refl)
+
+pub check-fits : (b : List ℕ) → Fits (checkReply (checked b))
+check-fits b = verdict-fits (checked b) (grammar-numbered b)
 
 -- ---- the conflict question
 
-own-conflict-fits : (there conflict : Bool) → conflictNumber (cond there (yesOrNo conflict) (NotAsked 7 0)) < 2 ^ 64
-unfolding conflictNumber
-own-conflict-fits true true = omega arith
-own-conflict-fits true false = omega arith
-own-conflict-fits false conflict = omega arith
+own-conflict-fits : (there conflict : Bool) → Fits (conflictReply (cond there (yesOrNo conflict) (NotAsked 7 0)))
+unfolding conflictReply
+own-conflict-fits true true = answered-fits 1 0 (omega arith) (omega arith)
+own-conflict-fits true false = answered-fits 0 0 (omega arith) (omega arith)
+own-conflict-fits false conflict = refused-fits 7 0 (omega arith)
 
-pub conflict-fits : (b : List ℕ) (p i q : ℕ) → conflictNumber (conflictAnswer b p i q) < 2 ^ 64
-unfolding conflictAnswer conflictNumber
+pub conflict-fits : (b : List ℕ) (p i q : ℕ) → Fits (conflictReply (conflictAnswer b p i q))
+unfolding conflictAnswer conflictReply
 conflict-fits b p i q =
-    unless-fits conflictNumber NotAsked (checked b) _ (λ k place. refl) (grammar-numbered b) (λ e. own-conflict-fits (isThere b p i q) (conflicts b p i q))
+    unless-fits conflictReply NotAsked (checked b) _ (λ k place. refl) (grammar-numbered b) (λ e. own-conflict-fits (isThere b p i q) (conflicts b p i q))
 
 -- ---- writing a character class grammar
 
-flat-text-short : (b : List ℕ) → WellFormed b → length (grammarText (flatGrammar b)) ≤ grammarTextLimit
+flat-text-short : (b : List ℕ) → WellFormed b → length (grammarText (flatGrammar b)) < valueLimit
 unfolding flatGrammar flatLine
 flat-text-short b formed =
+    let short =
     tabulate-text-short (productions b) (flatLine b) (formed .framed .fewProductions)
-    (λ p l. omega (arith, length-tabulate (argumentCount b p) (flatClass b p), formed .framed .fewArguments p l))
+    (λ p l. omega (arith, length-tabulate (argumentCount b p) (flatClass b p), formed .framed .fewArguments p l)) in
+    omega arith
 
-write-fits : (n size : ℕ) → n ≤ grammarTextLimit → flatNumber (writeAnswer n size) < 2 ^ 64
-unfolding writeAnswer flatNumber
-write-fits n size h = elim (leb n size) as (λ (t : Bool). flatNumber (cond t (Written n) (NotWritten 21 n)) < 2 ^ 64) [ true ↦ omega arith | false ↦ omega arith ]
+write-fits : (n size : ℕ) → n < valueLimit → Fits (flatReply (writeAnswer n size))
+unfolding writeAnswer flatReply
+write-fits n size h =
+    elim (leb n size) as (λ (t : Bool). Fits (flatReply (cond t (Written n) (NotWritten 21 n)))) [
+      | true ↦ answered-fits 1 n (omega arith) h
+      | false ↦ refused-fits 21 n (omega arith)
+    ]
 
-pub flat-fits : (b : List ℕ) (size : ℕ) → flatNumber (flatAnswer b size) < 2 ^ 64
-unfolding flatAnswer flatNumber
+pub flat-fits : (b : List ℕ) (size : ℕ) → Fits (flatReply (flatAnswer b size))
+unfolding flatAnswer flatReply
 flat-fits b size =
-    unless-fits flatNumber NotWritten (checked b) _ (λ k place. refl) (grammar-numbered b)
+    unless-fits flatReply NotWritten (checked b) _ (λ k place. refl) (grammar-numbered b)
     (λ e. write-fits (length (grammarText (flatGrammar b))) size (flat-text-short b (accepted-formed b e)))
 
 -- ---- checking a listing
 
 -- The index of a wrong number is at most the count of numbers; there is no refusal.
-judge-small : (g : List Line) (ns : List ℕ) (dues : List Class) (w : List ℕ) (k : ℕ) → listingNumber (judge g ns dues w k) ≤ 4 * (k + length ns) + 1
-unfolding judge listingNumber
-judge-small g [] [] [] k = omega arith
-judge-small g [] [] (c ∷ w) k = omega arith
-judge-small g [] (due ∷ dues) w k = omega arith
-judge-small g (n ∷ ns) [] w k = omega arith
-judge-small g (n ∷ ns) (due ∷ dues) w k =
+judge-fits : (g : List Line) (ns : List ℕ) (dues : List Class) (w : List ℕ) (k : ℕ) → k + length ns < valueLimit → Fits (listingReply (judge g ns dues w k))
+unfolding judge listingReply
+judge-fits g [] [] [] k h = answered-fits 0 0 (omega arith) (omega arith)
+judge-fits g [] [] (c ∷ w) k h = answered-fits 1 k (omega arith) (omega arith)
+judge-fits g [] (due ∷ dues) w k h = answered-fits 1 k (omega arith) (omega arith)
+judge-fits g (n ∷ ns) [] w k h = answered-fits 1 k (omega arith) (omega arith)
+judge-fits g (n ∷ ns) (due ∷ dues) w k h =
     let next = judge g ns (dueAfter g n ++ dues) (textAfter g w n) (k + 1) in
-    let small = judge-small g ns (dueAfter g n ++ dues) (textAfter g w n) (k + 1) in
-    elim (isRight g due w n) as (λ (t : Bool). listingNumber (cond t next (Wrong k)) ≤ 4 * (k + length (n ∷ ns)) + 1) [ true ↦ omega arith | false ↦ omega arith ]
+    let later = judge-fits g ns (dueAfter g n ++ dues) (textAfter g w n) (k + 1) (omega arith) in
+    elim (isRight g due w n) as (λ (t : Bool). Fits (listingReply (cond t next (Wrong k)))) [ true ↦ later | false ↦ answered-fits 1 k (omega arith) (omega arith) ]
 
 module _ (b w l : List ℕ) where
   -- the refusals in order, and the first of them
@@ -117,10 +140,10 @@ module _ (b w l : List ℕ) where
       let many = ltb byteLimit (length l) in
       ltb-false byteLimit (length l) (or-second-false odd many (refuse-accepted (odd || many) 11 (length l) (and-second (tooLong w) (badListing l) later)))
 
-  judged-fits : length l ≤ byteLimit → listingNumber (judged b w l) < 2 ^ 64
+  judged-fits : length l ≤ byteLimit → Fits (listingReply (judged b w l))
   unfolding judged
-  judged-fits h = omega (arith, judge-small (flatGrammar b) (numbersOf l) (plainClass b (startSort b) ∷ []) w 0, numbers-length l)
+  judged-fits h = judge-fits (flatGrammar b) (numbersOf l) (plainClass b (startSort b) ∷ []) w 0 (omega (arith, numbers-length l))
 
-  pub listing-fits : listingNumber (listingAnswer b w l) < 2 ^ 64
-  unfolding listingAnswer afterVerdict listingNumber
-  listing-fits = unless-fits listingNumber NotChecked refusals (judged b w l) (λ k place. refl) refusals-numbered (λ e. judged-fits (listing-short e))
+  pub listing-fits : Fits (listingReply (listingAnswer b w l))
+  unfolding listingAnswer afterVerdict listingReply
+  listing-fits = unless-fits listingReply NotChecked refusals (judged b w l) (λ k place. refl) refusals-numbered (λ e. judged-fits (listing-short e))

@@ -1,3 +1,3 @@
 -- Laws of the calls.
-pub mod ViewerLaws
 pub mod FitLaws
+pub mod ViewerLaws

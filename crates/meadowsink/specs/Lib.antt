@@ -1,3 +1,4 @@
 -- What the contracts of the calls cite.
+pub mod Reply
 pub mod Calls
 pub mod Viewer

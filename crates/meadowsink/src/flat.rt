@@ -1,0 +1,42 @@
+// Writing a character class grammar.
+use crate::reply::Reply;
+use crate::reply::answer;
+use crate::reply::number;
+use crate::reply::place;
+use crate::reply::refusal;
+use ccg::FlatAnswer;
+use ccg::write_flat;
+ghost use mathlib.Core.Path.{_≡_};
+ghost use lib.ListN.{length};
+ghost use Rattle.ccg.specs.Flat.{flatGrammar};
+ghost use Rattle.ccg.specs.Text.{grammarText, flatAnswer, bufferAfter};
+ghost use Rattle.meadowsink.specs.Calls.{flatReply};
+ghost use Rattle.meadowsink.specs.Reply.{numberOf, placeOf};
+
+// Kind 1 is written; the value is how many bytes.
+fn flat_reply(written: FlatAnswer) -> Reply
+    ensures { λ r. ⌜ r ≡ flatReply written ⌝ }
+{
+    match written {
+        FlatAnswer::Written(length) => answer(1, length),
+        FlatAnswer::Refused(number, place) => refusal(number, place),
+    }
+}
+
+// The text of the grammar's character class grammar, written to the start of the buffer.
+#[no_mangle]
+pub extern "C" fn meadowsink_flat(book: &[u8], out: &mut [u8]) -> u64
+    ensures { λ r. ⌜ r ≡ numberOf (flatReply (flatAnswer (now (book .entry)) (length (now (out .entry))))) ⌝ }
+    ensures { λ r. ⌜ now (out .exit) ≡ bufferAfter (flatAnswer (now (book .entry)) (length (now (out .entry)))) (grammarText (flatGrammar (now (book .entry)))) (now (out .entry)) ⌝ }
+{
+    number(flat_reply(write_flat(book, out)))
+}
+
+// Where writing is refused. It writes as the call before does.
+#[no_mangle]
+pub extern "C" fn meadowsink_flat_place(book: &[u8], out: &mut [u8]) -> u64
+    ensures { λ r. ⌜ r ≡ placeOf (flatReply (flatAnswer (now (book .entry)) (length (now (out .entry))))) ⌝ }
+    ensures { λ r. ⌜ now (out .exit) ≡ bufferAfter (flatAnswer (now (book .entry)) (length (now (out .entry)))) (grammarText (flatGrammar (now (book .entry)))) (now (out .entry)) ⌝ }
+{
+    place(flat_reply(write_flat(book, out)))
+}

@@ -1,0 +1,70 @@
+// Reading a text.
+use crate::reply::Reply;
+use crate::reply::answer;
+use crate::reply::number;
+use crate::reply::place;
+use crate::reply::refusal;
+use engine::Answer;
+use parse::parse;
+ghost use mathlib.Core.Path.{_≡_};
+ghost use Prim.Native.Nat.{min};
+ghost use Rattle.meadowsink.specs.Calls.{readReply};
+ghost use Rattle.meadowsink.specs.Viewer.{listingLimit, UsedOutcome, ViewerOutcome, PlaceOutcome};
+
+// Most bytes of the listing's buffer that a call uses.
+pub const LISTING_LIMIT: usize = 65536;
+
+// Kind 0 is none, kind 1 one, kind 2 several; the value of one is the length of its listing.
+fn read_reply(parses: Answer) -> Reply
+    ensures { λ r. ⌜ r ≡ readReply parses ⌝ }
+{
+    match parses {
+        Answer::None => answer(0, 0),
+        Answer::One(length) => answer(1, length),
+        Answer::Several => answer(2, 0),
+        Answer::Refused(number, place) => refusal(number, place),
+    }
+}
+
+fn used_part(n: usize) -> usize
+    ensures { λ r. ⌜ r ≡ min n listingLimit ⌝ }
+{
+    if LISTING_LIMIT < n {
+        return LISTING_LIMIT;
+    }
+    n
+}
+
+// Parses with at most the first 65,536 bytes of the listing's buffer.
+fn parse_used(book: &[u8], text: &[u8], chart: &mut [u8], listing: &mut [u8]) -> Answer
+    ensures { λ r. ⌜ UsedOutcome (now (book .entry)) (now (text .entry)) (now (chart .entry)) (now (listing .entry)) r (now (chart .exit)) (now (listing .exit)) ⌝ }
+{
+    let most = used_part(listing.len());
+    parse(book, text, chart, &mut listing[..most])
+}
+
+// The sheet viewer's call (01): the answer of parsing.
+#[no_mangle]
+pub extern "C" fn meadowsink_read(
+    book: &[u8],
+    text: &[u8],
+    chart: &mut [u8],
+    listing: &mut [u8],
+) -> u64
+    ensures { λ r. ⌜ ViewerOutcome (now (book .entry)) (now (text .entry)) (now (chart .entry)) (now (listing .entry)) r (now (chart .exit)) (now (listing .exit)) ⌝ }
+{
+    number(read_reply(parse_used(book, text, chart, listing)))
+}
+
+// Where parsing is refused. It parses as the call before does.
+#[no_mangle]
+pub extern "C" fn meadowsink_read_place(
+    book: &[u8],
+    text: &[u8],
+    chart: &mut [u8],
+    listing: &mut [u8],
+) -> u64
+    ensures { λ r. ⌜ PlaceOutcome (now (book .entry)) (now (text .entry)) (now (chart .entry)) (now (listing .entry)) r (now (chart .exit)) (now (listing .exit)) ⌝ }
+{
+    place(read_reply(parse_used(book, text, chart, listing)))
+}

@@ -1,0 +1,120 @@
+//! What stands at each byte of a book, whether it is accepted or not.
+
+use crate::grammar::{DECLARATION, FIRST_CLASS, HEADER, KINDS};
+use crate::tokens::character;
+
+// Their limits, as those below, are the library's.
+const HEADER_WORDS: [&str; HEADER] = [
+    "the number of sorts, 1 to 32",
+    "the number of rules, 1 to 64",
+    "the number of classes, 0 to 64",
+    "the number of declarations",
+    "the start",
+    "a byte that must be 0",
+];
+
+// What a byte is, with the rule, class or declaration that it belongs to, and which argument or range of it.
+#[derive(Clone, Copy)]
+enum Part {
+    Header(usize),
+    ArgumentCount(usize),
+    RangeCount(usize),
+    RuleResult(usize),
+    Argument(usize, usize),
+    Low(usize, usize),
+    High(usize, usize),
+    Kind(usize),
+    First(usize),
+    Second(usize),
+}
+
+use Part::{Argument, ArgumentCount, First, Header, High, Kind, Low, RangeCount, RuleResult, Second};
+
+// The parts of a book in order, as its counts call for them; as far as there are counts.
+fn parts(bytes: &[u8]) -> Vec<Part> {
+    let mut parts: Vec<Part> = (0..HEADER).map(Header).collect();
+    let &[_, rules, classes, declarations, _, _, ..] = bytes else {
+        return parts;
+    };
+    parts.extend((0..rules as usize).map(ArgumentCount));
+    parts.extend((0..classes as usize).map(RangeCount));
+    let Some(counts) = bytes.get(HEADER..parts.len()) else {
+        return parts;
+    };
+    let (of_rules, of_classes) = counts.split_at(rules as usize);
+    for (rule, count) in of_rules.iter().enumerate() {
+        parts.push(RuleResult(rule));
+        parts.extend((0..*count as usize).map(|index| Argument(rule, index)));
+    }
+    for (class, count) in of_classes.iter().enumerate() {
+        parts.extend((0..*count as usize).flat_map(|index| [Low(class, index), High(class, index)]));
+    }
+    parts.extend((0..declarations as usize).flat_map(|d| -> [Part; DECLARATION] { [Kind(d), First(d), Second(d)] }));
+    parts
+}
+
+impl Part {
+    fn words(self) -> String {
+        match self {
+            Header(at) => HEADER_WORDS[at].into(),
+            ArgumentCount(rule) => format!("the argument count of rule {rule}, at most 8"),
+            RangeCount(class) => format!("the range count of class {class}, at most 16"),
+            RuleResult(rule) => format!("the result of rule {rule}"),
+            Argument(rule, index) => format!("argument {index} of rule {rule}"),
+            Low(class, index) => format!("the low end of range {index} of class {class}"),
+            High(class, index) => format!("the high end of range {index} of class {class}"),
+            Kind(d) => format!("the kind of declaration {d}"),
+            First(d) => format!("the first rule of declaration {d}"),
+            Second(d) => format!("the second rule of declaration {d}"),
+        }
+    }
+
+    // What the byte says, if that isn't a count.
+    fn meaning(self, bytes: &[u8], place: usize) -> Option<String> {
+        let value = bytes[place] as usize;
+        let named = |what: &str, number: usize, count: u8| match number < count as usize {
+            true => format!("{what} {number}"),
+            false => format!("{what} {number}, and there is none"),
+        };
+        let end = || character(value as u8);
+        match self {
+            Header(4) | RuleResult(_) => Some(named("sort", value, bytes[0])),
+            Argument(..) if value >= FIRST_CLASS => Some(named("class", value - FIRST_CLASS, bytes[2])),
+            Argument(..) => Some(named("sort", value, bytes[0])),
+            Low(..) if bytes.get(place + 1).is_some_and(|high| (*high as usize) < value) => Some(format!("{}, above its high end", end())),
+            Low(..) | High(..) => Some(end()),
+            Kind(_) => Some(value.checked_sub(1).and_then(|k| KINDS.get(k)).map_or("no kind".into(), |kind| kind.to_string())),
+            First(_) | Second(_) => Some(named("rule", value, bytes[1])),
+            _ => None,
+        }
+    }
+}
+
+// The line of a byte: its place, its value, what it is, and what it says.
+fn line(bytes: &[u8], parts: &[Part], place: usize) -> Result<String, String> {
+    match (parts.get(place), bytes.get(place)) {
+        (Some(part), Some(value)) => {
+            let meaning = part.meaning(bytes, place).map_or(String::new(), |meaning| format!(": {meaning}"));
+            Ok(format!("{place:>4} {value:>3}  {}{meaning}\n", part.words()))
+        }
+        (Some(part), None) if place == bytes.len() => Ok(format!("{place:>4}   -  missing: {}\n", part.words())),
+        (None, Some(value)) => Ok(format!("{place:>4} {value:>3}  too many: the counts call for {} bytes\n", parts.len())),
+        _ => Err(format!("there is no byte {place}: it has {} bytes", bytes.len())),
+    }
+}
+
+// What stands at one byte.
+pub fn explain_byte(bytes: &[u8], place: usize) -> Result<String, String> {
+    line(bytes, &parts(bytes), place)
+}
+
+// What stands at each byte, and which is the first that is missing.
+pub fn explain(bytes: &[u8]) -> Result<String, String> {
+    let parts = parts(bytes);
+    let count = bytes.len() + (bytes.len() < parts.len()) as usize;
+    let mut out = String::from("# Sorts, rules, arguments, classes, ranges and declarations are counted from 0.\n");
+    for place in 0..count {
+        out.push_str(&line(bytes, &parts, place)?);
+    }
+    Ok(out)
+}
