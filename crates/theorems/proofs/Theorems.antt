@@ -1,6 +1,6 @@
 -- The theorems of the page, each from the law that proves it.
 use mathlib.Core.Path.{_≡_, refl, sym, subst, subst⁻¹, fun-ext}
-use mathlib.Core.Logic.{⊎-elim, _⊎_}
+use mathlib.Core.Logic.{⊎-elim}
 use Prim.Native.Nat.{ℕ}
 use mathlib.Core.List.{List}
 use lib.ListN.{length}
