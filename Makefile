@@ -10,7 +10,7 @@ CASE_CRATES := grammar_cases conflict_cases flat_cases listing_cases
 CASES := 100000
 MANY_CASES := 1000000
 
-.PHONY: run test lib programs viewer second second-long faults examples check-examples bench books check-books cases store-cases check clean
+.PHONY: run test lib programs viewer unused second second-long faults examples check-examples bench books check-books cases store-cases check clean
 
 # the line 8/4*2 read by book T
 run:
@@ -22,7 +22,7 @@ run:
 lib:
 	rt staticlib meadowsink
 
-test: cases check-books lib viewer check-examples second programs
+test: cases check-books unused lib viewer check-examples second programs
 	rt fmt --check
 	rt ci
 
@@ -39,6 +39,16 @@ viewer: $(LIBRARY)
 
 $(LIBRARY):
 	$(MAKE) lib
+
+# ---- what nothing uses
+
+# imports, and crates in crates.txt
+unused: $(BUILD)/unused
+	$(BUILD)/unused .
+
+$(BUILD)/unused: tools/unused.rs
+	mkdir -p $(BUILD)
+	$(RUSTC) -o $@ $<
 
 # ---- independent evidence
 
