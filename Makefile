@@ -10,7 +10,7 @@ CASE_CRATES := grammar_cases conflict_cases flat_cases listing_cases
 CASES := 100000
 MANY_CASES := 1000000
 
-.PHONY: run test lib programs viewer unused second second-long faults examples check-examples bench books check-books cases store-cases check clean
+.PHONY: run test lib programs viewer stack unused second second-long faults examples check-examples bench books check-books cases store-cases check clean
 
 # the line 8/4*2 read by book T
 run:
@@ -22,7 +22,7 @@ run:
 lib:
 	rt staticlib meadowsink
 
-test: cases check-books unused lib viewer check-examples second programs
+test: cases check-books unused lib viewer check-examples second stack programs
 	rt fmt --check
 	rt ci
 
@@ -36,6 +36,18 @@ viewer: $(LIBRARY)
 	mkdir -p $(BUILD)
 	gcc -std=c11 -Wall -Wextra -Werror -O2 -o $(BUILD)/viewer tests/viewer_call.c $(LIBRARY)
 	$(BUILD)/viewer
+
+# each call with a small stack; READ_STACK, CALL_STACK and THREAD_STACK set other sizes, in kilobytes
+stack: $(BUILD)/stack_call $(BUILD)/stack_thread $(BUILD)/book
+	sh tests/stack.sh $(BUILD)/stack_call $(BUILD)/stack_thread $(BUILD)/book
+
+$(BUILD)/stack_call: tests/stack_call.c include/meadowsink.h $(LIBRARY)
+	mkdir -p $(BUILD)
+	gcc -std=c11 -Wall -Wextra -Werror -O2 -o $@ $< $(LIBRARY)
+
+$(BUILD)/stack_thread: tests/stack_thread.rs tests/second/library.rs tests/second/prng.rs $(LIBRARY)
+	mkdir -p $(BUILD)
+	$(RUSTC) -o $@ $< $(LINK)
 
 $(LIBRARY):
 	$(MAKE) lib
