@@ -1,6 +1,6 @@
 #!/bin/sh
-# Runs rt ci and shows what it prints as it comes, but for the last line: that is the gate's last line, and `make test` prints it when all that follows has passed
-# too.
+# Runs rt ci and shows what it prints as it comes, but for the last line: that is the gate's last line, and `make test` prints it when all that follows has
+# passed too.
 #
 #     ci.sh DIRECTORY    the line goes to DIRECTORY/ci.last, which is there only if rt ci passed
 dir=$1

@@ -6,8 +6,8 @@
 // crates.txt lists for another and no file of that crate refers to. It exits with 1 if there is any.
 //
 // A file is read word by word and not parsed. A word is no use of an imported name where it is a field (`.name`, or `name =` behind `{` or `;`), or where a
-// variable of that name is bound in the same declaration: by `λ name.`, `(name : ..)`, `let name`, or on a clause's left side, where only constructors are told
-// from variables, and those by the module that declares them: a name from outside crates/ counts as a constructor. What `ghost use` imports is used in
+// variable of that name is bound in the same declaration: by `λ name.`, `(name : ..)`, `let name`, or on a clause's left side, where only constructors are
+// told from variables, and those by the module that declares them: a name from outside crates/ counts as a constructor. What `ghost use` imports is used in
 // contracts only, between the braces of `requires` and `ensures`.
 use std::collections::{HashMap, HashSet};
 use std::path::{Path, PathBuf};
