@@ -1,5 +1,5 @@
 # make test runs everything that the gate runs; its last line is that of rt ci.
-# The tests that need rustc or gcc come first: rt ci removes target/.
+# rt ci removes target/ and leaves there what it proved: what needs the library comes behind it, so that nothing is proved twice.
 
 BUILD := build
 LIBRARY := target/staticlib/libmeadowsink.a
@@ -10,7 +10,7 @@ CASE_CRATES := grammar_cases conflict_cases flat_cases listing_cases
 CASES := 100000
 MANY_CASES := 1000000
 
-.PHONY: run test lib programs viewer second second-long faults examples check-examples bench books check-books cases store-cases check clean
+.PHONY: run test lib programs viewer stack unused second second-long faults examples check-examples bench books check-books cases store-cases check clean
 
 # the line 8/4*2 read by book T
 run:
@@ -22,9 +22,13 @@ run:
 lib:
 	rt staticlib meadowsink
 
-test: cases check-books lib viewer check-examples second programs
+test:
 	rt fmt --check
-	rt ci
+	$(MAKE) cases check-books unused
+	sh tests/ci.sh $(BUILD)
+	$(MAKE) lib
+	$(MAKE) viewer check-examples second stack programs
+	@cat $(BUILD)/ci.last
 
 # the programs flat and reading, run
 programs:
@@ -37,8 +41,30 @@ viewer: $(LIBRARY)
 	gcc -std=c11 -Wall -Wextra -Werror -O2 -o $(BUILD)/viewer tests/viewer_call.c $(LIBRARY)
 	$(BUILD)/viewer
 
+# each call with a small stack; READ_STACK, CALL_STACK and THREAD_STACK set other sizes, in kilobytes
+stack: $(BUILD)/stack_call $(BUILD)/stack_thread $(BUILD)/book
+	sh tests/stack.sh $(BUILD)/stack_call $(BUILD)/stack_thread $(BUILD)/book
+
+$(BUILD)/stack_call: tests/stack_call.c include/meadowsink.h $(LIBRARY)
+	mkdir -p $(BUILD)
+	gcc -std=c11 -Wall -Wextra -Werror -O2 -o $@ $< $(LIBRARY)
+
+$(BUILD)/stack_thread: tests/stack_thread.rs tests/second/library.rs tests/second/prng.rs $(LIBRARY)
+	mkdir -p $(BUILD)
+	$(RUSTC) -o $@ $< $(LINK)
+
 $(LIBRARY):
 	$(MAKE) lib
+
+# ---- what nothing uses
+
+# imports, and crates in crates.txt
+unused: $(BUILD)/unused
+	$(BUILD)/unused .
+
+$(BUILD)/unused: tools/unused.rs
+	mkdir -p $(BUILD)
+	$(RUSTC) -o $@ $<
 
 # ---- independent evidence
 

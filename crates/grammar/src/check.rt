@@ -20,7 +20,7 @@ use crate::limits::PRODUCTION_LIMIT;
 use crate::limits::RANGE_LIMIT;
 use crate::limits::SORT_LIMIT;
 ghost use mathlib.Core.Path.{_≡_};
-ghost use Prim.Native.Nat.{_+_, _*_, _<_, _≤_};
+ghost use Prim.Native.Nat.{_+_, _<_, _≤_};
 ghost use lib.ListN.{length, getD};
 ghost use Rattle.common.specs.Below.{anyBelow, allBelow};
 ghost use Rattle.grammar.specs.Limits.{headerLength};

@@ -13,7 +13,6 @@ use Rattle.chart.specs.Layout.{rowLimit, arityIn, rowOf, rowCount}
 use Rattle.common.proofs.BelowLaws.{bit-test}
 use Rattle.common.specs.Below.{sumBelow, bitOf}
 use Rattle.common.specs.Zeros.{AllZero}
-use Rattle.grammar.specs.Check.{outside}
 use Rattle.grammar.specs.Limits.{productionLimit, argumentLimit}
 use Rattle.links.specs.Linked.{RowLinked, LinkedTo}
 use Rattle.span.specs.Tables.{userAt, useAt, userBytes, useBytes, Links, UsersAre}

@@ -9,7 +9,7 @@ use Rattle.common.proofs.BoolLaws.{not-both}
 use Rattle.common.specs.Below.{anyBelow}
 use Rattle.grammar.proofs.FormedLaws.{order-accepted, well-formed}
 use Rattle.grammar.proofs.LayoutLaws.{production-first, production-after, production-before, class-first}
-use Rattle.grammar.proofs.VerdictLaws.{refused-not-accepted, refuse-accepted, first-all, refuse-case, and-first, and-second, there, first-of}
+use Rattle.grammar.proofs.VerdictLaws.{refused-not-accepted, refuse-accepted, first-all, refuse-case, and-first, and-second, first-of}
 use Rattle.grammar.specs.Check.{badArgumentCounts, badRangeCounts, badProductions, badClasses, badDeclarations, sameProduction, repeatedProduction, frameLines, frameCheck, bodiesLines, bodiesCheck}
 use Rattle.grammar.specs.Formed.{WellFormed}
 use Rattle.grammar.specs.Layout.{productions, productionAt}

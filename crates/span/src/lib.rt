@@ -10,8 +10,6 @@ use common::either;
 use grammar::layout::wide;
 use grammar::limits::PRODUCTION_LIMIT;
 ghost use mathlib.Core.Path.{_≡_};
-ghost use mathlib.Core.Bool.{Bool, true, false};
-ghost use mathlib.Core.List.{List};
 ghost use Prim.Native.Nat.{ℕ, _+_, _*_, _<_, _≤_, max};
 ghost use lib.ListN.{length, getD};
 ghost use Rattle.theory.specs.Steps.{cap};

@@ -6,7 +6,7 @@ use native.Mathlib.Omega.{arith}
 use lib.ListN.{length, getD, take, drop, length-append, take-append-drop, length-take}
 use lib.Seq.{take-length, take-append-seam, drop-append-seam, drop-append-le, take-take, take-at, drop-at, slice, slice-empty, slice-cons, length-slice}
 use Rattle.theory.specs.Grammar.{Grammar, Spells, Stands, Derived, DerivedAt}
-use Rattle.theory.specs.Tree.{Tree, leaf, node, Forest, none, _▷_, yield, yields, size}
+use Rattle.theory.specs.Tree.{Tree, leaf, node, Forest, none, _▷_, yield, yields}
 
 -- ---- places
 

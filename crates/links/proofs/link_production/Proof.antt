@@ -8,7 +8,6 @@ use Rattle.chart.proofs.LayoutLaws.{row-of-base}
 use Rattle.chart.specs.Layout.{arityIn, rowOf}
 use Rattle.links.proofs.LinkedLaws.{row-below, linked-last, linked-row}
 use Rattle.links.specs.Linked.{RowLinked, LinkedTo}
-use Rattle.theory.specs.Tree.{below}
 use Rattle.links.proofs.link_production.Statement.{statement}
 use Rattle.links.proofs.link_production.Tie as tie
 

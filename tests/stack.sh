@@ -1,0 +1,82 @@
+#!/bin/sh
+# Tests how much stack the library needs: makes each call in a process of its own with a stack of READ_STACK (the two calls that read) or CALL_STACK kilobytes,
+# and all of them in a thread with THREAD_STACK kilobytes, on the books that need most. Each answer is compared, too.
+#
+#     stack.sh STACK-CALL STACK-THREAD BOOK-TOOL
+call=$1
+thread=$2
+tool=$3
+READ_STACK=${READ_STACK:-512}
+CALL_STACK=${CALL_STACK:-2048}
+THREAD_STACK=${THREAD_STACK:-2048}
+dir=$(mktemp -d) || exit 1
+trap 'rm -rf "$dir"' EXIT
+books=$(cd "$(dirname "$0")/../books" && pwd) || exit 1
+failures=0
+
+# The environment is left out, as it stands on the stack.
+run() { # KILOBYTES EXPECTED WORD..
+    kilobytes=$1
+    expected=$2
+    shift 2
+    answer=$(ulimit -s "$kilobytes" && env -i "$call" "$@" 2>&1)
+    status=$?
+    [ $status = 0 ] && [ "$answer" = "$expected" ] && return
+    failures=$((failures + 1))
+    echo "failed, with $kilobytes KB of stack: $*"
+    echo "  expected: $expected"
+    echo "  answered: $answer (exit status $status)"
+}
+
+# Both calls of an operation.
+both() { # KILOBYTES EXPECTED PLACE OPERATION WORD..
+    kilobytes=$1
+    expected=$2
+    place=$3
+    operation=$4
+    shift 4
+    run "$kilobytes" "$expected" "$operation" "$@"
+    run "$kilobytes" "place $place" "${operation}_place" "$@"
+}
+
+# A book of these lines.
+book() { # NAME LINE..
+    name=$1
+    shift
+    printf '%s\n' "$@" > "$dir/text"
+    "$tool" "$dir/text" "$dir/$name.book" || exit 1
+}
+
+# The deepest trees (books/ says how deep), one that fits no buffer, and one that is not written.
+reading() {
+    both "$READ_STACK" 'kind 1 value 18204 levels 12003' 0 read "$books/ladder.book" 200
+    both "$READ_STACK" 'kind 1 value 19094 levels 12663' 0 read "$books/deepest.book" 200
+    both "$READ_STACK" 'kind 3 value 22' 32768 read "$books/power.book" 0
+    both "$READ_STACK" 'kind 2 value 0' 0 read "$books/dense.book" 200
+}
+
+# 4,096 numbers are the most: each in the one before it, complete and with more still missing; and with eight arguments, of which the last goes down.
+listings() {
+    book loop 'start s' 'loop: s = s' 'end: s ='
+    book wide 'start s' 's = s s s s s s s s'
+    book last 'start s' 's = e e e e e e e s' 'end: s =' 'e ='
+    both "$CALL_STACK" 'kind 0 value 0 numbers 4096 levels 4096' 0 check_listing "$dir/loop.book" 0 258 / 259
+    both "$CALL_STACK" 'kind 1 value 4096 numbers 4096 levels 4096' 0 check_listing "$dir/wide.book" 0 258
+    both "$CALL_STACK" 'kind 0 value 0 numbers 4089 levels 512' 0 check_listing "$dir/last.book" 0 258 260 260 260 260 260 260 260 / 259
+}
+
+# Rule 2 of the deepest book may stand below rule 0 and not below itself. The lines of its flat text have 30 * 17 + 22 + 31 * 24 + 23 + 10 bytes.
+others() {
+    for name in deepest limits dense; do both "$CALL_STACK" 'number 0' 0 check "$books/$name.book"; done
+    both "$CALL_STACK" 'kind 0 value 0' 0 conflict "$books/deepest.book" 0 0 2
+    both "$CALL_STACK" 'kind 1 value 0' 0 conflict "$books/deepest.book" 2 1 2
+    both "$CALL_STACK" 'kind 1 value 1309' 0 flat "$books/deepest.book"
+    both "$CALL_STACK" 'kind 1 value 19481' 0 flat "$books/limits.book"
+    both "$CALL_STACK" 'kind 1 value 63532' 0 flat "$books/dense.book"
+}
+
+reading
+listings
+others
+"$thread" "$books" "$dir" "$THREAD_STACK" || failures=$((failures + 1))
+[ $failures = 0 ] && echo "stack: all as it should be with $READ_STACK KB to read, $CALL_STACK KB for the other calls, $THREAD_STACK KB in a thread"

@@ -1,0 +1,154 @@
+/*
+ * Makes one call of the library and prints its answer: tests/stack.sh runs it with a small stack.
+ *
+ *     stack_call read BOOK N             a text of N times a
+ *     stack_call check BOOK
+ *     stack_call conflict BOOK P I Q
+ *     stack_call flat BOOK
+ *     stack_call check_listing BOOK N NUMBER.. [/ NUMBER..]
+ *
+ * The numbers before the slash are repeated as long as they and those behind it fit 4,096 numbers.
+ * With `_place` behind its name the operation's second call is made. The answer is printed as its kind and value, or as the place; behind the kind and value
+ * of one reading stands how many levels of rules its listing has, and so for a listing that was checked.
+ */
+#include <stdio.h>
+#include <stdlib.h>
+#include <string.h>
+
+#include "../include/meadowsink.h"
+
+enum {
+    header = 6,
+    first_rule = 258,
+    argument_limit = 8,
+    rule_limit = 64,
+    text_limit = 200,
+    book_limit = 65536,
+    listing_limit = 65536,
+    checked_limit = 4096,
+    chart_limit = rule_limit * (argument_limit + 1) * (text_limit + 1) * (text_limit + 2) / 2
+};
+
+/* Nothing large is on this program's own stack. */
+static uint8_t book[book_limit], text[text_limit], chart[chart_limit], out[listing_limit];
+static size_t book_length, text_length;
+static int pending[listing_limit];
+
+static int fail(const char *what) {
+    fprintf(stderr, "stack_call: %s\n", what);
+    exit(2);
+}
+
+static void load_book(const char *name) {
+    FILE *file = fopen(name, "rb");
+    if (file == NULL) fail("no such book");
+    book_length = fread(book, 1, sizeof book, file);
+    fclose(file);
+}
+
+static void load_text(const char *length) {
+    text_length = strtoul(length, NULL, 10);
+    if (text_length > text_limit) fail("the text is too long");
+    memset(text, 'a', text_length);
+}
+
+static unsigned number_at(size_t index) {
+    return out[2 * index] + 256u * out[2 * index + 1];
+}
+
+/* How deep rules stand in one another; the listing has each rule before its arguments, and the book the count of these. */
+static size_t levels(size_t count) {
+    size_t depth = 0, deepest = 0;
+    for (size_t at = 0; at < count; at++) {
+        if (at > 0 && depth == 0) fail("the listing goes on behind the tree");
+        pending[depth++] = number_at(at) >= first_rule ? book[header + number_at(at) - first_rule] : 0;
+        if (number_at(at) >= first_rule && depth > deepest) deepest = depth;
+        while (depth > 0 && pending[depth - 1] == 0)
+            if (--depth > 0) pending[depth - 1]--;
+    }
+    return deepest;
+}
+
+static void print_answer(uint64_t answer) {
+    printf("kind %llu value %llu", (unsigned long long)(answer % 4), (unsigned long long)(answer / 4));
+}
+
+/* Numbers in base ten; those before the slash as often as they fit. */
+static size_t fill_listing(int count, char **numbers) {
+    int repeated = 0;
+    while (repeated < count && strcmp(numbers[repeated], "/") != 0) repeated++;
+    int behind = repeated < count ? count - repeated - 1 : 0;
+    if (repeated == 0) fail("no numbers");
+    size_t times = (size_t)(checked_limit - behind) / (size_t)repeated, at = 0;
+    for (size_t i = 0; i < times * (size_t)repeated + (size_t)behind; i++) {
+        size_t from = i < times * (size_t)repeated ? i % (size_t)repeated : (size_t)repeated + 1 + i - times * (size_t)repeated;
+        unsigned long number = strtoul(numbers[from], NULL, 10);
+        out[at++] = (uint8_t)(number % 256);
+        out[at++] = (uint8_t)(number / 256);
+    }
+    return at;
+}
+
+static void read_text(int place) {
+    if (place) {
+        printf("place %llu", (unsigned long long)meadowsink_read_place(book, book_length, text, text_length, chart, sizeof chart, out, sizeof out));
+        return;
+    }
+    uint64_t answer = meadowsink_read(book, book_length, text, text_length, chart, sizeof chart, out, sizeof out);
+    print_answer(answer);
+    if (answer % 4 == 1) printf(" levels %zu", levels(answer / 4));
+}
+
+static void check(int place) {
+    printf(place ? "place %llu" : "number %llu", (unsigned long long)(place ? meadowsink_check_place(book, book_length) : meadowsink_check(book, book_length)));
+}
+
+static void conflict(int place, char **numbers) {
+    size_t p = strtoul(numbers[0], NULL, 10), i = strtoul(numbers[1], NULL, 10), q = strtoul(numbers[2], NULL, 10);
+    if (place)
+        printf("place %llu", (unsigned long long)meadowsink_conflict_place(book, book_length, p, i, q));
+    else
+        print_answer(meadowsink_conflict(book, book_length, p, i, q));
+}
+
+static void flat(int place) {
+    if (place)
+        printf("place %llu", (unsigned long long)meadowsink_flat_place(book, book_length, out, sizeof out));
+    else
+        print_answer(meadowsink_flat(book, book_length, out, sizeof out));
+}
+
+static void check_listing(int place, int count, char **numbers) {
+    size_t length = fill_listing(count, numbers);
+    if (place) {
+        printf("place %llu", (unsigned long long)meadowsink_check_listing_place(book, book_length, text, text_length, out, length));
+        return;
+    }
+    print_answer(meadowsink_check_listing(book, book_length, text, text_length, out, length));
+    printf(" numbers %zu levels %zu", length / 2, levels(length / 2));
+}
+
+int main(int count, char **words) {
+    if (count < 3) return fail("too few words");
+    char *suffix = strstr(words[1], "_place");
+    int place = suffix != NULL;
+    if (place) *suffix = '\0';
+    load_book(words[2]);
+    if (strcmp(words[1], "check") == 0) {
+        check(place);
+    } else if (strcmp(words[1], "flat") == 0) {
+        flat(place);
+    } else if (strcmp(words[1], "conflict") == 0 && count == 6) {
+        conflict(place, words + 3);
+    } else if (strcmp(words[1], "read") == 0 && count == 4) {
+        load_text(words[3]);
+        read_text(place);
+    } else if (strcmp(words[1], "check_listing") == 0 && count > 4) {
+        load_text(words[3]);
+        check_listing(place, count - 4, words + 4);
+    } else {
+        return fail("no such call");
+    }
+    putchar('\n');
+    return 0;
+}

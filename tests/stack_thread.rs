@@ -1,0 +1,109 @@
+// Makes every call of the library in a thread with a small stack; tests/stack.sh runs it.
+//
+//     stack_thread BOOKS OTHER-BOOKS KILOBYTES    BOOKS is books/, OTHER-BOOKS has the book `loop` that tests/stack.sh makes
+#[path = "second/library.rs"]
+mod library;
+#[path = "second/prng.rs"]
+#[allow(dead_code)]
+mod prng;
+
+use library::{check, check_listing, conflict, flat, read, Lent, Make};
+use prng::Dice;
+use std::path::{Path, PathBuf};
+use std::{env, fs, process, thread};
+
+const LISTING_BYTES: usize = 65_536;
+const CHECKED_NUMBERS: usize = 4_096;
+// Room for the chart of 64 rules of 8 arguments and 200 characters.
+const CHART_BYTES: usize = 64 * 9 * 201 * 202 / 2;
+
+// The answers, as 4 * value + kind.
+const ONE: u64 = 1;
+const WRITTEN: u64 = 1;
+const CONFLICT: u64 = 1;
+const REFUSED: u64 = 3;
+
+struct Areas {
+    dice: Dice,
+    failures: usize,
+}
+
+impl Areas {
+    fn lend(&mut self, contents: &[u8]) -> Lent {
+        Lent::new(contents, &mut self.dice)
+    }
+
+    fn book(&mut self, path: PathBuf) -> Lent {
+        let bytes = fs::read(&path).unwrap_or_else(|error| panic!("{}: {}", path.display(), error));
+        self.lend(&bytes)
+    }
+
+    fn expect(&mut self, what: &str, expected: u64, answer: u64) {
+        if answer != expected {
+            println!("failed in a thread: {}: expected {}, answered {}", what, expected, answer);
+            self.failures += 1;
+        }
+    }
+
+    // The text is `length` times a.
+    fn expect_reading(&mut self, path: PathBuf, length: usize, expected: u64, place: u64) {
+        let name = path.display().to_string();
+        let mut book = self.book(path);
+        let mut text = self.lend(&vec![b'a'; length]);
+        let mut chart = self.lend(&vec![0; CHART_BYTES]);
+        let mut listing = self.lend(&vec![0; LISTING_BYTES]);
+        for (make, expected) in [(Make::Number, expected), (Make::Place, place)] {
+            let answer = read(make, &mut book, &mut text, &mut chart, &mut listing);
+            self.expect(&format!("read {}", name), expected, answer);
+        }
+        let stayed = chart.sides_stayed() && listing.sides_stayed();
+        self.expect("the bytes beside what read was lent", 1, stayed as u64);
+        let written = listing.contents().chunks(2).take_while(|number| number != &[0, 0]).count() as u64;
+        self.expect("the numbers that read wrote", if expected % 4 == ONE { expected / 4 } else { place }, written);
+    }
+
+    // Rule 0 in itself as deep as numbers allow, and rule 1 lowest.
+    fn expect_listing(&mut self, path: PathBuf) {
+        let mut numbers = vec![258u16; CHECKED_NUMBERS - 1];
+        numbers.push(259);
+        let bytes: Vec<u8> = numbers.iter().flat_map(|number| number.to_le_bytes()).collect();
+        let (mut book, mut text, mut listing) = (self.book(path), self.lend(&[]), self.lend(&bytes));
+        for make in [Make::Number, Make::Place] {
+            let answer = check_listing(make, &mut book, &mut text, &mut listing);
+            self.expect("check_listing", 0, answer);
+        }
+    }
+
+    fn expect_others(&mut self, path: PathBuf) {
+        let mut book = self.book(path);
+        let mut out = self.lend(&vec![0; LISTING_BYTES]);
+        for (make, is_number) in [(Make::Number, 1), (Make::Place, 0)] {
+            self.expect("check", 0, check(make, &mut book));
+            self.expect("conflict", CONFLICT * is_number, conflict(make, &mut book, (2, 1, 2)));
+            self.expect("flat", (4 * 1309 + WRITTEN) * is_number, flat(make, &mut book, &mut out));
+        }
+    }
+}
+
+// How many answers were not the expected ones.
+fn make_calls(books: &Path, others: &Path) -> usize {
+    let mut areas = Areas { dice: Dice::new(1), failures: 0 };
+    areas.expect_reading(books.join("ladder.book"), 200, 4 * 18_204 + ONE, 0);
+    areas.expect_reading(books.join("deepest.book"), 200, 4 * 19_094 + ONE, 0);
+    areas.expect_reading(books.join("power.book"), 0, 4 * 22 + REFUSED, LISTING_BYTES as u64 / 2);
+    areas.expect_listing(others.join("loop.book"));
+    areas.expect_others(books.join("deepest.book"));
+    areas.failures
+}
+
+fn main() {
+    let words: Vec<String> = env::args().collect();
+    let [_, books, others, kilobytes] = &words[..] else {
+        eprintln!("usage: stack_thread BOOKS OTHER-BOOKS KILOBYTES");
+        process::exit(2)
+    };
+    let (books, others) = (PathBuf::from(books), PathBuf::from(others));
+    let size = kilobytes.parse::<usize>().expect("a number of kilobytes") * 1024;
+    let calls = thread::Builder::new().stack_size(size).spawn(move || make_calls(&books, &others)).expect("a thread");
+    process::exit(if calls.join().expect("the calls end") == 0 { 0 } else { 1 })
+}
