@@ -4,7 +4,6 @@ use crate::layout::put;
 use crate::layout::span_count;
 use crate::sums::larger;
 ghost use mathlib.Core.Path.{_≡_};
-ghost use mathlib.Core.List.{List};
 ghost use Prim.Native.Nat.{ℕ, _+_, _-_, _*_, _<_, _≤_, max};
 ghost use lib.ListN.{length, getD, set};
 ghost use Rattle.common.specs.Region.{Region};

@@ -3,8 +3,8 @@ use grammar::layout::wide;
 use grammar::limits::ARGUMENT_LIMIT;
 use grammar::limits::PRODUCTION_LIMIT;
 ghost use mathlib.Core.Path.{_≡_};
-ghost use Prim.Native.Nat.{ℕ, _+_, _*_, _<_, _≤_};
-ghost use lib.ListN.{length, getD, set};
+ghost use Prim.Native.Nat.{_+_, _*_, _<_, _≤_};
+ghost use lib.ListN.{length, set};
 ghost use Rattle.grammar.specs.Limits.{productionLimit};
 ghost use Rattle.chart.specs.Layout.{textLimit, arityIn, rowCount, rowLimit, spanCount, startAt, cellAt, entryAt};
 

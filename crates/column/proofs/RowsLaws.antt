@@ -1,7 +1,6 @@
 -- Laws of tables written production by production.
 use Prim.Native.Nat.{ℕ, _+_, _-_, _≤_, _<_}
 use mathlib.Core.Path.{_≡_, sym, _∙_, subst, subst⁻¹}
-use mathlib.Core.Bool.{lt}
 use mathlib.Core.List.{List}
 use mathlib.Core.Logic.{by-cases}
 use native.Mathlib.Omega.{arith}
@@ -12,7 +11,6 @@ use Rattle.chart.specs.Layout.{rowLimit, arityIn, rowOf, rowCount}
 use Rattle.column.specs.Rows.{RowsFilled}
 use Rattle.common.specs.Region.{Region}
 use Rattle.common.specs.Zeros.{AllZero}
-use Rattle.grammar.proofs.VerdictLaws.{here}
 
 module _ (v : ℕ → ℕ → ℕ) (counts : List ℕ) where
   pub rows-none : (l : List ℕ) → AllZero rowLimit l → RowsFilled v counts 0 l

@@ -1,7 +1,6 @@
 -- Laws of scattered writes.
 use Prim.Native.Nat.{ℕ, _+_, _<_}
 use mathlib.Core.Path.{_≡_, refl, _∙_, subst⁻¹}
-use mathlib.Core.Bool.{lt}
 use mathlib.Core.List.{List}
 use mathlib.Core.Logic.{by-cases}
 use native.Mathlib.Omega.{arith}
@@ -9,8 +8,6 @@ use native.Mathlib.Decide.{ℕ-discrete, decLt}
 use lib.ListN.{length, getD, set, length-set}
 use lib.Seq.{getD-set-same, getD-set-other}
 use Rattle.column.specs.Scattered.{Scattered}
-use Rattle.grammar.proofs.FormedLaws.{inside}
-use Rattle.grammar.proofs.VerdictLaws.{here}
 
 module _ (at v : ℕ → ℕ) (l₀ : List ℕ) where
   pub scattered-none : Scattered at v 0 l₀ l₀

@@ -1,11 +1,11 @@
 -- The sums of a column, row by row: nothing done, and one row more.
 use Prim.Native.Nat.{ℕ, _+_, _*_, max, _≤_, _<_}
-use mathlib.Core.Path.{_≡_, refl, sym, _∙_, ap, ap₂}
+use mathlib.Core.Path.{_≡_, refl, sym, _∙_, ap}
 use mathlib.Core.List.{List}
 use mathlib.Core.Logic.{by-cases}
 use native.Mathlib.Omega.{arith}
 use native.Mathlib.Decide.{ℕ-discrete, decLt}
-use native.Mathlib.Nat.{mul-zero, mul-le-mul}
+use native.Mathlib.Nat.{mul-zero}
 use lib.ListN.{getD}
 use Rattle.chart.specs.Layout.{places, entryAt}
 use Rattle.chart.proofs.ByEndsLaws.{place-next, row-before}

@@ -1,7 +1,7 @@
 -- A filled chart answers: its cells at the root count the parses, and the tree written is the parse if there is one.
 use Prim.Native.Nat.{ℕ, _-_, _*_, _≤_, _<_}
-use mathlib.Core.Path.{_≡_, refl, sym, _∙_, ap, subst, subst⁻¹}
-use mathlib.Core.Bool.{Bool, true, true≢false}
+use mathlib.Core.Path.{_≡_, refl, _∙_, ap, subst, subst⁻¹}
+use mathlib.Core.Bool.{true, true≢false}
 use mathlib.Core.List.{List}
 use native.Mathlib.Omega.{arith}
 use native.Mathlib.Nat.{le-refl}
@@ -26,7 +26,7 @@ use Rattle.extract.specs.Places.{Bases, Walkable, cellOf}
 use Rattle.extract.specs.Walk.{OnlyWritten}
 use Rattle.extract.specs.Written.{bytesOf, room}
 use Rattle.theory.proofs.ClosedLaws.{everything-due}
-use Rattle.theory.proofs.CountLaws.{Bounds, counts-bounds, counts-unique, parse-of, parse-counts}
+use Rattle.theory.proofs.CountLaws.{counts-bounds, counts-unique, parse-of, parse-counts}
 use Rattle.theory.specs.Counts.{Only, Counts}
 use Rattle.theory.specs.Grammar.{Grammar, Spells, Parse}
 use Rattle.theory.specs.Steps.{cap, everything, rootSum}

@@ -12,7 +12,6 @@ use Rattle.chart.specs.Layout.{rowLimit, arityIn, rowOf, rowCount, spanCount}
 use Rattle.common.proofs.BelowLaws.{sum-more, sum-one, sum-at}
 use Rattle.common.specs.Below.{sumBelow}
 use Rattle.engine.specs.Roots.{RootsReady}
-use Rattle.grammar.proofs.FormedLaws.{inside}
 
 -- the row of a production with all its arguments, and its cell for the whole text, are there
 module _ (counts bases roots w chart : List ℕ) (ready : RootsReady counts bases roots w chart) (p : ℕ) (l : p < length counts) where

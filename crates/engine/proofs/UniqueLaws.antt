@@ -6,7 +6,7 @@ use mathlib.Core.Logic.{by-cases}
 use native.Mathlib.Omega.{arith}
 use native.Mathlib.Decide.{decLt}
 use native.Mathlib.Nat.{mod-lt, div-add-mod', div-lt-iff-lt-mul}
-use lib.ListN.{length, getD, take}
+use lib.ListN.{length, take}
 use lib.Seq.{ext-getD}
 use Rattle.chart.proofs.LayoutLaws.{start-end}
 use Rattle.chart.specs.Counted.{entryOf}
@@ -19,7 +19,7 @@ use Rattle.engine.specs.declared.Answer.the-variants.{None, One, Several
 use Rattle.extract.specs.Written.{bytesOf}
 use Rattle.theory.proofs.CountLaws.{counts-unique}
 use Rattle.theory.specs.Counts.{Only, Two}
-use Rattle.theory.specs.Tree.{Tree, Forest, listing}
+use Rattle.theory.specs.Tree.{Tree, listing}
 
 -- ---- every place of the chart is the place of a cell
 

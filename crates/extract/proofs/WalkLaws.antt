@@ -1,7 +1,7 @@
 -- The steps of writing a tree with a stack of levels: one argument more, a level more, a level less; and the stack is no higher than there are productions and places.
-use Prim.Native.Nat.{ℕ, zero, suc, _+_, _-_, _*_, _≤_, _<_}
-use mathlib.Core.Path.{_≡_, refl, sym, _∙_, ap, ap₂, subst, subst⁻¹, subst₂}
-use mathlib.Core.Bool.{Bool, true}
+use Prim.Native.Nat.{ℕ, zero, suc, _+_, _*_, _≤_, _<_}
+use mathlib.Core.Path.{_≡_, refl, sym, _∙_, ap, subst, subst⁻¹, subst₂}
+use mathlib.Core.Bool.{true}
 use mathlib.Core.List.{List, [], _∷_, _++_, append-assoc, append-nil}
 use mathlib.Core.Logic.{by-cases}
 use native.Mathlib.Omega.{arith}
@@ -12,9 +12,8 @@ use lib.ListN.{length, getD}
 use Rattle.theory.proofs.PathsLaws.{OnlyTrees, path-bound}
 use Rattle.theory.specs.Paths.{Under, last, before, Path, top, down}
 use Rattle.extract.specs.Places.{Splits}
-use Rattle.theory.proofs.SpellsLaws.{stands-rises}
 use Rattle.theory.specs.Grammar.{Grammar, Spells, Stands}
-use Rattle.theory.specs.Tree.{Tree, leaf, node, Forest, none, _▷_, productionNumber, listing, listings}
+use Rattle.theory.specs.Tree.{Tree, node, Forest, none, _▷_, productionNumber, listing, listings}
 use Rattle.extract.specs.Walk.{Level, Walk}
 
 -- from d on up, step by step

@@ -1,22 +1,21 @@
 -- Writing a tree with a stack of levels in bytes: its first level, one argument more, a level more, a level less, and its end.
-use Prim.Native.Nat.{ℕ, zero, suc, _+_, _-_, _*_, _≤_, _<_}
-use mathlib.Core.Path.{_≡_, refl, sym, _∙_, ap, subst, subst₂}
+use Prim.Native.Nat.{ℕ, suc, _+_, _-_, _*_, _≤_, _<_}
+use mathlib.Core.Path.{_≡_, sym, _∙_, ap, subst}
 use mathlib.Core.Bool.{true}
 use mathlib.Core.List.{List, [], _∷_, _++_}
 use native.Mathlib.Omega.{arith}
 use native.Mathlib.Nat.{mul-le-mul-right}
-use lib.ListN.{length, getD, set, length-set}
+use lib.ListN.{length, getD, length-set}
 use Rattle.common.specs.Region.{Region}
 use Rattle.extract.proofs.LevelsLaws.{Opens, SameLevel, counted, counted-written, counted-production, counted-places, counted-other, opened-production, opened-written, opened-places, opened-before}
 use Rattle.extract.proofs.WalkLaws.{Moved, walk-start, walk-pop, walk-more, walk-push, walk-room, walk-complete}
-use Rattle.extract.proofs.WrittenLaws.{written-empty, written-over, written-append, written-room}
+use Rattle.extract.proofs.WrittenLaws.{written-over, written-append, written-room}
 use Rattle.extract.specs.Places.{Splits}
-use Rattle.extract.specs.Walk.{endCount, levelBytes, productionOf, writtenOf, placesOf, Walk, Writing, OnlyWritten, DueAt}
+use Rattle.extract.specs.Walk.{endCount, levelBytes, productionOf, writtenOf, placesOf, Walk, Writing, OnlyWritten}
 use Rattle.extract.specs.Written.{room, Written}
 use Rattle.theory.proofs.PathsLaws.{OnlyTrees, path-bound, path-count, path-wanted}
-use Rattle.theory.proofs.SpellsLaws.{spells-rises}
-use Rattle.theory.specs.Grammar.{Grammar, Spells, Stands}
-use Rattle.theory.specs.Paths.{Path, top}
+use Rattle.theory.specs.Grammar.{Grammar, Stands}
+use Rattle.theory.specs.Paths.{top}
 use Rattle.theory.specs.Steps.{Wanted, DueWanted, NextWanted}
 use Rattle.theory.specs.Tree.{Tree, leaf, node, Forest, productionNumber, listing}
 

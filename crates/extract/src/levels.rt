@@ -10,7 +10,7 @@ ghost use lib.ListN.{length, set};
 ghost use Rattle.chart.specs.Layout.{textLimit};
 ghost use Rattle.common.specs.Region.{Region};
 ghost use Rattle.grammar.specs.Limits.{productionLimit, argumentLimit};
-ghost use Rattle.extract.specs.Walk.{endCount, levelBytes, productionOf, writtenOf, openByte, DueAt};
+ghost use Rattle.extract.specs.Walk.{levelBytes, writtenOf, openByte, DueAt};
 
 // Places where the arguments of a production begin, and where the last one ends.
 pub const ENDS: usize = ARGUMENT_LIMIT + 1;

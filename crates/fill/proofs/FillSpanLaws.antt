@@ -24,7 +24,6 @@ use Rattle.span.specs.Span.{whole, usedSum, argumentOf}
 use Rattle.span.specs.Tables.{userAt, spanOf, Links, UsersAre, Exact, Founded, Settled}
 use Rattle.theory.specs.Grammar.{Grammar}
 use Rattle.theory.specs.Steps.{charEntry}
-use Rattle.theory.specs.Tree.{further}
 
 -- ---- before it is settled
 

@@ -24,9 +24,6 @@ use Rattle.common.specs.Zeros.{AllZero}
 use Rattle.empty.specs.Empty.{EmptyRight}
 use Rattle.fill.proofs.SpanFillLaws.{over-here, over-else, view-empty, view-cell, empty-step, Known, argument-whole, step-split, Fine, Inside, settled-fine}
 use Rattle.fill.specs.Filling.{viewOf, over, Done, SmallCells, SmallSums, Filling, Summing}
-use Rattle.grammar.proofs.FormedLaws.{inside}
-use Rattle.grammar.proofs.VerdictLaws.{here}
-use Rattle.grammar.specs.Layout.{argument}
 use Rattle.span.specs.Span.{Span, whole, usedSum, argumentOf, stepOf, ClosedAt, Raised, asBefore}
 use Rattle.span.specs.Tables.{Exact}
 use Rattle.theory.proofs.ClosedLaws.{everything-due}

@@ -17,7 +17,6 @@ use Rattle.fill.proofs.FillingLaws.{filling-start, filling-column, fill
 use Rattle.fill.specs.Filling.{SmallCells, SmallSums, Filling}
 use Rattle.fill.specs.Tables.{grammarBy, Ready, Further, Onward}
 use Rattle.span.specs.Tables.{UsersAre}
-use Rattle.theory.specs.Tree.{further}
 use Rattle.theory.specs.Steps.{everything}
 
 module _ {counts chars users empty args w : List ℕ} where

@@ -18,8 +18,6 @@ use Rattle.common.specs.Below.{sumBelow, bitOf}
 use Rattle.common.specs.Zeros.{AllZero}
 use Rattle.empty.specs.Empty.{EmptyRight}
 use Rattle.fill.specs.Filling.{viewOf, over}
-use Rattle.grammar.proofs.FormedLaws.{inside}
-use Rattle.priority.specs.Conflict.{fits}
 use Rattle.span.specs.Span.{Span, whole, usedSum, argumentOf, stepOf, Raised, asBefore, raised}
 use Rattle.theory.proofs.SoundLaws.{shown-less, shown-max, argument-shown, splits-shown}
 use Rattle.theory.proofs.SplitLaws.{split-ends, split-empty}

@@ -1,14 +1,13 @@
 -- The tables by which a chart is filled, and what filling a part of it promises.
-use Prim.Native.Nat.{ℕ, _*_, _≤_, _<_}
+use Prim.Native.Nat.{ℕ, _*_, _≤_}
 use mathlib.Core.Path.{_≡_}
 use mathlib.Core.Bool.{Bool}
 use mathlib.Core.List.{List}
-use lib.ListN.{length, getD}
+use lib.ListN.{length}
 use Rattle.ccg.specs.Tables.{slot, slotHas, charWords}
 use Rattle.chart.specs.Layout.{textLimit, places, rowLimit, arityIn, rowCount, spanCount}
 use Rattle.empty.specs.Empty.{EmptyRight}
 use Rattle.fill.specs.Filling.{Filling, Summing}
-use Rattle.grammar.specs.Limits.{productionLimit}
 use Rattle.span.specs.Tables.{UsersAre}
 use Rattle.theory.specs.Grammar.{Grammar}
 

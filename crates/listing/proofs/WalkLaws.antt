@@ -29,7 +29,7 @@ use Rattle.listing.specs.Parts.{afterPart, EndsBeyond, Walked, duesFrom}
 use Rattle.listing.specs.declared.ListingAnswer.the-variants.{Wrong}
 use Rattle.listing.specs.declared.Part.{Part}
 use Rattle.listing.specs.declared.Part.the-variants.{Complete, Fault}
-use Rattle.theory.specs.Tree.{productionNumber, below}
+use Rattle.theory.specs.Tree.{productionNumber}
 
 -- ---- the next byte of a text
 

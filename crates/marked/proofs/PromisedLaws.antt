@@ -12,7 +12,7 @@ use Rattle.marked.specs.Cases.{Expected, noReading, oneReading, severalR
 use Rattle.parse.proofs.AnswerLaws.{refused-outcome, accepted-outcome}
 use Rattle.parse.proofs.RefusalLaws.{refusal-grammar}
 use Rattle.engine.specs.Refusals.{chartTooShort}
-use Rattle.parse.specs.Outcome.{tooShort, refusal, Outcome}
+use Rattle.parse.specs.Outcome.{refusal, Outcome}
 use Rattle.ccg.specs.Reading.{Reading}
 use Rattle.priority.proofs.RefusalLaws.{checked-number}
 

@@ -7,7 +7,7 @@ use native.Mathlib.Omega.{arith}
 use lib.Dec.{leb, ltb, eqb}
 use lib.ListN.{length}
 use borrow.Author.Tests.{ltb-false}
-use Rattle.ccg.proofs.TextLaws.{grammarTextLimit, tabulate-text-short}
+use Rattle.ccg.proofs.TextLaws.{tabulate-text-short}
 use Rattle.ccg.specs.Ccg.{Class, Line}
 use Rattle.ccg.specs.Flat.{flatClass, flatLine, flatGrammar, plainClass}
 use Rattle.ccg.specs.Text.{grammarText, writeAnswer, flatAnswer}

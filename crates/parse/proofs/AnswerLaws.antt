@@ -10,12 +10,11 @@ use Rattle.engine.proofs.AnswerLaws.{one-exactly, refused-is-long}
 use Rattle.engine.specs.Outcome.{Answered, Parsed}
 use Rattle.engine.specs.declared.Answer.{Answer}
 use Rattle.engine.specs.declared.Answer.the-variants.{One, Refused}
-use Rattle.grammar.specs.Layout.{productions, argumentCount}
 use Rattle.grammar.specs.declared.Verdict.{Verdict}
 use Rattle.grammar.specs.declared.Verdict.the-variants.{Accepted, Refused as Rejected}
 use Rattle.parse.proofs.RefusalLaws.{refusal-grammar, refusal-ten, refusal-twenty, Readable, readable-accepted}
 use Rattle.parse.specs.Outcome.{needed, refusal, AfterVerdict, Outcome, readingBy}
-use Rattle.ccg.specs.Reading.{Reading, EntryList}
+use Rattle.ccg.specs.Reading.{Reading}
 use Rattle.priority.specs.Check.{checked}
 
 rejected : (n k m j : ℕ) → Refused n k ≡ Refused m j → Rejected n k ≡ Rejected m j

@@ -1,16 +1,15 @@
 -- The promise about the flat tables, carried to the grammar they come from.
-use Prim.Native.Nat.{ℕ, _+_, _*_, _/_, _%_, _≤_, _<_}
+use Prim.Native.Nat.{ℕ, _+_, _*_, _≤_, _<_}
 use mathlib.Core.Path.{_≡_, sym, _∙_, ap, subst, subst⁻¹}
 use mathlib.Core.Bool.{Bool, false, true, true≢false}
 use mathlib.Core.List.{List}
-use mathlib.Core.Logic.{_↔_, by-cases}
+use mathlib.Core.Logic.{_↔_}
 use native.Mathlib.Omega.{arith}
-use native.Mathlib.Decide.{decLt}
 use lib.Dec.{eqb}
-use lib.ListN.{length, getD, take, List·getD-eq-default}
+use lib.ListN.{length, getD, take}
 use borrow.Author.Tests.{eq-eqb, ne-eqb}
-use Rattle.ccg.specs.Tables.{slot, tableMay, subAt, subBytes, FlatTables}
-use Rattle.ccg.specs.Theory.{theoryOf, ParserTables}
+use Rattle.ccg.specs.Tables.{FlatTables}
+use Rattle.ccg.specs.Theory.{theoryOf}
 use Rattle.charset.specs.Set.{characters}
 use Rattle.chart.proofs.LayoutLaws.{rows-few}
 use Rattle.chart.specs.Layout.{rowLimit, arityIn, rowOf, rowCount, spanCount, cellAt, chartBytes, entryAt}
@@ -27,7 +26,6 @@ use Rattle.parse.specs.Outcome.{needed, readingBy}
 use Rattle.parse.specs.Roots.{RootsAre}
 use Rattle.ccg.specs.Reading.{Reading, EntryList}
 use Rattle.theory.proofs.CountLaws.{counts-same}
-use Rattle.theory.proofs.SoundLaws.{bit-small}
 use Rattle.theory.specs.Counts.{Only, Counts}
 use Rattle.theory.specs.Grammar.{Grammar, Spells, Parse}
 use Rattle.theory.specs.Tree.{Tree, leaf, node, Forest}

@@ -12,12 +12,10 @@ use Rattle.engine.specs.Outcome.{Parsed}
 use Rattle.engine.specs.Refusals.{tooLong, chartTooShort}
 use Rattle.engine.specs.declared.Answer.{Answer}
 use Rattle.engine.specs.declared.Answer.the-variants.{Refused}
-use Rattle.grammar.specs.Layout.{productions, argumentCount}
 use Rattle.grammar.specs.Verdict.{inOrder}
 use Rattle.grammar.specs.declared.Verdict.{Verdict}
 use Rattle.grammar.specs.declared.Verdict.the-variants.{Accepted}
 use Rattle.parse.specs.Outcome.{needed, tooShort, readingBy, refusal, AfterVerdict, Outcome}
-use Rattle.ccg.specs.Reading.{Reading, EntryList}
 use Rattle.priority.specs.Check.{checked}
 use Rattle.grammar.specs.declared.Verdict.the-variants.{Refused as Rejected}
 

@@ -4,11 +4,9 @@ use mathlib.Core.Path.{_≡_, refl, sym, ap}
 use mathlib.Core.List.{List, [], _∷_}
 use mathlib.Core.Logic.{_↔_}
 use native.Mathlib.Omega.{arith}
-use lib.Dec.{ltb}
 use lib.ListN.{length}
-use borrow.Author.Tests.{ltb-true, ltb-false, lt-ltb, le-ltb}
 use Rattle.chart.specs.Layout.{textLimit}
-use Rattle.grammar.proofs.VerdictLaws.{refuse-accepted, refuse-case, FirstIn, here, there, order-first}
+use Rattle.grammar.proofs.VerdictLaws.{FirstIn, here, there, order-first}
 use Rattle.grammar.specs.declared.Verdict.{Verdict}
 use Rattle.grammar.specs.declared.Verdict.the-variants.{Accepted, Refused}
 use Rattle.engine.proofs.RefusalsLaws.{long-text, short-text, text-short, text-long, short-chart, long-chart, chart-short}

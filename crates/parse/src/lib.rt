@@ -16,7 +16,6 @@ use grammar::layout::wide;
 use grammar::limits::PRODUCTION_LIMIT;
 use priority::check_grammar;
 ghost use mathlib.Core.List.{[], _∷_};
-ghost use Prim.Native.Nat.{_<_};
 ghost use Rattle.grammar.specs.Formed.{WellFormed};
 ghost use Rattle.grammar.specs.Verdict.{inOrder};
 ghost use Rattle.engine.specs.Refusals.{tooLong};

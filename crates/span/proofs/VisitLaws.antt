@@ -1,5 +1,5 @@
 -- What a visit of one production does to a span.
-use Prim.Native.Nat.{ℕ, zero, suc, _+_, _*_, min, max, _≤_, _<_}
+use Prim.Native.Nat.{ℕ, zero, suc, _+_, _*_, max, _≤_, _<_}
 use mathlib.Core.Path.{_≡_, sym, _∙_, ap}
 use mathlib.Core.Bool.{false, true, true≢false}
 use mathlib.Core.List.{List}

@@ -11,7 +11,6 @@ use Rattle.column.proofs.RowsLaws.{rows-none, rows-more}
 use Rattle.column.specs.Rows.{RowsFilled}
 use Rattle.common.specs.Below.{sumBelow, bitOf}
 use Rattle.common.specs.Region.{Region}
-use Rattle.grammar.proofs.FormedLaws.{inside}
 use Rattle.theory.proofs.SoundLaws.{bit-small}
 use Rattle.column.proofs.char_row.Statement.{statement}
 use Rattle.column.proofs.char_row.Tie as tie

@@ -1,5 +1,5 @@
 -- `count_parses` meets its contract: the chart is filled, and its cells at the root count the parses.
-use Rattle.engine.proofs.EngineLaws.{roots-ready, lent-kept, filled-all, parses-counted, chart-after}
+use Rattle.engine.proofs.EngineLaws.{lent-kept, filled-all, parses-counted, chart-after}
 use mathlib.Core.Path.{_∙_, ap}
 use native.Mathlib.Omega.{arith}
 use Rattle.theory.specs.Steps.{cap}

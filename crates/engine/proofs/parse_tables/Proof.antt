@@ -1,6 +1,5 @@
 -- `parse_tables` meets its contract: none, several, or the only one is written.
 use mathlib.Core.Path.{_≡_, subst}
-use Prim.Native.Nat.{ℕ}
 use native.Mathlib.Omega.{arith}
 use Rattle.ccg.specs.Theory.{theoryOf}
 use Rattle.engine.proofs.EngineLaws.{answered-none, answered-several}

@@ -1,5 +1,5 @@
 -- `write_parse` meets its contract: the first production that counts at the root has the only tree.
-use mathlib.Core.Path.{_≡_, sym, ap}
+use mathlib.Core.Path.{_≡_, ap}
 use Prim.Native.Nat.{ℕ, _/_}
 use native.Mathlib.Omega.{arith}
 use lib.ListN.{length}

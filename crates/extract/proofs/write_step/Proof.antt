@@ -4,7 +4,7 @@ use mathlib.Core.Path.{_∙_, ap}
 use native.Mathlib.Omega.{arith}
 use lib.ListN.{getD}
 use borrow.Author.Needs.{needs}
-use Rattle.extract.proofs.StepLaws.{last-room, last-production, last-within, closed-further}
+use Rattle.extract.proofs.StepLaws.{last-production, last-within, closed-further}
 use Rattle.extract.specs.Walk.{productionOf, writtenOf}
 use Rattle.extract.proofs.write_step.Statement.{statement}
 use Rattle.extract.proofs.write_step.Tie as tie

@@ -1,10 +1,10 @@
 -- `fill` meets its contract: linked, with its empty span settled, all columns filled and the rows turned, the chart counts.
-use Prim.Native.Nat.{ℕ, _*_, _≤_, _<_}
-use mathlib.Core.Path.{refl, _∙_, ap}
+use Prim.Native.Nat.{ℕ, _*_}
+use mathlib.Core.Path.{_∙_, ap}
 use mathlib.Core.Bool.{Bool}
 use native.Mathlib.Omega.{arith}
 use lib.Dec.{eqb}
-use lib.ListN.{length, getD, replicate, length-replicate, getD-replicate}
+use lib.ListN.{length, getD, length-replicate}
 use borrow.Author.Needs.{needs}
 use Rattle.ccg.specs.Tables.{slot, subAt, slotHas}
 use Rattle.chart.proofs.LayoutLaws.{rows-few}

@@ -11,7 +11,6 @@ use Rattle.ccg.proofs.BookLaws.{cut-count, cut-tables}
 use Rattle.parse.proofs.CarryLaws.{cut-needed, cut-rows, cut-parsed}
 use Rattle.parse.proofs.OutcomeLaws.{after-long, after-short, after-parsed, needed-fits}
 use Rattle.parse.specs.Outcome.{needed}
-use Rattle.priority.specs.Conflict.{fits}
 use mir.Syntax.{w8}
 use mir.Val.{Fits}
 use Rattle.parse.proofs.parse_accepted.Statement.{statement}

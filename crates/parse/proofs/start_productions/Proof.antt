@@ -10,7 +10,7 @@ use lib.ListN.{getD, replicate, length-replicate, List·getD-eq-default}
 use borrow.Author.Needs.{needs}
 use Rattle.common.proofs.FillLaws.{Filled, filled-none, filled-more}
 use Rattle.common.specs.Below.{bitOf}
-use Rattle.grammar.specs.Layout.{sorts, productions, startSort, result}
+use Rattle.grammar.specs.Layout.{productions, startSort, result}
 use Rattle.theory.proofs.SoundLaws.{bit-small}
 use Rattle.parse.proofs.start_productions.Statement.{statement}
 use Rattle.parse.proofs.start_productions.Tie as tie
