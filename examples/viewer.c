@@ -8,13 +8,11 @@
  * A refusal has its number and place; `book --explain BOOK PLACE` says what stands at that byte of a book.
  * The exit status is 0 for an answer, 1 for a refusal, 2 if the viewer was called wrongly, a file can't be read or something doesn't fit the machine.
  */
-#define _XOPEN_SOURCE 700 /* for the limit of the stack; all else is C11 */
 #include <errno.h>
 #include <stdarg.h>
 #include <stdio.h>
 #include <stdlib.h>
 #include <string.h>
-#include <sys/resource.h>
 #include "../include/meadowsink.h"
 
 enum { ANSWERED = 0, REFUSED = 1, FAILED = 2 };
@@ -29,8 +27,7 @@ enum {
     KIND_REFUSED = 3,
     CHART_SHORT = 20,
     FILE_MOST = 65536, /* far more bytes than a book or line may have */
-    INDENT_MOST = 40,  /* below this level the depth is a number, or a deep tree would be printed as gigabytes of spaces */
-    STACK_NEEDED = 8 << 20 /* the library goes down a tree by recursion, at most 64 * 201 levels of fewer than 500 bytes each */
+    INDENT_MOST = 40   /* below this level the depth is a number, or a deep tree would be printed as gigabytes of spaces */
 };
 
 typedef struct {
@@ -226,14 +223,6 @@ static void load_line(const char *given) {
     memcpy(line.bytes, given, line.length);
 }
 
-/* Sees to it that the deepest tree fits the stack. */
-static void raise_stack(void) {
-    struct rlimit limit;
-    if (getrlimit(RLIMIT_STACK, &limit) != 0 || limit.rlim_cur == RLIM_INFINITY || limit.rlim_cur >= STACK_NEEDED) return;
-    limit.rlim_cur = STACK_NEEDED;
-    if (setrlimit(RLIMIT_STACK, &limit) != 0) fail("the deepest trees need %d bytes of stack, and the system allows fewer", STACK_NEEDED);
-}
-
 int main(int count, char **words) {
     int flat = count > 1 && strcmp(words[1], "--flat") == 0, named = count > 2 && strcmp(words[1], "--names") == 0;
     int at = flat ? 2 : named ? 3 : 1, most = flat ? 1 : 2;
@@ -241,7 +230,6 @@ int main(int count, char **words) {
     if (named) load(&names, fopen(words[2], "rb"), words[2]);
     load(&book, fopen(words[at], "rb"), words[at]);
     if (!flat) load_line(words[at + 1]);
-    raise_stack();
     uint64_t answer = meadowsink_check(book.bytes, book.length);
     int status = answer % 4 == KIND_REFUSED ? refuse(answer / 4, meadowsink_check_place(book.bytes, book.length)) : flat ? print_flat() : parse_line();
     if (fflush(stdout) != 0 || ferror(stdout)) fail("standard output can't be written");

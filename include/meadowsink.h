@@ -16,8 +16,7 @@ extern "C" {
  * Areas. Each area is a pointer and a length in bytes. A `const` area is only read, and such areas may overlap one another; an area that is written must not
  * overlap any other. What it holds before a call doesn't matter. An area of length 0 may have any pointer, NULL too.
  *
- * Stack. The two calls that read a text need fewer than 500 bytes of stack for each level of an only parse, of which there can be 12,864: let a thread that
- * makes them have 8 MB. The other calls need less than 2 MB.
+ * Stack. Every call needs less than 2 MB of stack, and those that read a text less than 512 KB, whatever the book and the text.
  *
  * Two calls to an operation. The first gives its answer, 4 * value + kind, where kind 3 is a refusal and the value its number. The second, whose name ends
  * in `_place`, takes the same areas, does the same to them, and gives the place of the refusal; it is 0 if nothing is refused, but 0 may also be a place.

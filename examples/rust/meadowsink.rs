@@ -2,7 +2,6 @@
 //
 // The functions are safe for whatever the slices hold. The library wants areas that don't overlap, and pointers that are not null: shared and exclusive
 // slices don't overlap, and the pointer of an empty slice is not null. Refusals have the numbers and places of include/meadowsink.h.
-use std::thread;
 
 /// Whether a book is accepted.
 #[derive(Debug, PartialEq)]
@@ -46,9 +45,6 @@ pub enum Judgement {
 const CHART_SHORT: u64 = 20;
 const FLAT_SHORT: u64 = 21;
 const LISTING_BYTES: usize = 65_536; // the library writes no longer listing
-
-// Going down a tree takes the library up to 64 * 201 levels of fewer than 500 bytes; a thread has 2 MB if nobody asks for more.
-const STACK_BYTES: usize = 8 << 20;
 
 // ---- the calls in C, each by the slices it takes
 
@@ -127,42 +123,32 @@ pub fn flat(book: &[u8]) -> Flat {
 
 /// Parses a text. The chart is room to work in: it may be empty at first, grows as needed, and may be lent again.
 pub fn read(book: &[u8], text: &[u8], chart: &mut Vec<u8>) -> Answer {
-    on_large_stack(|| {
-        let mut listing = vec![0; LISTING_BYTES];
-        let mut result = split(call_text(meadowsink_read, book, text, chart, &mut listing));
-        if result == (3, CHART_SHORT) {
-            let needed = call_text(meadowsink_read_place, book, text, chart, &mut listing);
-            chart.resize(needed as usize, 0);
-            result = split(call_text(meadowsink_read, book, text, chart, &mut listing));
-        }
-        match result {
-            (0, _) => Answer::None,
-            (1, length) => Answer::One(listing.chunks_exact(2).take(length as usize).map(|n| u16::from_le_bytes([n[0], n[1]])).collect()),
-            (2, _) => Answer::Several,
-            (_, number) => Answer::Refused { number, place: call_text(meadowsink_read_place, book, text, chart, &mut listing) },
-        }
-    })
+    let mut listing = vec![0; LISTING_BYTES];
+    let mut result = split(call_text(meadowsink_read, book, text, chart, &mut listing));
+    if result == (3, CHART_SHORT) {
+        let needed = call_text(meadowsink_read_place, book, text, chart, &mut listing);
+        chart.resize(needed as usize, 0);
+        result = split(call_text(meadowsink_read, book, text, chart, &mut listing));
+    }
+    match result {
+        (0, _) => Answer::None,
+        (1, length) => Answer::One(listing.chunks_exact(2).take(length as usize).map(|n| u16::from_le_bytes([n[0], n[1]])).collect()),
+        (2, _) => Answer::Several,
+        (_, number) => Answer::Refused { number, place: call_text(meadowsink_read_place, book, text, chart, &mut listing) },
+    }
 }
 
 /// Checks whether numbers are the listing of a parse of a text.
 pub fn check_listing(book: &[u8], text: &[u8], listing: &[u16]) -> Judgement {
     let bytes: Vec<u8> = listing.iter().flat_map(|n| n.to_le_bytes()).collect();
-    on_large_stack(|| match split(call_listing(meadowsink_check_listing, book, text, &bytes)) {
+    match split(call_listing(meadowsink_check_listing, book, text, &bytes)) {
         (0, _) => Judgement::Right,
         (1, index) => Judgement::Wrong { index },
         (_, number) => Judgement::Refused { number, place: call_listing(meadowsink_check_listing_place, book, text, &bytes) },
-    })
+    }
 }
 
 // The kind and the value of a result.
 fn split(result: u64) -> (u64, u64) {
     (result % 4, result / 4)
-}
-
-// The caller's stack may be small, as that of a thread is, so a stack is made.
-fn on_large_stack<T: Send>(work: impl FnOnce() -> T + Send) -> T {
-    thread::scope(|scope| {
-        let thread = thread::Builder::new().stack_size(STACK_BYTES).spawn_scoped(scope, work);
-        thread.expect("the system starts a thread").join().expect("the library doesn't panic")
-    })
 }
