@@ -1,6 +1,6 @@
 -- One step of writing a tree: what the last level says is there, and what writing it leads to.
 use Prim.Native.Nat.{ℕ, _+_, _-_, _*_, _≤_, _<_}
-use mathlib.Core.Path.{_≡_, sym, subst, subst₂}
+use mathlib.Core.Path.{_≡_, refl, sym, subst, subst₂}
 use mathlib.Core.Bool.{false, true}
 use mathlib.Core.List.{List, [], _∷_}
 use native.Mathlib.Omega.{arith}
@@ -14,7 +14,7 @@ use Rattle.common.specs.Region.{Region}
 use Rattle.extract.proofs.ArgumentLaws.{Standing, charTest, char-stands, node-stands, child-there}
 use Rattle.extract.proofs.CellLaws.{cell-wanted, cell-trees, cell-only}
 use Rattle.extract.proofs.LevelsLaws.{Opens}
-use Rattle.extract.proofs.WritingLaws.{last-fits, level-fits, last-count, last-few, last-left, last-wanted, writing-start, writing-pop, writing-char, next-high, writing-push, writing-over, writing-all, room-less}
+use Rattle.extract.proofs.WritingLaws.{last-fits, level-fits, last-count, last-few, last-left, last-wanted, writing-start, writing-pop, writing-tree, next-high, writing-push, writing-over, writing-all, room-less}
 use Rattle.extract.proofs.WrittenLaws.{written-room}
 use Rattle.extract.specs.Places.{Walkable, FirstChild, Splits, cellOf}
 use Rattle.extract.specs.Walk.{endCount, levelBytes, levelLimit, productionOf, writtenOf, placesOf, Writing, Midway, StillWriting, Further, WrittenOut, DueAt}
@@ -23,7 +23,13 @@ use Rattle.grammar.specs.Limits.{argumentLimit}
 use Rattle.theory.proofs.SpellsLaws.{stands-rises}
 use Rattle.theory.specs.Grammar.{Grammar, Spells, Stands}
 use Rattle.theory.specs.Steps.{NextWanted}
-use Rattle.theory.specs.Tree.{leaf, node, Forest, productionNumber}
+use Rattle.theory.specs.Tree.{leaf, node, Forest, none, _▷_, productionNumber, listing}
+
+-- no arguments, no trees
+no-trees : (g : Grammar) (w : List ℕ) (p : ℕ) (f : Forest) (i j : ℕ) → Spells g w p f 0 i j → f ≡ none
+unfolding Spells
+no-trees g w p none i j s = refl
+no-trees g w p (f ▷ t) i j s = absurd s
 
 module _ {counts chars subs bases w chart levels : List ℕ} {n : ℕ} {l : List ℕ} {r : ℕ} (h : Midway counts chars subs bases w chart levels n l r) (isOpen : 1 ≤ n) where
   abbrev last : ℕ
@@ -97,12 +103,12 @@ module _ {counts chars subs bases w chart levels : List ℕ} {n : ℕ} {l : List
       -- a character
       pub char-further : (levels′ l′ : List ℕ) (r′ c : ℕ) → levels′ ≡ set levels (last * levelBytes + 1) (writtenOf levels last + 1) → charTest chars w p d m j ≡ true → c ≡ getD w m 0
           → Written (c ∷ []) l r l′ r′ → Further (theoryOf counts chars subs) w levels n l r levels′ n l′ r′
-      unfolding theoryOf
+      unfolding theoryOf listing
       char-further levels′ l′ r′ c is e same v =
           let stands = there (λ (a b x y : ℕ). Stands (theoryOf counts chars subs) w a b (leaf c) x y)
           (subst (λ (x : ℕ). Stands (theoryOf counts chars subs) w p d (leaf x) m j) (sym same) (char-stands counts chars subs w p d m j (due-rises .1) e)) in
           record {
-            still = λ q l₀ s. subst (λ (x : List ℕ). Writing (theoryOf counts chars subs) w q l₀ x n l′ r′) (sym is) (writing-char (theoryOf counts chars subs) w q l₀ levels n l r s isOpen c l′ r′ less stands v);
+            still = λ q l₀ s. subst (λ (x : List ℕ). Writing (theoryOf counts chars subs) w q l₀ x n l′ r′) (sym is) (writing-tree (theoryOf counts chars subs) w q l₀ levels n l r s isOpen (leaf c) l′ r′ less stands v);
             less = omega (arith, room-less c l l′ r r′ n v roomy);
           }
 
@@ -116,6 +122,21 @@ module _ {counts chars subs bases w chart levels : List ℕ} {n : ℕ} {l : List
 
         child-trees : (f : Forest) × Spells (theoryOf counts chars subs) w u f (getD counts u 0) m j
         child-trees = cell-trees (h .walkable) u (getD counts u 0) m j child-count (omega arith) (due-rises .0) (due-rises .1) child-cell
+
+        -- without arguments it is a whole tree
+        pub bare-further : (levels′ l′ : List ℕ) (r′ : ℕ) → levels′ ≡ set levels (last * levelBytes + 1) (writtenOf levels last + 1) → getD counts u 0 ≡ 0
+            → Written (productionNumber u ∷ []) l r l′ r′ → Further (theoryOf counts chars subs) w levels n l r levels′ n l′ r′
+        unfolding theoryOf listing
+        bare-further levels′ l′ r′ is zero-arity v =
+            let (f, s) = child-trees in
+            let alone = no-trees (theoryOf counts chars subs) w u f m j (subst (λ (x : ℕ). Spells (theoryOf counts chars subs) w u f x m j) zero-arity s) in
+            let spelled = subst (λ (x : Forest). Spells (theoryOf counts chars subs) w u x (getD counts u 0) m j) alone s in
+            let stands = there (λ (a b x y : ℕ). Stands (theoryOf counts chars subs) w a b (node u none) x y) (node-stands counts chars subs w p d m j u none child-count (first .stands child-count .0) spelled) in
+            record {
+              still = λ q l₀ s. subst (λ (x : List ℕ). Writing (theoryOf counts chars subs) w q l₀ x n l′ r′) (sym is)
+                  (writing-tree (theoryOf counts chars subs) w q l₀ levels n l r s isOpen (node u none) l′ r′ less stands v);
+              less = omega (arith, room-less (productionNumber u) l l′ r r′ n v roomy);
+            }
 
         pub child-high : n + 1 ≤ length counts * (length w + 1)
         unfolding theoryOf

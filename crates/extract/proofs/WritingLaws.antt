@@ -115,11 +115,10 @@ module _ (g : Grammar) (w : List ℕ) (q : ℕ) (l₀ levels : List ℕ) (n : �
     counted-places levels k (d + 1) k last-fits,
   )
 
-  -- a character is written
-  pub writing-char : (c : ℕ) (l′ : List ℕ) (r′ : ℕ) → d < g .arity p → Stands g w p d (leaf c) (getD places d 0) (getD places (d + 1) 0) → Written (c ∷ []) l r l′ r′
+  -- a tree is written whole
+  pub writing-tree : (t : Tree) (l′ : List ℕ) (r′ : ℕ) → d < g .arity p → Stands g w p d t (getD places d 0) (getD places (d + 1) 0) → Written (listing t) l r l′ r′
       → Writing g w q l₀ (counted levels k (d + 1)) n l′ r′
-  unfolding listing
-  writing-char c l′ r′ h t v =
+  writing-tree t l′ r′ h stands v =
       let e : suc k ≡ n = omega arith in
       let levels′ = counted levels k (d + 1) in
       record {
@@ -127,10 +126,10 @@ module _ (g : Grammar) (w : List ℕ) (q : ℕ) (l₀ levels : List ℕ) (n : �
         only = s .only;
         enough = omega (arith, s .enough, length-set levels (k * levelBytes + 1) (d + 1));
         high = s .high;
-        done = s .done ++ (c ∷ []);
-        stack = subst (λ (m : ℕ). Walk g w q 0 (length w) (productionOf levels′) (writtenOf levels′) (placesOf levels′) m (s .done ++ (c ∷ []))) e
-            (walk-more g w q 0 (length w) (productionOf levels) (productionOf levels′) (writtenOf levels) (writtenOf levels′) (placesOf levels) (placesOf levels′) k (s .done) (leaf c) last-level counted-moves h t);
-        written = written-append (s .done) (c ∷ []) l₀ l l′ 0 r r′ (s .written) v;
+        done = s .done ++ listing t;
+        stack = subst (λ (m : ℕ). Walk g w q 0 (length w) (productionOf levels′) (writtenOf levels′) (placesOf levels′) m (s .done ++ listing t)) e
+            (walk-more g w q 0 (length w) (productionOf levels) (productionOf levels′) (writtenOf levels) (writtenOf levels′) (placesOf levels) (placesOf levels′) k (s .done) t last-level counted-moves h stands);
+        written = written-append (s .done) (listing t) l₀ l l′ 0 r r′ (s .written) v;
       }
 
   -- a production has room for a level of its own

@@ -256,11 +256,18 @@ fn write_next(
         };
     }
     let q = first_child(chart, text, counts, chars, subs, bases, p, d, m, j);
+    let next = put_number(out, at, FIRST_PRODUCTION + q);
+    if counts[q] == 0 {
+        return Progress {
+            levels: n,
+            next: next,
+        };
+    }
     let ends = find_splits(chart, text, counts, chars, subs, bases, q, m, j);
     open_level(levels, n, q, ends);
     Progress {
         levels: n + 1,
-        next: put_number(out, at, FIRST_PRODUCTION + q),
+        next: next,
     }
 }
 

@@ -4,7 +4,7 @@ use native.Mathlib.Omega.{arith}
 use lib.ListN.{length}
 use borrow.Author.Needs.{needs}
 use Rattle.extract.proofs.ArgumentLaws.{argument-in, slot-in, char-one}
-use Rattle.extract.proofs.StepLaws.{last-room, few-written, due-production, due-argument, due-rises, char-further, child-count, child-cell, child-few, child-room, child-further}
+use Rattle.extract.proofs.StepLaws.{last-room, few-written, due-production, due-argument, due-rises, char-further, child-count, child-cell, bare-further, child-few, child-room, child-further}
 use Rattle.extract.specs.Walk.{endCount}
 use Rattle.extract.proofs.write_next.Statement.{statement}
 use Rattle.extract.proofs.write_next.Tie as tie
@@ -67,39 +67,16 @@ first-child-requires c κs =
     let rises = due-rises h (need .1 .0 .0) (need .1 .0 .1) (need .1 .1) (due .production) (due .argument) (due .from) (due .to) is in
     (h .walkable, (due-production h (need .1 .0 .0) (need .1 .0 .1) (need .1 .1) (due .production) (due .argument) (due .from) (due .to) is, due-argument h (need .1 .0 .0) (need .1 .0 .1) (need .1 .1) (due .production) (due .argument) (due .from) (due .to) is, rises .0, rises .1))
 
-find-splits-requires : tie.Need-find-splits-requires
-find-splits-requires c κs =
-    let need = c .before .before .before .before .before .before .before .before .before .before .before .before .before .before .before .before .before .pre in
-    let h = need .0 in
-    let due = c .before .before .before .before .before .before .before .due-at .result in
-    let is = c .before .before .before .before .before .before .before .due-at .ensures in
-    let none = sym (c .before .before .char-fits .ensures) ∙ c .before .if1 .left in
-    let rises = due-rises h (need .1 .0 .0) (need .1 .0 .1) (need .1 .1) (due .production) (due .argument) (due .from) (due .to) is in
-    let u = c .first-child .result in
-    let first = c .first-child .ensures in
-    (h .walkable, ((child-count h (need .1 .0 .0) (need .1 .0 .1) (need .1 .1) (due .production) (due .argument) (due .from) (due .to) is none u first, rises .0, rises .1), child-cell h (need .1 .0 .0) (need .1 .0 .1) (need .1 .1) (due .production) (due .argument) (due .from) (due .to) is none u first))
-
-open-level-requires : tie.Need-open-level-requires
-open-level-requires c κs =
-    let need = c .before .before .before .before .before .before .before .before .before .before .before .before .before .before .before .before .before .before .before .pre in
-    let h = need .0 in
-    let due = c .before .before .before .before .before .before .before .before .before .due-at .result in
-    let is = c .before .before .before .before .before .before .before .before .before .due-at .ensures in
-    let none = sym (c .before .before .before .before .char-fits .ensures) ∙ c .before .before .before .if1 .left in
-    let u = c .before .before .first-child .result in
-    let first = c .before .before .first-child .ensures in
-    (omega (arith, child-room h (need .1 .0 .0) (need .1 .0 .1) (need .1 .1) (due .production) (due .argument) (due .from) (due .to) is none u first, c .before .before .before .before .before .before .before .count-argument .kept .0), omega (arith, child-count h (need .1 .0 .0) (need .1 .0 .1) (need .1 .1) (due .production) (due .argument) (due .from) (due .to) is none u first, h .walkable .tables .fewProductions))
-
-add-t20 : tie.Need-add-t20
-add-t20 c =
-    let due = c .before .before .before .before .before .before .before .before .before .before .before .before .due-at .result in
-    omega (arith, child-few (c .before .before .before .before .before .before .before .before .before .before .before .before .before .before .before .before .before .before .before .before .before .before .pre .0) (c .before .before .before .before .before .before .before .before .before .before .before .before .before .before .before .before .before .before .before .before .before .before .pre .1 .0 .0) (c .before .before .before .before .before .before .before .before .before .before .before .before .before .before .before .before .before .before .before .before .before .before .pre .1 .0 .1) (c .before .before .before .before .before .before .before .before .before .before .before .before .before .before .before .before .before .before .before .before .before .before .pre .1 .1) (due .production) (due .argument) (due .from) (due .to) (c .before .before .before .before .before .before .before .before .before .before .before .before .due-at .ensures) (sym (c .before .before .before .before .before .before .before .char-fits .ensures) ∙ c .before .before .before .before .before .before .if1 .left) (c .before .before .before .before .before .first-child .result) (c .before .before .before .before .before .first-child .ensures))
-
 add-put-number : tie.Need-add-put-number
-add-put-number c = omega (arith, c .before .before .before .before .before .before .first-child .ensures .within, c .before .before .before .before .before .before .before .before .before .before .before .before .before .before .before .before .before .before .before .before .before .before .before .pre .0 .walkable .tables .fewProductions)
+add-put-number c = omega (arith, c .before .first-child .ensures .within, c .before .before .before .before .before .before .before .before .before .before .before .before .before .before .before .before .before .before .pre .0 .walkable .tables .fewProductions)
 
 put-number-requires-2 : tie.Need-put-number-requires-2
-put-number-requires-2 c κs = (omega (arith, c .before .before .before .before .before .before .first-child .ensures .within, c .before .before .before .before .before .before .before .before .before .before .before .before .before .before .before .before .before .before .before .before .before .before .before .pre .0 .walkable .tables .fewProductions), omega (arith, c .before .before .before .before .before .before .before .before .before .before .before .before .before .before .before .before .before .before .before .before .before .before .before .pre .1 .0 .1))
+put-number-requires-2 c κs = (omega (arith, c .before .first-child .ensures .within, c .before .before .before .before .before .before .before .before .before .before .before .before .before .before .before .before .before .before .pre .0 .walkable .tables .fewProductions), omega (arith, c .before .before .before .before .before .before .before .before .before .before .before .before .before .before .before .before .before .before .pre .1 .0 .1))
+
+shared-slice-read-if2 : tie.Need-shared-slice-read-if2
+shared-slice-read-if2 c =
+    let due = c .before .before .before .before .before .before .before .before .before .before .before .before .due-at .result in
+    omega (arith, child-count (c .before .before .before .before .before .before .before .before .before .before .before .before .before .before .before .before .before .before .before .before .before .before .pre .0) (c .before .before .before .before .before .before .before .before .before .before .before .before .before .before .before .before .before .before .before .before .before .before .pre .1 .0 .0) (c .before .before .before .before .before .before .before .before .before .before .before .before .before .before .before .before .before .before .before .before .before .before .pre .1 .0 .1) (c .before .before .before .before .before .before .before .before .before .before .before .before .before .before .before .before .before .before .before .before .before .before .pre .1 .1) (due .production) (due .argument) (due .from) (due .to) (c .before .before .before .before .before .before .before .before .before .before .before .before .due-at .ensures) (sym (c .before .before .before .before .before .before .before .char-fits .ensures) ∙ c .before .before .before .before .before .before .if1 .left) (c .before .before .before .before .before .first-child .result) (c .before .before .before .before .before .first-child .ensures))
 
 same-length-3 : tie.Need-same-length-3
 same-length-3 c = search needs
@@ -109,10 +86,50 @@ same-length-4 c = search needs
 
 returns-2 : tie.Need-returns-2
 returns-2 c =
-    let due = c .before .before .before .before .before .before .before .before .before .before .before .before .before .before .before .before .due-at .result in
-    let long : length (c .before .before .before .before .before .before .before .before .find-splits .result) ≡ endCount = search needs in
-    child-further (c .before .before .before .before .before .before .before .before .before .before .before .before .before .before .before .before .before .before .before .before .before .before .before .before .before .before .pre .0) (c .before .before .before .before .before .before .before .before .before .before .before .before .before .before .before .before .before .before .before .before .before .before .before .before .before .before .pre .1 .0 .0) (c .before .before .before .before .before .before .before .before .before .before .before .before .before .before .before .before .before .before .before .before .before .before .before .before .before .before .pre .1 .0 .1) (c .before .before .before .before .before .before .before .before .before .before .before .before .before .before .before .before .before .before .before .before .before .before .before .before .before .before .pre .1 .1) (due .production) (due .argument) (due .from) (due .to) (c .before .before .before .before .before .before .before .before .before .before .before .before .before .before .before .before .due-at .ensures) (sym (c .before .before .before .before .before .before .before .before .before .before .before .char-fits .ensures) ∙ c .before .before .before .before .before .before .before .before .before .before .if1 .left) (c .before .before .before .before .before .before .before .before .before .first-child .result) (c .before .before .before .before .before .before .before .before .before .first-child .ensures)
-    (c .before .before .before .before .before .before .before .before .find-splits .result) (c .before .before .before .before .before .before .before .before .before .before .before .before .before .before .count-argument .last .0) (c .before .before .before .before .before .before .open-level .last .0) (c .before .before .put-number2 .last .0) (c .before .before .put-number2 .result) (c .before .before .before .before .before .before .before .before .before .before .before .before .before .before .count-argument .ensures) long (c .before .before .before .before .before .before .before .before .find-splits .ensures) (c .before .before .before .before .before .before .open-level .ensures) (c .before .before .put-number2 .ensures)
+    let due = c .before .before .before .before .before .before .before .before .before .before .before .before .before .due-at .result in
+    bare-further (c .before .before .before .before .before .before .before .before .before .before .before .before .before .before .before .before .before .before .before .before .before .before .before .pre .0) (c .before .before .before .before .before .before .before .before .before .before .before .before .before .before .before .before .before .before .before .before .before .before .before .pre .1 .0 .0) (c .before .before .before .before .before .before .before .before .before .before .before .before .before .before .before .before .before .before .before .before .before .before .before .pre .1 .0 .1) (c .before .before .before .before .before .before .before .before .before .before .before .before .before .before .before .before .before .before .before .before .before .before .before .pre .1 .1) (due .production) (due .argument) (due .from) (due .to) (c .before .before .before .before .before .before .before .before .before .before .before .before .before .due-at .ensures) (sym (c .before .before .before .before .before .before .before .before .char-fits .ensures) ∙ c .before .before .before .before .before .before .before .if1 .left) (c .before .before .before .before .before .before .first-child .result) (c .before .before .before .before .before .before .first-child .ensures)
+    (c .before .before .before .before .before .before .before .before .before .before .before .count-argument .last .0) (c .before .before .before .before .put-number2 .last .0) (c .before .before .before .before .put-number2 .result) (c .before .before .before .before .before .before .before .before .before .before .before .count-argument .ensures) (c .if2 .taken) (c .before .before .before .before .put-number2 .ensures)
+
+find-splits-requires : tie.Need-find-splits-requires
+find-splits-requires c κs =
+    let need = c .before .before .before .before .before .before .before .before .before .before .before .before .before .before .before .before .before .before .before .before .before .before .before .pre in
+    let h = need .0 in
+    let due = c .before .before .before .before .before .before .before .before .before .before .before .before .before .due-at .result in
+    let is = c .before .before .before .before .before .before .before .before .before .before .before .before .before .due-at .ensures in
+    let none = sym (c .before .before .before .before .before .before .before .before .char-fits .ensures) ∙ c .before .before .before .before .before .before .before .if1 .left in
+    let rises = due-rises h (need .1 .0 .0) (need .1 .0 .1) (need .1 .1) (due .production) (due .argument) (due .from) (due .to) is in
+    let u = c .before .before .before .before .before .before .first-child .result in
+    let first = c .before .before .before .before .before .before .first-child .ensures in
+    (h .walkable, ((child-count h (need .1 .0 .0) (need .1 .0 .1) (need .1 .1) (due .production) (due .argument) (due .from) (due .to) is none u first, rises .0, rises .1), child-cell h (need .1 .0 .0) (need .1 .0 .1) (need .1 .1) (due .production) (due .argument) (due .from) (due .to) is none u first))
+
+open-level-requires : tie.Need-open-level-requires
+open-level-requires c κs =
+    let need = c .before .before .before .before .before .before .before .before .before .before .before .before .before .before .before .before .before .before .before .before .before .before .before .before .before .pre in
+    let h = need .0 in
+    let due = c .before .before .before .before .before .before .before .before .before .before .before .before .before .before .before .due-at .result in
+    let is = c .before .before .before .before .before .before .before .before .before .before .before .before .before .before .before .due-at .ensures in
+    let none = sym (c .before .before .before .before .before .before .before .before .before .before .char-fits .ensures) ∙ c .before .before .before .before .before .before .before .before .before .if1 .left in
+    let u = c .before .before .before .before .before .before .before .before .first-child .result in
+    let first = c .before .before .before .before .before .before .before .before .first-child .ensures in
+    (omega (arith, child-room h (need .1 .0 .0) (need .1 .0 .1) (need .1 .1) (due .production) (due .argument) (due .from) (due .to) is none u first, c .before .before .before .before .before .before .before .before .before .before .before .before .before .count-argument .kept .0), omega (arith, child-count h (need .1 .0 .0) (need .1 .0 .1) (need .1 .1) (due .production) (due .argument) (due .from) (due .to) is none u first, h .walkable .tables .fewProductions))
+
+add-t21 : tie.Need-add-t21
+add-t21 c =
+    let due = c .before .before .before .before .before .before .before .before .before .before .before .before .before .before .before .before .before .before .due-at .result in
+    omega (arith, child-few (c .before .before .before .before .before .before .before .before .before .before .before .before .before .before .before .before .before .before .before .before .before .before .before .before .before .before .before .before .pre .0) (c .before .before .before .before .before .before .before .before .before .before .before .before .before .before .before .before .before .before .before .before .before .before .before .before .before .before .before .before .pre .1 .0 .0) (c .before .before .before .before .before .before .before .before .before .before .before .before .before .before .before .before .before .before .before .before .before .before .before .before .before .before .before .before .pre .1 .0 .1) (c .before .before .before .before .before .before .before .before .before .before .before .before .before .before .before .before .before .before .before .before .before .before .before .before .before .before .before .before .pre .1 .1) (due .production) (due .argument) (due .from) (due .to) (c .before .before .before .before .before .before .before .before .before .before .before .before .before .before .before .before .before .before .due-at .ensures) (sym (c .before .before .before .before .before .before .before .before .before .before .before .before .before .char-fits .ensures) ∙ c .before .before .before .before .before .before .before .before .before .before .before .before .if1 .left) (c .before .before .before .before .before .before .before .before .before .before .before .first-child .result) (c .before .before .before .before .before .before .before .before .before .before .before .first-child .ensures))
+
+same-length-5 : tie.Need-same-length-5
+same-length-5 c = search needs
+
+same-length-6 : tie.Need-same-length-6
+same-length-6 c = search needs
+
+returns-3 : tie.Need-returns-3
+returns-3 c =
+    let due = c .before .before .before .before .before .before .before .before .before .before .before .before .before .before .before .before .before .before .due-at .result in
+    let long : length (c .before .before .before .before .find-splits .result) ≡ endCount = search needs in
+    child-further (c .before .before .before .before .before .before .before .before .before .before .before .before .before .before .before .before .before .before .before .before .before .before .before .before .before .before .before .before .pre .0) (c .before .before .before .before .before .before .before .before .before .before .before .before .before .before .before .before .before .before .before .before .before .before .before .before .before .before .before .before .pre .1 .0 .0) (c .before .before .before .before .before .before .before .before .before .before .before .before .before .before .before .before .before .before .before .before .before .before .before .before .before .before .before .before .pre .1 .0 .1) (c .before .before .before .before .before .before .before .before .before .before .before .before .before .before .before .before .before .before .before .before .before .before .before .before .before .before .before .before .pre .1 .1) (due .production) (due .argument) (due .from) (due .to) (c .before .before .before .before .before .before .before .before .before .before .before .before .before .before .before .before .before .before .due-at .ensures) (sym (c .before .before .before .before .before .before .before .before .before .before .before .before .before .char-fits .ensures) ∙ c .before .before .before .before .before .before .before .before .before .before .before .before .if1 .left) (c .before .before .before .before .before .before .before .before .before .before .before .first-child .result) (c .before .before .before .before .before .before .before .before .before .before .before .first-child .ensures)
+    (c .before .before .before .before .find-splits .result) (c .before .before .before .before .before .before .before .before .before .before .before .before .before .before .before .before .count-argument .last .0) (c .before .before .open-level .last .0) (c .before .before .before .before .before .before .before .before .before .put-number2 .last .0) (c .before .before .before .before .before .before .before .before .before .put-number2 .result) (c .before .before .before .before .before .before .before .before .before .before .before .before .before .before .before .before .count-argument .ensures) long (c .before .before .before .before .find-splits .ensures) (c .before .before .open-level .ensures) (c .before .before .before .before .before .before .before .before .before .put-number2 .ensures)
 
 pub write-next-spec : {M : Type 1} → statement M
 write-next-spec =
@@ -130,11 +147,15 @@ write-next-spec =
     same-length-2
     returns
     first-child-requires
-    find-splits-requires
-    open-level-requires
-    add-t20
     add-put-number
     put-number-requires-2
+    shared-slice-read-if2
     same-length-3
     same-length-4
-    returns-2)
+    returns-2
+    find-splits-requires
+    open-level-requires
+    add-t21
+    same-length-5
+    same-length-6
+    returns-3)
