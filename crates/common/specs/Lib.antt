@@ -3,3 +3,4 @@ pub mod Below
 pub mod Lists
 pub mod Region
 pub mod Zeros
+pub mod Bytes

@@ -22,6 +22,7 @@ use Rattle.span.proofs.TableLaws.{part-at}
 use Rattle.span.specs.Span.{whole, usedSum, argumentOf}
 use Rattle.span.specs.Tables.{userAt, spanOf, Links}
 use mir.Val.{boolByte}
+use Rattle.common.specs.Bytes.{byteValues}
 
 -- ---- none yet
 
@@ -92,7 +93,7 @@ module _ {counts users uses : List ℕ} (links : Links counts users uses) {p : �
       omega (arith, b .agree .exact r l, sum-bound 1 (λ q. getD users (userAt q r) 0 * getD cells (whole (arityIn counts) q) 0) (λ q. mul-le-mul (links .bits (userAt q r)) (b .small (whole (arityIn counts) q))) (length counts))
 
   pub begun-fits : (r : ℕ) → r < rowLimit
-      → getD args r 0 + boolByte (eqb (arityIn counts p) 0) * getD (take ((p + 1) * rowLimit - p * rowLimit) (drop (p * rowLimit) users)) r 0 < 256
+      → getD args r 0 + boolByte (eqb (arityIn counts p) 0) * getD (take ((p + 1) * rowLimit - p * rowLimit) (drop (p * rowLimit) users)) r 0 < byteValues
   begun-fits r l =
       rw (part-at users p rowLimit r l)
       (omega (arith, begun-few r l, links .fewProductions, mul-le-mul (byte-small (eqb (arityIn counts p) 0)) (links .bits (p * rowLimit + r))))

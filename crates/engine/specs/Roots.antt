@@ -15,10 +15,6 @@ use Rattle.theory.specs.Grammar.{Spells, Parse}
 use Rattle.theory.specs.Steps.{Wanted, DueWanted}
 use Rattle.theory.specs.Tree.{Forest}
 
--- how many values a byte has
-abbrev pub byteValues : ℕ
-byteValues = 256
-
 -- production p is allowed at the root
 unfoldable pub rootTest : List ℕ → ℕ → Bool
 rootTest roots p = eqb (getD roots p 0) 1

@@ -13,7 +13,8 @@ ghost use Rattle.theory.specs.Counts.{Counts};
 ghost use Rattle.theory.specs.Grammar.{Parse};
 ghost use Rattle.ccg.specs.Theory.{theoryOf};
 ghost use Rattle.engine.specs.Outcome.{Answered, ChartAfter, Parsed};
-ghost use Rattle.engine.specs.Roots.{byteValues, rootTerm, rootTest, parsingBy, Lent, Filled, RootsReady};
+ghost use Rattle.engine.specs.Roots.{rootTerm, rootTest, parsingBy, Lent, Filled, RootsReady};
+ghost use Rattle.common.specs.Bytes.{byteValues};
 
 // What parsing a text gives.
 pub enum Answer {

@@ -30,6 +30,7 @@ use Rattle.ccg.specs.Reading.{Reading}
 use Rattle.priority.proofs.CheckLaws.{accepted-formed}
 use Rattle.priority.specs.Check.{checked}
 use Rattle.theory.specs.Tree.{Tree, listing}
+use Rattle.common.specs.Bytes.{byteValues}
 
 -- ---- bytes and numbers
 
@@ -37,7 +38,7 @@ use Rattle.theory.specs.Tree.{Tree, listing}
 pub numbers-joined : (ns : List ℕ) → numbersOf (joined twoBytes ns) ≡ ns
 unfolding numbersOf joined twoBytes
 numbers-joined [] = refl
-numbers-joined (n ∷ ns) = let e : n % 256 + 256 * (n / 256) ≡ n = omega arith in rw (numbers-joined ns, e) refl
+numbers-joined (n ∷ ns) = let e : n % byteValues + byteValues * (n / byteValues) ≡ n = omega arith in rw (numbers-joined ns, e) refl
 
 -- ---- right
 

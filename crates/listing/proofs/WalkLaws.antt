@@ -96,11 +96,11 @@ module _ (counts chars subs : List ℕ) (tables : ParserTables counts chars subs
         → isRight g (tableClass chars subs s) w n ≡ ((leb (productionNumber 0) n && ltb n (productionNumber (length counts))) && eqb (getD subs (subAt s (n - productionNumber 0)) 0) 1)
     unfolding isRight
     right-production l e =
-        by-cases (decLt n 258)
-        (λ h. rw (table-between chars subs s n l h, lt-leb 258 n h) refl)
+        by-cases (decLt n (productionNumber 0))
+        (λ h. rw (table-between chars subs s n l h, lt-leb (productionNumber 0) n h) refl)
         (λ h. by-cases (decLt n (productionNumber (length counts)))
-        (λ k. rw (table-of-production chars subs s n (omega arith) (omega (arith, tables .fewProductions)), table-production counts chars subs (length counts) n (omega arith) k, le-leb 258 n (omega arith), lt-ltb n (productionNumber (length counts)) k) (and-true (eqb (getD subs (subAt s (n - productionNumber 0)) 0) 1)))
-        (λ k. rw (e, table-terminal counts chars subs (length counts) n (λ m f. k f), le-ltb n (productionNumber (length counts)) (omega arith), and-false (leb 258 n)) (and-false (tableClass chars subs s n))))
+        (λ k. rw (table-of-production chars subs s n (omega arith) (omega (arith, tables .fewProductions)), table-production counts chars subs (length counts) n (omega arith) k, le-leb (productionNumber 0) n (omega arith), lt-ltb n (productionNumber (length counts)) k) (and-true (eqb (getD subs (subAt s (n - productionNumber 0)) 0) 1)))
+        (λ k. rw (e, table-terminal counts chars subs (length counts) n (λ m f. k f), le-ltb n (productionNumber (length counts)) (omega arith), and-false (leb (productionNumber 0) n)) (and-false (tableClass chars subs s n))))
 
   -- what a right number brings
   module _ (n : ℕ) (ns : List ℕ) (due : Class) (dues : List Class) (w : List ℕ) (k : ℕ) where

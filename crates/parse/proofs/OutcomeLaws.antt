@@ -6,7 +6,7 @@ use native.Mathlib.Omega.{arith}
 use native.Mathlib.Nat.{mul-le-mul}
 use lib.ListN.{length}
 use borrow.Author.Tests.{lt-ltb, le-ltb}
-use Rattle.chart.specs.Layout.{textLimit, rowLimit, spanCount}
+use Rattle.chart.specs.Layout.{textLimit, rowLimit, spanCount, places}
 use Rattle.engine.proofs.UniqueLaws.{parsed-unique}
 use Rattle.engine.specs.Outcome.{Parsed}
 use Rattle.engine.specs.Refusals.{tooLong, chartTooShort}
@@ -62,8 +62,8 @@ module _ (b w c₀ l₀ : List ℕ) where
 pub needed-fits : (rows n : ℕ) → rows ≤ rowLimit → n ≤ textLimit → rows * spanCount n < 2 ^ 32
 unfolding spanCount
 needed-fits rows n few short =
-    let k : n + 1 ≤ 201 = omega arith in
-    let l : n + 2 ≤ 202 = omega arith in
+    let k : n + 1 ≤ places = omega arith in
+    let l : n + 2 ≤ places + 1 = omega arith in
     let pairs = mul-le-mul k l in
-    let spans : (n + 1) * (n + 2) / 2 ≤ 20301 = omega arith in
+    let spans : (n + 1) * (n + 2) / 2 ≤ places * (places + 1) / 2 = omega arith in
     omega (arith, mul-le-mul few spans)

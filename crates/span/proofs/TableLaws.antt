@@ -16,6 +16,7 @@ use Rattle.span.proofs.AdvanceLaws.{advanced-within}
 use Rattle.span.proofs.VisitLaws.{visited-idle, visited-same, visited-rose}
 use Rattle.span.specs.Span.{whole, usedSum, argumentOf, stepOf}
 use Rattle.span.specs.Tables.{userAt, useAt, spanOf, Links, Loads, Exact, Founded, stepIn, advanced, Visited}
+use Rattle.common.specs.Bytes.{byteValues}
 
 -- an entry of a table's row
 pub part-at : (l : List ℕ) (a n k : ℕ) → k < n → getD (take ((a + 1) * n - a * n) (drop (a * n) l)) k 0 ≡ getD l (a * n + k) 0
@@ -59,7 +60,7 @@ module _ {counts users uses inner front back args x : List ℕ} (q base : ℕ)
 
   -- no overflow when a count rises
   pub table-fits : (n : ℕ) (y : List ℕ) → n ≡ arityIn counts q → y ≡ advanced inner front back args base n x → (k r : ℕ) → r < rowLimit
-      → getD args r 0 + (getD y k 0 - getD x k 0) * getD (take ((q + 1) * rowLimit - q * rowLimit) (drop (q * rowLimit) users)) r 0 < 256
+      → getD args r 0 + (getD y k 0 - getD x k 0) * getD (take ((q + 1) * rowLimit - q * rowLimit) (drop (q * rowLimit) users)) r 0 < byteValues
   table-fits n y e f k r l =
       let g : getD y k 0 - getD x k 0 ≤ 2 = omega (arith, table-within n y e f k .1) in
       let h : getD (take ((q + 1) * rowLimit - q * rowLimit) (drop (q * rowLimit) users)) r 0 ≤ 1 = rw (part-at users q rowLimit r l) (links .bits (q * rowLimit + r)) in

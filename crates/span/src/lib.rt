@@ -16,6 +16,7 @@ ghost use Rattle.theory.specs.Steps.{cap};
 ghost use Rattle.grammar.specs.Limits.{productionLimit};
 ghost use Rattle.chart.specs.Layout.{arityIn, rowCount, rowLimit, rowOf};
 ghost use Rattle.span.specs.Tables.{spanOf, advanced, Exact, Founded, Links, Loads, Visited, Settled};
+ghost use Rattle.common.specs.Bytes.{byteValues};
 
 // The length of the table of users.
 pub const USERS: usize = PRODUCTION_LIMIT * ROW_LIMIT;
@@ -63,7 +64,7 @@ fn advance(
 pub fn spread(args: &mut [u8], users: &[u8], rows: usize, by: u8)
     requires { ⌜ (length (now args) ≡ rowLimit) × (length (now users) ≡ rowLimit) ⌝ }
     requires { ⌜ (rows ≤ rowLimit) × ((r : ℕ) → rows ≤ r → r < rowLimit → getD (now users) r 0 ≡ 0) ⌝ }
-    requires { ⌜ ((r : ℕ) → r < rowLimit → getD (now args) r 0 + by * getD (now users) r 0 < 256) ⌝ }
+    requires { ⌜ ((r : ℕ) → r < rowLimit → getD (now args) r 0 + by * getD (now users) r 0 < byteValues) ⌝ }
     ensures { λ _. ⌜ ((r : ℕ) → r < rowLimit → getD (now (args .exit)) r 0 ≡ getD (now (args .entry)) r 0 + by * getD (now (users .entry)) r 0) ⌝ }
 {
     let mut r = 0;

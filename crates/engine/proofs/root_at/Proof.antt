@@ -1,5 +1,5 @@
 -- `root_at` meets its contract: the cell is that of the production with all its arguments, for the whole text.
-use Prim.Native.Nat.{ℕ, _+_, _*_, _≤_, _<_}
+use Prim.Native.Nat.{ℕ, _+_, _*_, _≤_, _<_, _-_}
 use mathlib.Core.Path.{_≡_, _∙_, ap, ap₂, subst⁻¹}
 use native.Mathlib.Omega.{arith}
 use native.Mathlib.Nat.{le-refl, mul-le-mul}
@@ -12,12 +12,13 @@ use Rattle.engine.specs.Roots.{rootTerm}
 use Rattle.extract.specs.Places.{cellOf}
 use Rattle.engine.proofs.root_at.Statement.{statement}
 use Rattle.engine.proofs.root_at.Tie as tie
+use Rattle.common.specs.Bytes.{byteValues}
 
 -- a product of bytes
-product-few : {a b x y : ℕ} → a ≡ x → b ≡ y → x < 256 → y < 256 → a * b < 256 * 256
+product-few : {a b x y : ℕ} → a ≡ x → b ≡ y → x < byteValues → y < byteValues → a * b < byteValues * byteValues
 product-few {a} {b} e f h l =
-    let m : a ≤ 255 = omega arith in
-    let n : b ≤ 255 = omega arith in
+    let m : a ≤ byteValues - 1 = omega arith in
+    let n : b ≤ byteValues - 1 = omega arith in
     omega (arith, mul-le-mul m n)
 
 shared-slice-read-wide : tie.Need-shared-slice-read-wide

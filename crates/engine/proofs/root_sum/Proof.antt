@@ -8,9 +8,10 @@ use Rattle.common.specs.Below.{sumBelow}
 use Rattle.engine.specs.Roots.{rootTerm}
 use Rattle.engine.proofs.root_sum.Statement.{statement}
 use Rattle.engine.proofs.root_sum.Tie as tie
+use Rattle.common.specs.Bytes.{byteValues}
 
 abbrev Inv-loop : tie.InvT-loop
-Inv-loop chart text counts bases roots sum₀ p₀ sum p = (sum ≡ sumBelow p (rootTerm counts roots text chart)) × (sum ≤ p * (256 * 256)) × (p ≤ length counts)
+Inv-loop chart text counts bases roots sum₀ p₀ sum p = (sum ≡ sumBelow p (rootTerm counts roots text chart)) × (sum ≤ p * (byteValues * byteValues)) × (p ≤ length counts)
 
 abbrev μ-loop : tie.MeasureT-loop
 μ-loop chart text counts bases roots sum₀ p₀ sum p = length counts - p

@@ -8,7 +8,7 @@ use lib.ListN.{length, getD, length-replicate}
 use borrow.Author.Needs.{needs}
 use Rattle.ccg.specs.Tables.{slot, subAt, slotHas}
 use Rattle.chart.proofs.LayoutLaws.{rows-few}
-use Rattle.chart.specs.Layout.{arityIn, spanCount}
+use Rattle.chart.specs.Layout.{arityIn, spanCount, places}
 use Rattle.chart.specs.Tests.{grammarOf}
 use Rattle.fill.proofs.FurtherLaws.{filled-counts, filled-beyond}
 use Rattle.fill.proofs.fill.Statement.{statement}
@@ -86,7 +86,7 @@ fill-columns-requires c κs =
         emptyLong = c .before .before .before .before .before .before .before .before .before .before .before .settle-empty .kept .1 .1 .1 .1 .0 ∙ c .before .before .before .before .before .before .before .before .before .before .before .before .before .before .before .before .before .zero-row .ensures .long;
         argsLong = c .before .before .before .before .before .before .before .before .before .before .before .settle-empty .kept .1 .1 .1 .0 ∙ c .before .before .before .before .before .before .before .before .before .before .before .before .before .before .before .before .zero-row2 .ensures .long;
         sumsLong = c .before .before .before .before .before .before .before .zero-sums .ensures .long;
-        liveLong = length-replicate {A = ℕ} 201 0;
+        liveLong = length-replicate {A = ℕ} places 0;
       },
     )
 

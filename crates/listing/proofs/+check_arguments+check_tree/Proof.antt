@@ -27,6 +27,7 @@ use Rattle.grammar.proofs.layout.wide.Reads as wide-reads
 use Rattle.listing.proofs.char_right.Reads as char-right-reads
 use Rattle.listing.proofs.number_at.Reads as number-at-reads
 use Rattle.listing.proofs.production_right.Reads as production-right-reads
+use Rattle.theory.specs.Tree.{productionNumber}
 
 abbrev μ-check-arguments : Measures 5 check-arguments-kinds.ps ℕ
 μ-check-arguments κs a = 10 * (length (numbersOf (a .1 .1 .1 .1 .0 .now)) - a .1 .1 .1 .1 .1 .1 .1 .0) + (9 - a .1 .1 .1 .1 .1 .1 .0)
@@ -151,7 +152,7 @@ check-tree-returns-4 t c = walked-no-production (c .before .before .before .befo
 
 check-tree-sub-check-arguments : (t : ℕ) → check-tree-lts.Need-sub-check-arguments (check-tree-claims t) (check-tree-at t) check-tree.Post
 unfolding slot
-check-tree-sub-check-arguments t c = omega (arith, tested-within (c .before .before .before .number-at .result) (length (c .before .before .before .before .before .before .before .before .before .before .args .counts .now)) (eqb (getD (c .before .before .before .before .before .before .before .before .before .before .args .subs .now) (subAt (slot (c .before .before .before .before .before .before .before .before .before .before .args .p) (c .before .before .before .before .before .before .before .before .before .before .args .d)) (c .before .before .before .number-at .result - 258)) 0) 1) (sym (c .before .production-right .ensures) ∙ not-false (c .before .production-right .result) (c .if4 .left)) .0)
+check-tree-sub-check-arguments t c = omega (arith, tested-within (c .before .before .before .number-at .result) (length (c .before .before .before .before .before .before .before .before .before .before .args .counts .now)) (eqb (getD (c .before .before .before .before .before .before .before .before .before .before .args .subs .now) (subAt (slot (c .before .before .before .before .before .before .before .before .before .before .args .p) (c .before .before .before .before .before .before .before .before .before .before .args .d)) (c .before .before .before .number-at .result - (productionNumber 0))) 0) 1) (sym (c .before .production-right .ensures) ∙ not-false (c .before .production-right .result) (c .if4 .left)) .0)
 
 check-tree-add-check-arguments : (t : ℕ) → check-tree-lts.Need-add-check-arguments (check-tree-claims t) (check-tree-at t) check-tree.Post
 check-tree-add-check-arguments t c = omega arith
@@ -160,7 +161,7 @@ check-tree-check-arguments-requires : (t : ℕ) → check-tree-lts.Need-check-ar
 unfolding slot
 check-tree-check-arguments-requires t c κs =
     let e = numbers-length (c .before .before .before .before .before .before .before .before .before .before .args .listing .now) in
-    let within = tested-within (c .before .before .before .number-at .result) (length (c .before .before .before .before .before .before .before .before .before .before .args .counts .now)) (eqb (getD (c .before .before .before .before .before .before .before .before .before .before .args .subs .now) (subAt (slot (c .before .before .before .before .before .before .before .before .before .before .args .p) (c .before .before .before .before .before .before .before .before .before .before .args .d)) (c .before .before .before .number-at .result - 258)) 0) 1) (sym (c .before .production-right .ensures) ∙ not-false (c .before .production-right .result) (c .if4 .left)) in
+    let within = tested-within (c .before .before .before .number-at .result) (length (c .before .before .before .before .before .before .before .before .before .before .args .counts .now)) (eqb (getD (c .before .before .before .before .before .before .before .before .before .before .args .subs .now) (subAt (slot (c .before .before .before .before .before .before .before .before .before .before .args .p) (c .before .before .before .before .before .before .before .before .before .before .args .d)) (c .before .before .before .number-at .result - (productionNumber 0))) 0) 1) (sym (c .before .production-right .ensures) ∙ not-false (c .before .production-right .result) (c .if4 .left)) in
     (omega (arith, c .before .before .before .before .before .before .before .before .before .before .pre .0), (c .before .before .before .before .before .before .before .before .before .before .pre .1 .0, (omega (arith, within .1), omega arith, omega arith, c .before .before .before .before .before .before .before .before .before .before .pre .1 .1 .3)))
 
 check-tree-returns-5 : (t : ℕ) → check-tree-lts.Need-returns-5 (check-tree-claims t) (check-tree-at t) check-tree.Post

@@ -11,17 +11,18 @@ use Rattle.grammar.specs.Layout.{productions}
 use Rattle.listing.proofs.WalkLaws.{roots-are}
 use Rattle.listing.proofs.starts.Statement.{statement}
 use Rattle.listing.proofs.starts.Tie as tie
+use Rattle.theory.specs.Tree.{productionNumber}
 
 returns : tie.Need-returns
 unfolding isProduction
-returns c = sym (roots-are (c .before .before .args .book .now) (c .before .before .pre) (c .before .before .args .n) ∙ rw (lt-leb 258 (c .before .before .args .n) (c .if1 .taken)) refl)
+returns c = sym (roots-are (c .before .before .args .book .now) (c .before .before .pre) (c .before .before .args .n) ∙ rw (lt-leb (productionNumber 0) (c .before .before .args .n) (c .if1 .taken)) refl)
 
 production-count-requires : tie.Need-production-count-requires
 production-count-requires c κs = search needs
 
 returns-2 : tie.Need-returns-2
 unfolding isProduction
-returns-2 c = sym (roots-are (c .before .before .before .before .args .book .now) (c .before .before .before .before .pre) (c .before .before .before .before .args .n) ∙ rw (le-ltb (c .before .before .before .before .args .n) (258 + productions (c .before .before .before .before .args .book .now)) (omega (arith, c .before .production-count .ensures)), and-false (leb 258 (c .before .before .before .before .args .n))) refl)
+returns-2 c = sym (roots-are (c .before .before .before .before .args .book .now) (c .before .before .before .before .pre) (c .before .before .before .before .args .n) ∙ rw (le-ltb (c .before .before .before .before .args .n) ((productionNumber 0) + productions (c .before .before .before .before .args .book .now)) (omega (arith, c .before .production-count .ensures)), and-false (leb (productionNumber 0) (c .before .before .before .before .args .n))) refl)
 
 result-requires : tie.Need-result-requires
 result-requires c κs = search needs
@@ -31,7 +32,7 @@ start-sort-requires c κs = search needs
 
 returns-3 : tie.Need-returns-3
 unfolding isProduction
-returns-3 c = sym (roots-are (c .before .before .before .before .before .before .args .book .now) (c .before .before .before .before .before .before .pre) (c .before .before .before .before .before .before .args .n) ∙ rw (le-leb 258 (c .before .before .before .before .before .before .args .n) (omega arith), lt-ltb (c .before .before .before .before .before .before .args .n) (258 + productions (c .before .before .before .before .before .before .args .book .now)) (omega (arith, c .before .before .before .production-count .ensures)), ← (c .before .result .ensures), ← (c .start-sort .ensures)) refl)
+returns-3 c = sym (roots-are (c .before .before .before .before .before .before .args .book .now) (c .before .before .before .before .before .before .pre) (c .before .before .before .before .before .before .args .n) ∙ rw (le-leb (productionNumber 0) (c .before .before .before .before .before .before .args .n) (omega arith), lt-ltb (c .before .before .before .before .before .before .args .n) ((productionNumber 0) + productions (c .before .before .before .before .before .before .args .book .now)) (omega (arith, c .before .before .before .production-count .ensures)), ← (c .before .result .ensures), ← (c .start-sort .ensures)) refl)
 
 pub starts-spec : {M : Type 1} → statement M
 starts-spec =

@@ -1,5 +1,5 @@
 -- `step` meets its contract: products of bytes are far below the bound of the sum.
-use Prim.Native.Nat.{ℕ, _+_, _*_, _≤_, _<_}
+use Prim.Native.Nat.{ℕ, _+_, _*_, _≤_, _<_, _-_}
 use mathlib.Core.Path.{_≡_, _∙_, ap, ap₂}
 use native.Mathlib.Omega.{arith}
 use native.Mathlib.Nat.{mul-le-mul}
@@ -7,12 +7,13 @@ use borrow.Author.Needs.{needs}
 use Rattle.theory.specs.Steps.{cap}
 use Rattle.span.proofs.step.Statement.{statement}
 use Rattle.span.proofs.step.Tie as tie
+use Rattle.common.specs.Bytes.{byteValues}
 
 -- a product of bytes
-product-few : {a b x y : ℕ} → a ≡ x → b ≡ y → x < 256 → y < 256 → a * b ≤ 255 * 255
+product-few : {a b x y : ℕ} → a ≡ x → b ≡ y → x < byteValues → y < byteValues → a * b ≤ (byteValues - 1) * (byteValues - 1)
 product-few {a} {b} e f h l =
-    let m : a ≤ 255 = omega arith in
-    let n : b ≤ 255 = omega arith in
+    let m : a ≤ byteValues - 1 = omega arith in
+    let n : b ≤ byteValues - 1 = omega arith in
     mul-le-mul m n
 
 wide-requires : tie.Need-wide-requires

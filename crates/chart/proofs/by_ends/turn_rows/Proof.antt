@@ -1,24 +1,24 @@
 -- `turn_rows` meets its contract: the rows below r are turned, and the rest is as it was.
-use Prim.Native.Nat.{ℕ, _+_, _-_, _≤_}
+use Prim.Native.Nat.{ℕ, _+_, _-_, _≤_, _*_, _/_}
 use mathlib.Core.Path.{_≡_, sym, _∙_, subst}
 use native.Mathlib.Omega.{arith}
 use native.Mathlib.Nat.{mul-le-mul-right}
 use lib.ListN.{length, length-replicate}
 use Rattle.chart.proofs.LayoutLaws.{span-few}
-use Rattle.chart.specs.Layout.{spanCount}
+use Rattle.chart.specs.Layout.{spanCount, places}
 use Rattle.chart.proofs.TurnLaws.{turned-none, turned-more}
 use Rattle.chart.specs.ByEnds.{Turned}
 use Rattle.chart.proofs.by_ends.turn_rows.Statement.{statement}
 use Rattle.chart.proofs.by_ends.turn_rows.Tie as tie
 
 abbrev Inv-loop : tie.InvT-loop
-Inv-loop chart₀ n rows cells₀ r₀ chart cells r = Turned n r chart₀ chart × (length cells ≡ 20301) × (r ≤ rows)
+Inv-loop chart₀ n rows cells₀ r₀ chart cells r = Turned n r chart₀ chart × (length cells ≡ (places * (places + 1) / 2)) × (r ≤ rows)
 
 abbrev μ-loop : tie.MeasureT-loop
 μ-loop chart₀ n rows cells₀ r₀ chart cells r = rows - r
 
 loop-holds : tie.Need-loop-holds Inv-loop μ-loop
-loop-holds c = (turned-none (c .before .args .n) (c .before .args .chart .now), length-replicate {A = ℕ} 20301 0, omega arith)
+loop-holds c = (turned-none (c .before .args .n) (c .before .args .chart .now), length-replicate {A = ℕ} (places * (places + 1) / 2) 0, omega arith)
 
 slice-aggregate-turn-row : tie.Need-slice-aggregate-turn-row Inv-loop μ-loop
 slice-aggregate-turn-row c = sym (c .before .before .before .loop .inv .1)

@@ -8,9 +8,10 @@ use Rattle.common.proofs.BelowLaws.{sum-more}
 use Rattle.common.specs.Below.{sumBelow}
 use Rattle.chart.proofs.layout.row_count.Statement.{statement}
 use Rattle.chart.proofs.layout.row_count.Tie as tie
+use Rattle.common.specs.Bytes.{byteValues}
 
 abbrev Inv-loop : tie.InvT-loop
-Inv-loop counts rows₀ p₀ rows p = (rows ≡ rowCount (arityIn counts) p) × (rows ≤ p * 256) × (p ≤ length counts)
+Inv-loop counts rows₀ p₀ rows p = (rows ≡ rowCount (arityIn counts) p) × (rows ≤ p * byteValues) × (p ≤ length counts)
 
 abbrev μ-loop : tie.MeasureT-loop
 μ-loop counts rows₀ p₀ rows p = length counts - p

@@ -1,0 +1,6 @@
+-- Bytes.
+use Prim.Native.Nat.{ℕ}
+
+-- how many values a byte has
+abbrev pub byteValues : ℕ
+byteValues = 256
