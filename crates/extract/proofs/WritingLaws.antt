@@ -17,7 +17,7 @@ use Rattle.theory.proofs.PathsLaws.{OnlyTrees, path-bound, path-count, path-wan
 use Rattle.theory.specs.Grammar.{Grammar, Stands}
 use Rattle.theory.specs.Paths.{top}
 use Rattle.theory.specs.Steps.{Wanted, DueWanted, NextWanted}
-use Rattle.theory.specs.Tree.{Tree, leaf, node, Forest, productionNumber, listing}
+use Rattle.theory.specs.Tree.{Tree, node, Forest, productionNumber, listing}
 
 -- ---- the first level
 

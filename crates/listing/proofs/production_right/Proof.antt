@@ -1,5 +1,4 @@
 -- `production_right` meets its contract: a number of a production that is there, and its byte in the slot's row.
-use Prim.Native.Nat.{_+_}
 use mathlib.Core.Path.{refl}
 use mathlib.Core.Bool.{and-false}
 use native.Mathlib.Omega.{arith}
