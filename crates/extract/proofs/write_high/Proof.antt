@@ -16,7 +16,7 @@ write-tree-requires : tie.Need-write-tree-requires
 write-tree-requires c κs =
     let h = c .before .before .before .before .before .before .before .before .before .pre .0 in
     let places-few : length (c .before .before .before .before .before .before .before .before .before .args .text .now) + 1 ≤ places = omega (arith, h .short) in
-    (h, (c .before .before .before .before .before .before .before .before .before .pre .1, rw (length-replicate {A = ℕ} (levelLimit * levelBytes) 0) (mul-le-mul-right levelBytes (mul-le-mul (h .tables .fewProductions) places-few))))
+    (h, (c .before .before .before .before .before .before .before .before .before .pre .1, omega (arith, length-replicate {A = ℕ} (levelLimit * levelBytes) 0, mul-le-mul-right levelBytes (mul-le-mul (h .tables .fewProductions) places-few))))
 
 same-length : tie.Need-same-length
 same-length c = search needs
