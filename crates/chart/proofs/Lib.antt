@@ -2,3 +2,4 @@
 pub mod LayoutLaws
 pub mod ByEndsLaws
 pub mod TurnLaws
+pub mod CountedLaws

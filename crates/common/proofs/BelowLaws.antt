@@ -9,7 +9,7 @@ use native.Mathlib.Nat.{le-refl}
 use native.Mathlib.Numerals.{add-one}
 use lib.Dec.{eqb}
 use borrow.Author.Tests.{eq-eqb, ne-eqb}
-use Rattle.common.proofs.BoolLaws.{or-cases, or-first-false, or-second-false, and-both, and-first-true, and-second-true}
+use Rattle.common.proofs.BoolLaws.{or-cases, or-first-false, or-second-false, and-first-true, and-second-true}
 use Rattle.common.specs.Below.{sumBelow, allBelow, anyBelow, bitOf}
 
 -- ---- sums
@@ -161,11 +161,6 @@ all-here f (suc n) e i l =
     by-cases (decLt i n)
     (λ m. all-here f n (and-first-true (allBelow n f) (f n) e) i m)
     (λ m. let q : n ≡ i = omega arith in subst (λ (j : ℕ). f j ≡ true) q (and-second-true (allBelow n f) (f n) e))
-
-pub all-made : (f : ℕ → Bool) (n : ℕ) → ((i : ℕ) → i < n → f i ≡ true) → allBelow n f ≡ true
-unfolding allBelow
-all-made f zero h = refl
-all-made f (suc n) h = and-both (allBelow n f) (f n) (all-made f n (λ i l. h i (omega arith))) (h n (omega arith))
 
 -- ---- bits
 

@@ -1,18 +1,18 @@
 -- A filled chart answers: its cells at the root count the parses, and the tree written is the parse if there is one.
 use Prim.Native.Nat.{ℕ, _-_, _*_, _≤_, _<_}
 use mathlib.Core.Path.{_≡_, refl, _∙_, ap, subst, subst⁻¹}
-use mathlib.Core.Bool.{true, true≢false}
+use mathlib.Core.Bool.{true}
 use mathlib.Core.List.{List}
 use native.Mathlib.Omega.{arith}
 use native.Mathlib.Nat.{le-refl}
 use lib.Dec.{eqb}
 use lib.ListN.{length, getD, take, length-take}
-use lib.Seq.{length-take-le, take-all, getD-take, sets}
+use lib.Seq.{length-take-le, take-all, sets}
 use borrow.Author.Tests.{eq-eqb}
 use Rattle.ccg.specs.Theory.{theoryOf}
-use Rattle.chart.proofs.LayoutLaws.{cell-below, row-in}
-use Rattle.chart.specs.Counted.{entryOf, CountedBy}
-use Rattle.chart.specs.Layout.{arityIn, rowOf, rowCount, chartBytes, cellAt, entryAt}
+use Rattle.chart.proofs.CountedLaws.{counted-front}
+use Rattle.chart.specs.Counted.{CountedBy}
+use Rattle.chart.specs.Layout.{arityIn, chartBytes}
 use Rattle.common.proofs.BelowLaws.{sum-same, sum-at, bit-test}
 use Rattle.common.proofs.OverwrittenLaws.{overwritten-of, sets-front}
 use Rattle.common.proofs.ProductLaws.{product-one, right-below}
@@ -157,17 +157,12 @@ answered-several P v l c h = (counts-bounds P v c .two (omega arith), refl)
 pub chart-after : (counts chars subs roots w before chart : List ℕ) → CountedBy (theoryOf counts chars subs) w everything chart → length chart ≡ length before
     → chartBytes (arityIn counts) (length counts) (length w) ≤ length chart → ((k : ℕ) → chartBytes (arityIn counts) (length counts) (length w) ≤ k → getD chart k 0 ≡ getD before k 0)
     → ChartAfter (parsingBy counts chars subs roots w) before chart
-unfolding theoryOf entryOf entryAt
+unfolding theoryOf
 chart-after counts chars subs roots w before chart counted e enough b =
     let n = chartBytes (arityIn counts) (length counts) (length w) in
     record {
       entries = take n chart;
       long = length-take-le n chart enough;
-      counted = record {
-        counts = λ p d i j lp ld ij jw wp. subst⁻¹ (λ (v : ℕ). Counts (λ (f : Forest). Spells (theoryOf counts chars subs) w p f d i j) v)
-            (getD-take n chart (cellAt (length w) (rowOf (arityIn counts) p d) i j) 0 (cell-below (length w) (rowOf (arityIn counts) p d) (rowCount (arityIn counts) (length counts)) i j (row-in (arityIn counts) p d (length counts) lp ld) ij jw))
-            (counted .counts p d i j lp ld ij jw wp);
-        unwanted = λ p d i j lp ld ij jw no. absurd (true≢false no);
-      };
+      counted = counted-front (λ (p d i j : ℕ) (f : Forest). Spells (theoryOf counts chars subs) w p f d i j) (arityIn counts) (length counts) (length w) everything chart counted;
       whole = overwritten-of 0 n chart before e enough b;
     }

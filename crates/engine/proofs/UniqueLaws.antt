@@ -1,86 +1,25 @@
 -- The promise determines the outcome: for one input, two outcomes that meet it have the same answer and the same bytes.
-use Prim.Native.Nat.{ℕ, zero, suc, _+_, _-_, _*_, _/_, _%_, _≤_, _<_}
+use Prim.Native.Nat.{ℕ, _*_, _≤_, _<_}
 use mathlib.Core.Path.{_≡_, refl, sym, _∙_, ap, ap₂}
 use mathlib.Core.List.{List}
-use mathlib.Core.Logic.{by-cases}
 use native.Mathlib.Omega.{arith}
-use native.Mathlib.Decide.{decLt}
-use native.Mathlib.Nat.{mod-lt, div-add-mod', div-lt-iff-lt-mul}
 use lib.ListN.{length, take}
-use lib.Seq.{ext-getD}
-use Rattle.chart.proofs.LayoutLaws.{start-end}
-use Rattle.chart.specs.Counted.{entryOf}
-use Rattle.chart.specs.Layout.{rowOf, rowCount, spanCount, startAt, cellAt, chartBytes, entryAt}
-use Rattle.common.specs.Below.{sumBelow}
+use Rattle.chart.proofs.CountedLaws.{counted-unique}
 use Rattle.common.specs.Lists.{overwritten}
 use Rattle.engine.specs.Outcome.{Parsing, Answered, ChartAfter, Parsed}
 use Rattle.engine.specs.declared.Answer.{Answer}
 use Rattle.engine.specs.declared.Answer.the-variants.{None, One, Several, Refused}
 use Rattle.extract.specs.Written.{bytesOf}
-use Rattle.theory.proofs.CountLaws.{counts-unique}
 use Rattle.theory.specs.Counts.{Only, Two}
 use Rattle.theory.specs.Tree.{Tree, listing}
 
--- ---- every place of the chart is the place of a cell
-
--- A number below a sum stands in one of its parts: it is what comes before the part, and a rest below the part.
-sum-place : (f : ℕ → ℕ) (n k : ℕ) → k < sumBelow n f → (i : ℕ) × (e : ℕ) × (i < n) × (e < f i) × (k ≡ sumBelow i f + e)
-unfolding sumBelow
-sum-place f zero k l = absurd (omega arith)
-sum-place f (suc n) k l =
-    by-cases (decLt k (sumBelow n f))
-    (λ m. let (i, e, a, b, q) = sum-place f n k m in (i, e, omega arith, b, q))
-    (λ m. (n, k - sumBelow n f, omega arith, omega arith, omega arith))
-
--- every row is the row of a production and a count of its arguments
-row-found : (arity : ℕ → ℕ) (count row : ℕ) → row < rowCount arity count → (p : ℕ) × (d : ℕ) × (p < count) × (d ≤ arity p) × (row ≡ rowOf arity p d)
-unfolding rowCount rowOf
-row-found arity count row l =
-    let (p, d, a, b, q) = sum-place (λ r. arity r + 1) count row l in
-    (p, d, a, omega arith, q)
-
--- every place of a row is the place of a start and an end
-span-found : (n m : ℕ) → m < spanCount n → (i : ℕ) × (j : ℕ) × (i ≤ j) × (j ≤ n) × (m ≡ startAt n i + (j - i))
-unfolding startAt
-span-found n m l =
-    let (i, e, a, b, q) = sum-place (λ k. n + 1 - k) (n + 1) m (rw (start-end n) l) in
-    (i, i + e, omega arith, omega arith, omega arith)
-
--- a row has a cell at least
-span-some : (n : ℕ) → 0 < spanCount n
-unfolding spanCount
-span-some n = omega arith
-
--- every place of the chart is the place of a cell
-pub cell-found : (arity : ℕ → ℕ) (count n k : ℕ) → k < chartBytes arity count n
-    → (p : ℕ) × (d : ℕ) × (i : ℕ) × (j : ℕ) × (p < count) × (d ≤ arity p) × (i ≤ j) × (j ≤ n) × (k ≡ cellAt n (rowOf arity p d) i j)
-unfolding cellAt
-cell-found arity count n k l =
-    let s = span-some n in
-    let (p, d, a, b, q) = row-found arity count (k / spanCount n) (div-lt-iff-lt-mul s .1 l) in
-    let (i, j, h, m, o) = span-found n (k % spanCount n) (mod-lt k s) in
-    (p, d, i, j, a, b, h, m, sym (div-add-mod' k (spanCount n)) ∙ (ap₂ (λ (x y : ℕ). x * spanCount n + y) q o ∙ omega arith))
-
 -- ---- the chart
 
-module _ (s : Parsing) (c₀ c c′ : List ℕ) (a : ChartAfter s c₀ c) (b : ChartAfter s c₀ c′) where
-  -- an entry is the count of the same lists of trees
-  cell-unique : (p d i j : ℕ) → p < s .count → d ≤ s .arity p → i ≤ j → j ≤ s .size
-      → entryOf (s .arity) (s .size) (a .entries) p d i j ≡ entryOf (s .arity) (s .size) (b .entries) p d i j
-  cell-unique p d i j lp ld ij jn =
-      counts-unique (s .entry p d i j) (entryOf (s .arity) (s .size) (a .entries) p d i j) (entryOf (s .arity) (s .size) (b .entries) p d i j)
-      (a .counted .counts p d i j lp ld ij jn refl) (b .counted .counts p d i j lp ld ij jn refl)
-
-  -- so all entries are the same
-  entries-unique : a .entries ≡ b .entries
-  unfolding entryOf entryAt
-  entries-unique =
-      ext-getD 0 (a .entries) (b .entries) (a .long ∙ sym (b .long))
-      (λ k l. let (p, d, i, j, lp, ld, ij, jn, e) = cell-found (s .arity) (s .count) (s .size) k (omega (arith, a .long)) in rw e (cell-unique p d i j lp ld ij jn))
-
-  -- two charts that meet the promise are the same
-  pub chart-unique : c ≡ c′
-  chart-unique = a .whole ∙ ap (λ (l : List ℕ). overwritten l c₀) entries-unique ∙ sym (b .whole)
+-- two charts that meet the promise are the same
+chart-unique : (s : Parsing) (c₀ c c′ : List ℕ) → ChartAfter s c₀ c → ChartAfter s c₀ c′ → c ≡ c′
+chart-unique s c₀ c c′ a b =
+    let same = counted-unique (s .entry) (s .arity) (s .count) (s .size) (a .entries) (b .entries) (a .long) (b .long) (a .counted) (b .counted) in
+    a .whole ∙ ap (λ (l : List ℕ). overwritten l c₀) same ∙ sym (b .whole)
 
 -- ---- the answer
 

@@ -32,6 +32,7 @@ levelLimit = productionLimit * places
 abbrev pub fewLevels : ℕ
 fewLevels = 2048
 
+-- the production of level n, how many of its arguments are written, and where its arguments begin and end
 unfoldable pub productionOf : List ℕ → ℕ → ℕ
 productionOf levels n = getD levels (n * levelBytes) 0
 

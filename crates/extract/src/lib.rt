@@ -223,7 +223,7 @@ pub fn put_number(out: &mut [u8], at: usize, number: usize) -> usize
     at + 1
 }
 
-// Writes the number of what stands as the next argument of the last level: a character, or a production, which opens a level.
+// Writes the number of what stands as the next argument of the last level: a character, or a production, which opens a level if it has arguments.
 fn write_next(
     chart: &[u8],
     text: &[u8],

@@ -58,9 +58,6 @@ tabulate-zero n k =
 
 -- ---- spans done
 
-done-empty : (n i j m : ℕ) → m ≤ n → Done n i j m m
-done-empty n i j m l = record { rises = le-refl m; within = l; column = λ h. absurd (omega arith); start = λ h. absurd (omega arith) }
-
 -- a span that is done is the one at hand, or was done before
 done-before : (n i j i′ j′ : ℕ) → Done n i j i′ j′ → (i′ ≡ i → j′ ≡ j → ⊥) → Done n (i + 1) j i′ j′
 done-before n i j i′ j′ d apart =

@@ -38,12 +38,6 @@ only-single g w q i j f o h k s r = o .alone h s ∙ sym (o .alone k r)
 around-single : (g : Grammar) (w : List ℕ) (p i j q m e : ℕ) → Single g w p i j → Around g w p (g .arity p) i j q m e → Single g w q m e
 around-single g w p i j q m e o x f h s r = x .different f h (o (x .plug f) (x .plug h) (x .spelled f s) (x .spelled h r))
 
--- Below an only list of trees, each production has an only one.
-pub only-below : (g : Grammar) (w : List ℕ) (p i j : ℕ) (f : Forest) (q m e : ℕ) → OnlyTrees g w p i j f → Under g w p (g .arity p) i j q m e → (h : Forest)
-    → Spells g w q h (g .arity q) m e → OnlyTrees g w q m e h
-only-below g w p i j f q m e o u h r =
-    record { holds = r; alone = λ k s. around-single g w p i j q m e (only-single g w p i j f o) (around-under g w p (g .arity p) i j q m e u .0) k h s r }
-
 -- No production stands below itself from the same place to the same place: putting the whole in its own part would make another, larger one.
 not-itself : (g : Grammar) (w : List ℕ) (q m e p i j : ℕ) → Single g w q m e → (x : Around g w q (g .arity q) m e p i j) (y : Around g w p (g .arity p) i j q m e) → 1 ≤ y .extra
     → (h : Forest) → Spells g w q h (g .arity q) m e → ⊥

@@ -4,7 +4,7 @@ use mathlib.Core.Path.{_≡_, sym, _∙_, ap, ap₂, subst}
 use mathlib.Core.List.{List, [], _∷_, _++_}
 use native.Mathlib.Omega.{arith}
 use lib.ListN.{length, getD, take, drop, length-append, take-append-drop, length-take}
-use lib.Seq.{take-length, take-append-seam, drop-append-seam, drop-append-le, take-take, take-at, drop-at, slice, slice-empty, slice-cons, length-slice}
+use lib.Seq.{take-append-seam, drop-append-seam, drop-append-le, take-take, take-at, drop-at, slice, slice-empty, slice-cons, length-slice}
 use Rattle.theory.specs.Grammar.{Grammar, Spells, Stands, Derived, DerivedAt}
 use Rattle.theory.specs.Tree.{Tree, leaf, node, Forest, none, _▷_, yield, yields}
 
@@ -47,9 +47,6 @@ pub spells-once : (g : Grammar) (w : List ℕ) (p : ℕ) (f : Forest) (d i j k :
 spells-once g w p f d i j k a b = spells-end g w p f d i j a ∙ sym (spells-end g w p f d i k b)
 
 -- ---- the text between two places
-
-slice-whole : (w : List ℕ) → slice 0 (length w) w ≡ w
-slice-whole w = take-length w
 
 slice-append : (w : List ℕ) (i m j : ℕ) → i ≤ m → m ≤ j → j ≤ length w → slice i m w ++ slice m j w ≡ slice i j w
 slice-append w i m j l h k =
