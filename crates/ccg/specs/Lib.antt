@@ -4,7 +4,6 @@ pub mod Reading
 pub mod Ccg
 pub mod Flat
 pub mod Tables
-pub mod Theory
 pub mod Text
 pub mod Written
 pub mod Put

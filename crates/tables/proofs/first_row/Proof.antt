@@ -1,0 +1,34 @@
+-- `first_row` meets its contract: it is the word of production p.
+use Rattle.tables.proofs.LayoutLaws.{counts-long}
+use mathlib.Core.Path.{_∙_}
+use borrow.Author.Needs.{needs}
+use native.Mathlib.Omega.{arith}
+use Rattle.tables.proofs.first_row.Statement.{statement}
+use Rattle.tables.proofs.first_row.Tie as tie
+
+add-number : tie.Need-add-number
+add-number c =
+    let start = c .before in
+    omega (arith, counts-long (start .args .tables .now) (start .pre .0 .long) (start .pre .0 .fewProductions))
+
+mul-number : tie.Need-mul-number
+mul-number c =
+    let start = c .before in
+    omega (arith, counts-long (start .args .tables .now) (start .pre .0 .long) (start .pre .0 .fewProductions))
+
+shared-slice-read-number : tie.Need-shared-slice-read-number
+shared-slice-read-number c =
+    let start = c .before .before in
+    omega (arith, counts-long (start .args .tables .now) (start .pre .0 .long) (start .pre .0 .fewProductions))
+
+number-requires : tie.Need-number-requires
+number-requires c κs = search needs
+
+returns : tie.Need-returns
+returns c =
+    let start = c .before .before .before in
+    c .number .ensures ∙ start .pre .0 .rows (start .args .p) (omega (arith, counts-long (start .args .tables .now) (start .pre .0 .long) (start .pre .0 .fewProductions)))
+
+pub first-row-spec : {M : Type 1} → statement M
+first-row-spec =
+    tie.close (tie.spec add-number mul-number shared-slice-read-number number-requires returns)
