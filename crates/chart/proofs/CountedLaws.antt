@@ -10,7 +10,8 @@ use lib.ListN.{length, take}
 use lib.Seq.{getD-take, ext-getD}
 use Rattle.chart.proofs.LayoutLaws.{start-end, cell-below, row-in}
 use Rattle.chart.specs.Counted.{entryOf, Counted}
-use Rattle.chart.specs.Layout.{rowOf, rowCount, spanCount, startAt, cellAt, chartBytes, entryAt}
+use Rattle.chart.specs.Layout.{rowOf, spanCount, startAt, cellAt, chartBytes, entryAt}
+use Rattle.tables.specs.Layout.{rowCount}
 use Rattle.common.specs.Below.{sumBelow}
 use Rattle.theory.proofs.CountLaws.{counts-unique}
 use Rattle.theory.specs.Counts.{Counts}

@@ -1,11 +1,15 @@
 -- Cells stand apart, each row behind the one before it.
 use Prim.Native.Nat.{ℕ, zero, suc, _+_, _-_, _*_, _/_, _≤_, _<_}
-use mathlib.Core.Path.{_≡_, ap}
+use mathlib.Core.Path.{_≡_, refl, ap}
+use mathlib.Core.List.{List}
 use mathlib.Core.Logic.{by-cases}
 use native.Mathlib.Omega.{arith}
 use native.Mathlib.Decide.{decLt}
 use native.Mathlib.Nat.{mul-le-mul-right, mul-le-mul}
-use Rattle.chart.specs.Layout.{textLimit, places, rowLimit, rowOf, rowCount, spanCount, startAt, cellAt}
+use lib.ListN.{length}
+use Rattle.chart.specs.Layout.{textLimit, places, rowLimit, rowOf, spanCount, chartNeed, startAt, cellAt, ChartFits}
+use Rattle.tables.proofs.LayoutLaws.{counts-few}
+use Rattle.tables.specs.Layout.{countsOf, arityIn, rowCount, ParserTables}
 use Rattle.common.proofs.BelowLaws.{sum-more, sum-bound, sum-grows}
 use Rattle.common.specs.Below.{sumBelow}
 use Rattle.grammar.specs.Limits.{productionLimit, argumentLimit}
@@ -146,6 +150,19 @@ pub rows-few : (arity : ℕ → ℕ) (n : ℕ) → n ≤ productionLimit → ((p
 unfolding rowCount
 rows-few arity n l h = omega (arith, sum-bound (argumentLimit + 1) (λ q. arity q + 1) (λ q. omega (arith, h q)) n)
 
+-- those of tables that a parser can read
+pub table-rows-few : (t : List ℕ) → ParserTables t → rowCount (arityIn (countsOf t)) (length (countsOf t)) ≤ rowLimit
+table-rows-few t h = rows-few (arityIn (countsOf t)) (length (countsOf t)) (counts-few t h) (h .fewArguments)
+
+-- so the need for a text is small
+pub need-few : (t : List ℕ) (n : ℕ) → ParserTables t → n ≤ textLimit → chartNeed t n ≤ rowLimit * (places * (places + 1) / 2)
+need-few t n h l = mul-le-mul (table-rows-few t h) (span-few n l)
+
+-- the row of a production with some of its arguments comes behind the rows of those before it
+pub row-of-count : (arity : ℕ → ℕ) (p d : ℕ) → rowCount arity p + d ≡ rowOf arity p d
+unfolding rowOf rowCount
+row-of-count arity p d = refl
+
 -- the rows of a production stand one behind the other
 pub row-of-base : (arity : ℕ → ℕ) (p d : ℕ) → rowOf arity p 0 + d ≡ rowOf arity p d
 unfolding rowOf
@@ -155,3 +172,11 @@ row-of-base arity p d = omega arith
 pub row-base : (arity : ℕ → ℕ) (p : ℕ) → rowOf arity (p + 1) 0 ≡ rowOf arity p 0 + (arity p + 1)
 unfolding rowOf
 row-base arity p = omega (arith, sum-more p (λ q. arity q + 1))
+
+-- the row of an entry, behind the first row of its production, stands in the chart
+pub entry-row : (t : List ℕ) (n : ℕ) (chart : List ℕ) (p d row : ℕ) → ChartFits t n chart → p < length (countsOf t) → d ≤ arityIn (countsOf t) p → row ≡ rowCount (arityIn (countsOf t)) p
+    → (row + d < rowLimit) × ((row + d + 1) * spanCount n ≤ length chart)
+entry-row t n chart p d row f l h e =
+    let arity = arityIn (countsOf t) in
+    let m : row + d + 1 ≤ rowCount arity (length (countsOf t)) = omega (arith, row-of-count arity p d, row-in arity p d (length (countsOf t)) l h) in
+    (omega (arith, table-rows-few t (f .tables)), omega (arith, mul-le-mul-right (spanCount n) m, f .longEnough))

@@ -8,9 +8,8 @@ use lib.ListN.{length, getD, set}
 use Rattle.chart.proofs.LayoutLaws.{cell-in, cell-below, cell-next, cell-same}
 use Rattle.chart.specs.Layout.{spanCount, cellAt, entryAt}
 use Rattle.chart.proofs.ByEndsLaws.{column-in, place-in, place-of-row}
-use Rattle.common.proofs.RegionLaws.{region-others, front-inside}
+use Rattle.common.proofs.RegionLaws.{region-others, front-inside, region-none, region-more}
 use Rattle.chart.specs.ByEnds.{columnAt, placeAt, RowTurned, Turned}
-use Rattle.common.proofs.RegionLaws.{region-none, region-more}
 use Rattle.common.specs.Region.{Region}
 
 -- ---- one start

@@ -2,4 +2,3 @@
 pub mod Layout
 pub mod ByEnds
 pub mod Counted
-pub mod Tests

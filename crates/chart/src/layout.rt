@@ -1,12 +1,14 @@
 // Where a cell of the chart stands (01, "Readings, listings and the chart"). Nothing outside this module knows it.
-use grammar::layout::wide;
 use grammar::limits::ARGUMENT_LIMIT;
 use grammar::limits::PRODUCTION_LIMIT;
+use tables::first_row;
+use tables::row_count;
 ghost use mathlib.Core.Path.{_≡_};
 ghost use Prim.Native.Nat.{_+_, _*_, _<_, _≤_};
 ghost use lib.ListN.{length, set};
-ghost use Rattle.grammar.specs.Limits.{productionLimit};
-ghost use Rattle.chart.specs.Layout.{textLimit, arityIn, rowCount, rowLimit, spanCount, startAt, cellAt, entryAt};
+ghost use Rattle.tables.specs.Layout.{countsOf, arityIn, ParserTables};
+ghost use Rattle.chart.specs.Layout.{textLimit, rowLimit, spanCount, chartNeed, startAt, cellAt, entryAt, ChartFits};
+ghost use Rattle.chart.specs.Counted.{entryOf};
 
 // Most characters of a text.
 pub const TEXT_LIMIT: usize = 200;
@@ -15,26 +17,20 @@ pub const PLACES: usize = TEXT_LIMIT + 1;
 // A row is a production with a count of arguments. Most rows.
 pub const ROW_LIMIT: usize = PRODUCTION_LIMIT * (ARGUMENT_LIMIT + 1);
 
-// How many rows there are, if `counts` has the argument count of each production.
-pub fn row_count(counts: &[u8]) -> usize
-    requires { ⌜ length (now counts) ≤ productionLimit ⌝ }
-    ensures { λ r. ⌜ r ≡ rowCount (arityIn (now (counts .entry))) (length (now (counts .entry))) ⌝ }
-{
-    let mut rows = 0;
-    let mut p = 0;
-    while p < counts.len() {
-        rows += wide(counts[p]) + 1;
-        p += 1;
-    }
-    rows
-}
-
 // How many spans a text of n characters has: a row has a cell for each.
 pub fn span_count(n: usize) -> usize
     requires { ⌜ n ≤ textLimit ⌝ }
     ensures { λ r. ⌜ r ≡ spanCount n ⌝ }
 {
     (n + 1) * (n + 2) / 2
+}
+
+// How many bytes the chart of such a text needs.
+pub fn chart_need(tables: &[u64], n: usize) -> usize
+    requires { ⌜ ParserTables (now tables) × (n ≤ textLimit) ⌝ }
+    ensures { λ r. ⌜ r ≡ chartNeed (now (tables .entry)) n ⌝ }
+{
+    row_count(tables) * span_count(n)
 }
 
 // How many spans start before i.
@@ -54,12 +50,29 @@ fn cell_at(n: usize, row: usize, i: usize, j: usize) -> usize
 }
 
 // The cell of a row for the span from i to j.
-pub fn get(chart: &[u8], n: usize, row: usize, i: usize, j: usize) -> u8
+fn get(chart: &[u8], n: usize, row: usize, i: usize, j: usize) -> u8
     requires { ⌜ (n ≤ textLimit) × (row < rowLimit) × (i ≤ j) × (j ≤ n) ⌝ }
     requires { ⌜ (row + 1) * spanCount n ≤ length (now chart) ⌝ }
     ensures { λ r. ⌜ r ≡ entryAt (now (chart .entry)) (cellAt n row i j) ⌝ }
 {
     chart[cell_at(n, row, i, j)]
+}
+
+// The entry for production p, the first d of its arguments, and the span from i to j of a text of n characters.
+pub fn entry_of(
+    chart: &[u8],
+    tables: &[u64],
+    n: usize,
+    p: usize,
+    d: usize,
+    i: usize,
+    j: usize,
+) -> u8
+    requires { ⌜ ChartFits (now tables) n (now chart) ⌝ }
+    requires { ⌜ (p < length (countsOf (now tables))) × (d ≤ arityIn (countsOf (now tables)) p) × (i ≤ j) × (j ≤ n) ⌝ }
+    ensures { λ r. ⌜ r ≡ entryOf (arityIn (countsOf (now (tables .entry)))) n (now (chart .entry)) p d i j ⌝ }
+{
+    get(chart, n, first_row(tables, p) + d, i, j)
 }
 
 // Sets that cell.

@@ -7,7 +7,8 @@ use native.Mathlib.Omega.{arith}
 use native.Mathlib.Decide.{ℕ-discrete, decLt}
 use lib.ListN.{getD}
 use Rattle.chart.proofs.LayoutLaws.{row-in, row-of-base}
-use Rattle.chart.specs.Layout.{rowLimit, arityIn, rowOf, rowCount}
+use Rattle.chart.specs.Layout.{rowLimit, rowOf}
+use Rattle.tables.specs.Layout.{arityIn, rowCount}
 use Rattle.column.specs.Rows.{RowsFilled}
 use Rattle.common.specs.Region.{Region}
 use Rattle.common.specs.Zeros.{AllZero}

@@ -1,5 +1,4 @@
 // A column of the chart: the sums of splits for its spans, by row and start, and what is stored of a span once it is settled.
-use ccg::tables::slot_has;
 use chart::by_ends::add_row;
 use chart::by_ends::clear_row;
 use chart::by_ends::store;
@@ -8,6 +7,7 @@ use chart::layout::ROW_LIMIT;
 use chart::sums::capped;
 use grammar::layout::wide;
 use grammar::limits::ARGUMENT_LIMIT;
+use tables::takes_char;
 ghost use mathlib.Core.Path.{_≡_};
 ghost use mathlib.Core.Bool.{_&&_};
 ghost use Prim.Native.Nat.{ℕ, _+_, _*_, _<_, _≤_};
@@ -17,7 +17,7 @@ ghost use Rattle.common.specs.Below.{bitOf};
 ghost use Rattle.common.specs.Region.{Region};
 ghost use Rattle.common.specs.Zeros.{AllZero};
 ghost use Rattle.grammar.specs.Limits.{productionLimit, argumentLimit};
-ghost use Rattle.ccg.specs.Tables.{slot, slotHas, charWords};
+ghost use Rattle.tables.specs.Layout.{slot, tableWords, takesChar};
 ghost use Rattle.chart.specs.Layout.{textLimit, places, rowLimit, spanCount, entryAt};
 ghost use Rattle.chart.specs.ByEnds.{placeAt};
 ghost use Rattle.column.specs.Sums.{ColumnCleared, RowAdded, SplitsAdded};
@@ -111,49 +111,49 @@ pub fn add_splits(
 // Writes which arguments of production p take the character.
 fn char_production(
     out: &mut [u8],
-    chars: &[u64],
+    tables: &[u64],
     p: usize,
     base: usize,
     arity: usize,
     character: u8,
 )
-    requires { ⌜ (length (now out) ≡ rowLimit) × (length (now chars) ≡ charWords) ⌝ }
+    requires { ⌜ (length (now out) ≡ rowLimit) × (length (now tables) ≡ tableWords) ⌝ }
     requires { ⌜ (p < productionLimit) × (arity ≤ argumentLimit) × (base + arity < rowLimit) ⌝ }
-    ensures { λ _. ⌜ Region (λ (d : ℕ) (v : ℕ). v ≡ bitOf (slotHas (now (chars .entry)) (slot p d) character)) 0 base arity (now (out .entry)) (now (out .exit)) ⌝ }
+    ensures { λ _. ⌜ Region (λ (d : ℕ) (v : ℕ). v ≡ bitOf (takesChar (now (tables .entry)) (slot p d) character)) 0 base arity (now (out .entry)) (now (out .exit)) ⌝ }
 {
     let mut d = 0;
     while d < arity {
-        out[base + d] = slot_has(chars, p * ARGUMENT_LIMIT + d, character) as u8;
+        out[base + d] = takes_char(tables, p * ARGUMENT_LIMIT + d, character) as u8;
         d += 1;
     }
 }
 
 // Writes for each row, over zeros, 1 if the character may stand as its next argument.
-fn char_row(counts: &[u8], chars: &[u64], character: u8, out: &mut [u8])
-    requires { ⌜ (length (now counts) ≤ productionLimit) × ((p : ℕ) → getD (now counts) p 0 ≤ argumentLimit) × (length (now chars) ≡ charWords) ⌝ }
+fn char_row(counts: &[u8], tables: &[u64], character: u8, out: &mut [u8])
+    requires { ⌜ (length (now counts) ≤ productionLimit) × ((p : ℕ) → getD (now counts) p 0 ≤ argumentLimit) × (length (now tables) ≡ tableWords) ⌝ }
     requires { ⌜ AllZero rowLimit (now out) ⌝ }
-    ensures { λ _. ⌜ RowsFilled (λ p d. bitOf (slotHas (now (chars .entry)) (slot p d) character)) (now (counts .entry)) (length (now (counts .entry))) (now (out .exit)) ⌝ }
+    ensures { λ _. ⌜ RowsFilled (λ p d. bitOf (takesChar (now (tables .entry)) (slot p d) character)) (now (counts .entry)) (length (now (counts .entry))) (now (out .exit)) ⌝ }
 {
     let mut base = 0;
     let mut p = 0;
     while p < counts.len() {
-        char_production(out, chars, p, base, wide(counts[p]), character);
+        char_production(out, tables, p, base, wide(counts[p]), character);
         base += wide(counts[p]) + 1;
         p += 1;
     }
 }
 
 // Writes for each row, over zeros, 1 if the text from i to j is a character that may stand as its next argument.
-pub fn bare_args(text: &[u8], counts: &[u8], chars: &[u64], i: usize, j: usize, out: &mut [u8])
-    requires { ⌜ (length (now counts) ≤ productionLimit) × ((p : ℕ) → getD (now counts) p 0 ≤ argumentLimit) × (length (now chars) ≡ charWords) ⌝ }
+pub fn bare_args(text: &[u8], counts: &[u8], tables: &[u64], i: usize, j: usize, out: &mut [u8])
+    requires { ⌜ (length (now counts) ≤ productionLimit) × ((p : ℕ) → getD (now counts) p 0 ≤ argumentLimit) × (length (now tables) ≡ tableWords) ⌝ }
     requires { ⌜ (i < j) × (j ≤ length (now text)) ⌝ }
     requires { ⌜ AllZero rowLimit (now out) ⌝ }
-    ensures { λ _. ⌜ RowsFilled (λ p d. bitOf (eqb (i + 1) j && slotHas (now (chars .entry)) (slot p d) (getD (now (text .entry)) i 0))) (now (counts .entry)) (length (now (counts .entry))) (now (out .exit)) ⌝ }
+    ensures { λ _. ⌜ RowsFilled (λ p d. bitOf (eqb (i + 1) j && takesChar (now (tables .entry)) (slot p d) (getD (now (text .entry)) i 0))) (now (counts .entry)) (length (now (counts .entry))) (now (out .exit)) ⌝ }
 {
     if i + 1 != j {
         return;
     }
-    char_row(counts, chars, text[i], out);
+    char_row(counts, tables, text[i], out);
 }
 
 // ---- cells

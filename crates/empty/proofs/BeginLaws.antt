@@ -11,8 +11,10 @@ use lib.Dec.{eqb}
 use lib.ListN.{length, getD, take, drop, set, length-set}
 use lib.Seq.{getD-set-same, getD-set-other}
 use borrow.Author.Tests.{eqb-true, eqb-false}
+use mir.Val.{boolByte}
 use Rattle.chart.proofs.LayoutLaws.{row-same}
-use Rattle.chart.specs.Layout.{rowLimit, arityIn}
+use Rattle.chart.specs.Layout.{rowLimit}
+use Rattle.tables.specs.Layout.{arityIn}
 use Rattle.common.proofs.BelowLaws.{sum-bound}
 use Rattle.common.specs.Zeros.{AllZero}
 use Rattle.empty.proofs.RowLaws.{row-room}
@@ -21,7 +23,6 @@ use Rattle.span.proofs.SpanLaws.{argument-same, argument-rise}
 use Rattle.span.proofs.TableLaws.{part-at}
 use Rattle.span.specs.Span.{whole, usedSum, argumentOf}
 use Rattle.span.specs.Tables.{userAt, spanOf, Links}
-use mir.Val.{boolByte}
 use Rattle.common.specs.Bytes.{byteValues}
 
 -- ---- none yet

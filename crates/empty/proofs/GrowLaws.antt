@@ -5,7 +5,8 @@ use mathlib.Core.List.{List}
 use native.Mathlib.Omega.{arith}
 use native.Mathlib.Nat.{le-refl, mul-le-mul}
 use lib.ListN.{getD}
-use Rattle.chart.specs.Layout.{rowLimit, arityIn, rowOf}
+use Rattle.chart.specs.Layout.{rowLimit, rowOf}
+use Rattle.tables.specs.Layout.{arityIn}
 use Rattle.common.specs.Zeros.{AllZero}
 use Rattle.empty.proofs.RightLaws.{Right, raised-grows, raised-right}
 use Rattle.empty.proofs.SumLaws.{sum-less, sum-tight}

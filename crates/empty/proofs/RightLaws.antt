@@ -11,8 +11,9 @@ use native.Mathlib.Numerals.{add-one}
 use lib.ListN.{length, getD, set, length-set}
 use lib.Seq.{getD-set-same, getD-set-other}
 use Rattle.chart.proofs.LayoutLaws.{row-same, row-shift}
-use Rattle.chart.specs.Layout.{rowLimit, arityIn, rowOf}
-use Rattle.chart.specs.Tests.{grammarOf}
+use Rattle.chart.specs.Layout.{rowLimit, rowOf}
+use Rattle.tables.specs.Layout.{arityIn}
+use Rattle.tables.specs.Theory.{grammarOf}
 use Rattle.common.proofs.BelowLaws.{sum-same}
 use Rattle.common.specs.Below.{sumBelow, bitOf}
 use Rattle.empty.proofs.RowLaws.{row-room}
@@ -75,7 +76,7 @@ module _ {counts users uses x : List ℕ} (links : Links counts users uses) (rig
   module _ (chars subs : ℕ → ℕ → ℕ → Bool) (are : UsersAre counts users subs) (w : List ℕ) (i : ℕ) (il : i ≤ length w) where
     -- as many trees can be shown as may stand as the next argument
     argument-there : Shown (λ (t : Tree). Stands (grammarOf counts chars subs) w p d t i i) (usedSum (emptySpan counts users) x (rowOf (arityIn counts) p d))
-    unfolding usedSum spanOf whole grammarOf
+    unfolding usedSum spanOf whole
     argument-there =
         let g = grammarOf counts chars subs in
         let v : ℕ → ℕ = λ q. getD x (rowOf (arityIn counts) q (arityIn counts q)) 0 in

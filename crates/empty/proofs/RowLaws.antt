@@ -4,7 +4,8 @@ use mathlib.Core.List.{List}
 use native.Mathlib.Omega.{arith}
 use lib.ListN.{length}
 use Rattle.chart.proofs.LayoutLaws.{row-in, rows-few}
-use Rattle.chart.specs.Layout.{rowLimit, arityIn, rowOf}
+use Rattle.chart.specs.Layout.{rowLimit, rowOf}
+use Rattle.tables.specs.Layout.{arityIn}
 use Rattle.span.specs.Tables.{Links}
 
 -- the rows of a production are among all rows

@@ -10,8 +10,9 @@ use native.Mathlib.Nat.{zero-add}
 use lib.ListN.{length, getD, List·getD-eq-default}
 use lib.Seq.{ext-getD}
 use Rattle.chart.proofs.LayoutLaws.{row-shift}
-use Rattle.chart.specs.Layout.{rowLimit, arityIn, rowOf}
-use Rattle.chart.specs.Tests.{grammarOf}
+use Rattle.chart.specs.Layout.{rowLimit, rowOf}
+use Rattle.tables.specs.Layout.{arityIn}
+use Rattle.tables.specs.Theory.{grammarOf}
 use Rattle.common.proofs.BelowLaws.{sum-same}
 use Rattle.common.specs.Below.{sumBelow, bitOf}
 use Rattle.common.specs.Zeros.{AllZero}
@@ -125,7 +126,6 @@ module _ {counts users uses args cells back : List ℕ} {changed : Bool} (links 
       t .agree .exact (rowOf (arityIn counts) p d) (row-room links p d l (omega arith)) ∙ zero-add _ ∙ same
 
   pub turning-last : EmptyRight (grammarOf counts chars subs) cells args
-  unfolding grammarOf
   turning-last =
       record {
         small = t .right .small;

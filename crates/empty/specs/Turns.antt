@@ -5,7 +5,8 @@ use mathlib.Core.Bool.{Bool, false}
 use mathlib.Core.List.{List, []}
 use mathlib.Core.Logic.{_≢_}
 use lib.ListN.{length, getD}
-use Rattle.chart.specs.Layout.{rowLimit, arityIn, rowOf}
+use Rattle.chart.specs.Layout.{rowLimit, rowOf}
+use Rattle.tables.specs.Layout.{arityIn}
 use Rattle.span.specs.Span.{Span}
 use Rattle.span.specs.Tables.{spanOf, Exact}
 

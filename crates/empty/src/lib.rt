@@ -1,7 +1,6 @@
 // The empty span, settled once for all places. At it the split at the start and the split at the end are one: a cell is the product of the cell before it and
 // the next argument. The arguments are held fixed while the cells are settled, and taken up again until they stay.
 use chart::layout::ROW_LIMIT;
-use chart::layout::row_count;
 use chart::sums::zero_row;
 use common::either;
 use grammar::layout::wide;
@@ -13,8 +12,9 @@ ghost use mathlib.Core.List.{List};
 ghost use Prim.Native.Nat.{ℕ};
 ghost use lib.ListN.{length};
 ghost use Rattle.common.specs.Zeros.{AllZero};
-ghost use Rattle.chart.specs.Layout.{arityIn, rowCount, rowLimit};
-ghost use Rattle.chart.specs.Tests.{grammarOf};
+ghost use Rattle.chart.specs.Layout.{rowLimit};
+ghost use Rattle.tables.specs.Layout.{arityIn, rowCount};
+ghost use Rattle.tables.specs.Theory.{grammarOf};
 ghost use Rattle.span.specs.Tables.{Links, UsersAre};
 ghost use Rattle.empty.specs.Empty.{EmptyRight};
 ghost use Rattle.empty.specs.Turns.{Begun, Followed};
@@ -56,12 +56,18 @@ fn follow(back: &mut [u8], args: &[u8]) -> bool
 }
 
 // Settles the empty span. The tables hold zeros before.
-pub fn settle_empty(counts: &[u8], users: &[u8], uses: &[u8], args: &mut [u8], cells: &mut [u8])
+pub fn settle_empty(
+    counts: &[u8],
+    rows: usize,
+    users: &[u8],
+    uses: &[u8],
+    args: &mut [u8],
+    cells: &mut [u8],
+)
     requires { ⌜ Links (now counts) (now users) (now uses) ⌝ }
-    requires { ⌜ AllZero rowLimit (now args) × AllZero rowLimit (now cells) ⌝ }
+    requires { ⌜ AllZero rowLimit (now args) × AllZero rowLimit (now cells) × (rows ≡ rowCount (arityIn (now counts)) (length (now counts))) ⌝ }
     ensures { λ _. ⌜ ((chars subs : ℕ → ℕ → ℕ → Bool) → UsersAre (now (counts .entry)) (now (users .entry)) subs → EmptyRight (grammarOf (now (counts .entry)) chars subs) (now (cells .exit)) (now (args .exit))) ⌝ }
 {
-    let rows = row_count(counts);
     let zeros = zero_row();
     let mut back = zero_row();
     begin(counts, rows, users, args, cells);

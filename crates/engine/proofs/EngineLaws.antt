@@ -12,7 +12,8 @@ use borrow.Author.Tests.{eq-eqb}
 use Rattle.ccg.specs.Theory.{theoryOf}
 use Rattle.chart.proofs.CountedLaws.{counted-front}
 use Rattle.chart.specs.Counted.{CountedBy}
-use Rattle.chart.specs.Layout.{arityIn, chartBytes}
+use Rattle.chart.specs.Layout.{chartBytes}
+use Rattle.tables.specs.Layout.{arityIn}
 use Rattle.common.proofs.BelowLaws.{sum-same, sum-at, bit-test}
 use Rattle.common.proofs.OverwrittenLaws.{overwritten-of, sets-front}
 use Rattle.common.proofs.ProductLaws.{product-one, right-below}

@@ -8,7 +8,8 @@ use native.Mathlib.Decide.{decLt}
 use native.Mathlib.Nat.{le-refl, mul-le-mul-right}
 use lib.ListN.{length, getD}
 use Rattle.chart.proofs.LayoutLaws.{row-in, rows-few}
-use Rattle.chart.specs.Layout.{rowLimit, arityIn, rowOf, rowCount, spanCount}
+use Rattle.chart.specs.Layout.{rowLimit, rowOf, spanCount}
+use Rattle.tables.specs.Layout.{arityIn, rowCount}
 use Rattle.common.proofs.BelowLaws.{sum-more, sum-one, sum-at}
 use Rattle.common.specs.Below.{sumBelow}
 use Rattle.engine.specs.Roots.{RootsReady}

@@ -7,7 +7,8 @@ use lib.Dec.{eqb}
 use lib.ListN.{length, getD}
 use Rattle.ccg.specs.Theory.{theoryOf, ParserTables}
 use Rattle.chart.specs.Counted.{CountedBy}
-use Rattle.chart.specs.Layout.{textLimit, arityIn, chartBytes}
+use Rattle.chart.specs.Layout.{textLimit, chartBytes}
+use Rattle.tables.specs.Layout.{arityIn}
 use Rattle.engine.specs.Outcome.{Parsing}
 use Rattle.extract.specs.Places.{Bases, cellOf}
 use Rattle.grammar.specs.Limits.{productionLimit, argumentLimit}

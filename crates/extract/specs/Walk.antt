@@ -4,7 +4,7 @@ use mathlib.Core.Path.{_≡_}
 use mathlib.Core.Bool.{true}
 use mathlib.Core.List.{List, _∷_, _++_}
 use lib.ListN.{length, getD, take, drop}
-use Rattle.ccg.specs.Theory.{theoryOf}
+use Rattle.tables.specs.Theory.{theoryOf}
 use Rattle.chart.specs.Layout.{places}
 use Rattle.extract.specs.Places.{Walkable}
 use Rattle.extract.specs.Written.{room, Written}
@@ -81,12 +81,12 @@ pub record Writing (g : Grammar) (w : List ℕ) (q : ℕ) (l₀ levels : List �
   pub written : Written done l₀ 0 l r
 
 -- Some tree is being written by a filled chart.
-pub record Midway (counts chars subs bases w chart levels : List ℕ) (n : ℕ) (l : List ℕ) (r : ℕ) : Type 0 where
-  pub walkable : Walkable counts chars subs bases w chart
+pub record Midway (tables w chart levels : List ℕ) (n : ℕ) (l : List ℕ) (r : ℕ) : Type 0 where
+  pub walkable : Walkable tables w chart
   pub root : ℕ
   pub rootWanted : walkable .wanted root 0 ≡ true
   pub before : List ℕ
-  pub writing : Writing (theoryOf counts chars subs) w root before levels n l r
+  pub writing : Writing (theoryOf tables) w root before levels n l r
 
 -- Whatever tree was being written still is.
 abbrev pub StillWriting : (g : Grammar) (w levels : List ℕ) (n : ℕ) (l : List ℕ) (r : ℕ) (levels′ : List ℕ) (n′ : ℕ) (l′ : List ℕ) (r′ : ℕ) → Type 0

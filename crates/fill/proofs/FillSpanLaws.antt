@@ -7,9 +7,9 @@ use native.Mathlib.Omega.{arith}
 use native.Mathlib.Nat.{mul-zero}
 use lib.Dec.{eqb}
 use lib.ListN.{length, getD}
-use Rattle.ccg.specs.Tables.{slot, slotHas}
+use Rattle.tables.specs.Layout.{slot, takesChar, arityIn, rowCount}
 use Rattle.chart.proofs.LayoutLaws.{row-in, rows-few}
-use Rattle.chart.specs.Layout.{places, rowLimit, arityIn, rowOf, rowCount}
+use Rattle.chart.specs.Layout.{places, rowLimit, rowOf}
 use Rattle.chart.specs.ByEnds.{placeAt}
 use Rattle.column.specs.Rows.{RowsFilled}
 use Rattle.column.specs.Scattered.{Scattered}
@@ -49,8 +49,8 @@ zero-founded v counts users inner front back args cells r z =
       agree = zero-exact counts users inner front back args cells z;
     }
 
-module _ (counts chars users uses empty back w chart sums live : List ℕ) (rows i j : ℕ) (links : Links counts users uses)
-    (ready : Ready counts chars empty back sums live w chart rows) (ij : i < j) (jw : j ≤ length w) where
+module _ (counts tables users uses empty back w chart sums live : List ℕ) (rows i j : ℕ) (links : Links counts users uses)
+    (ready : Ready counts tables empty back sums live w chart rows) (ij : i < j) (jw : j ≤ length w) where
   few-rows : rowCount (arityIn counts) (length counts) ≤ rowLimit
   few-rows = rows-few (arityIn counts) (length counts) (links .fewProductions) (links .fewArguments)
 
@@ -58,14 +58,14 @@ module _ (counts chars users uses empty back w chart sums live : List ℕ) (rows
 
   module _ (inner args₀ x₀ x args chart′ sums′ live′ : List ℕ)
       (gathered : (r : ℕ) → r < rows → getD inner r 0 ≡ getD sums (r * places + i) 0)
-      (bare : RowsFilled (λ (p d : ℕ). bitOf (eqb (i + 1) j && slotHas chars (slot p d) (getD w i 0))) counts (length counts) args₀)
+      (bare : RowsFilled (λ (p d : ℕ). bitOf (eqb (i + 1) j && takesChar tables (slot p d) (getD w i 0))) counts (length counts) args₀)
       (zeros : AllZero rowLimit x₀) (settled : Settled (spanOf counts users inner empty back (λ k. getD args₀ k 0)) x₀ args x)
       (stored : Scattered (λ (r : ℕ). placeAt (length w) r i j) (λ (r : ℕ). getD x r 0) rows chart chart′)
       (added : SplitsAdded (length w) rows i chart′ args sums live sums′ live′) where
-    module _ (subs : ℕ → ℕ → ℕ → Bool) (takes : UsersAre counts users subs) (bottom : EmptyRight (grammarBy counts chars subs) empty back) (before : List ℕ)
-        (fill : Filling (grammarBy counts chars subs) w empty before chart (i + 1) j) (summing : Summing (grammarBy counts chars subs) w empty chart sums live (i + 1) j) where
+    module _ (subs : ℕ → ℕ → ℕ → Bool) (takes : UsersAre counts users subs) (bottom : EmptyRight (grammarBy counts tables subs) empty back) (before : List ℕ)
+        (fill : Filling (grammarBy counts tables subs) w empty before chart (i + 1) j) (summing : Summing (grammarBy counts tables subs) w empty chart sums live (i + 1) j) where
       abbrev g : Grammar
-      g = grammarBy counts chars subs
+      g = grammarBy counts tables subs
 
       known : Knows g w empty back bottom few-rows (ready .short) before chart sums live i j ij jw fill summing (λ q r. getD users (userAt q r) 0) (λ k. getD args₀ k 0) (λ k. getD inner k 0)
       unfolding charEntry
@@ -92,18 +92,18 @@ module _ (counts chars users uses empty back w chart sums live : List ℕ) (rows
             known x₀ x args zeros (settled .came) (settled .closedAll) (settled .agree) chart′ stored-all sums′ live′ added-all,
       )
 
-    pub span-further : Further counts chars users empty back w chart sums live (i + 1) j chart′ sums′ live′ i
+    pub span-further : Further counts tables users empty back w chart sums live (i + 1) j chart′ sums′ live′ i
     span-further = record { further = span-filled }
 
   -- ---- nothing spells it
 
-  pub span-skipped : (i + 1 ≡ j → ⊥) → getD live i 0 ≡ 0 → SmallSums rows j sums → Further counts chars users empty back w chart sums live (i + 1) j chart sums live i
+  pub span-skipped : (i + 1 ≡ j → ⊥) → getD live i 0 ≡ 0 → SmallSums rows j sums → Further counts tables users empty back w chart sums live (i + 1) j chart sums live i
   span-skipped apart dead small =
       record {
         further = λ subs takes bottom before fill summing. (
-          filling-skip (grammarBy counts chars subs) w empty back bottom few-rows (ready .short) before chart sums live i j ij jw apart fill summing dead
+          filling-skip (grammarBy counts tables subs) w empty back bottom few-rows (ready .short) before chart sums live i j ij jw apart fill summing dead
               (subst (λ (n : ℕ). SmallSums n j sums) (ready .rowsAre) small) (λ q r. getD users (userAt q r) 0) (takes .takes),
-          summing-skip (grammarBy counts chars subs) w empty back bottom few-rows (ready .short) before chart sums live i j ij jw apart fill summing dead
+          summing-skip (grammarBy counts tables subs) w empty back bottom few-rows (ready .short) before chart sums live i j ij jw apart fill summing dead
               (subst (λ (n : ℕ). SmallSums n j sums) (ready .rowsAre) small) (λ q r. getD users (userAt q r) 0) (takes .takes),
         );
       }

@@ -11,7 +11,8 @@ use lib.ListN.{length, getD, List·getD-eq-default}
 use borrow.Author.Tests.{ne-eqb}
 use Rattle.chart.proofs.LayoutLaws.{row-in, row-shift}
 use Rattle.chart.specs.Counted.{entryOf, CountedBy}
-use Rattle.chart.specs.Layout.{textLimit, places, rowLimit, rowOf, rowCount, cellAt, entryAt}
+use Rattle.chart.specs.Layout.{textLimit, places, rowLimit, rowOf, cellAt, entryAt}
+use Rattle.tables.specs.Layout.{rowCount}
 use Rattle.chart.proofs.ByEndsLaws.{place-below, place-same}
 use Rattle.chart.specs.ByEnds.{placeAt, Turned}
 use Rattle.column.specs.Scattered.{Scattered}

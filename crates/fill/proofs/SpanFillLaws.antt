@@ -11,7 +11,8 @@ use lib.ListN.{length, getD, set, length-set}
 use lib.Seq.{set-out, getD-set-same, getD-set-other}
 use borrow.Author.Tests.{eq-eqb, ne-eqb}
 use Rattle.chart.proofs.LayoutLaws.{row-in, row-same, row-shift}
-use Rattle.chart.specs.Layout.{rowLimit, rowOf, rowCount, entryAt}
+use Rattle.chart.specs.Layout.{rowLimit, rowOf, entryAt}
+use Rattle.tables.specs.Layout.{rowCount}
 use Rattle.chart.specs.ByEnds.{placeAt}
 use Rattle.common.proofs.BelowLaws.{sum-same}
 use Rattle.common.specs.Below.{sumBelow, bitOf}

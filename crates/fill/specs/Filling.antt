@@ -5,7 +5,8 @@ use mathlib.Core.Bool.{cond, _&&_}
 use mathlib.Core.List.{List}
 use lib.Dec.{eqb}
 use lib.ListN.{length, getD}
-use Rattle.chart.specs.Layout.{places, rowLimit, rowOf, rowCount, chartBytes, entryAt}
+use Rattle.chart.specs.Layout.{places, rowLimit, rowOf, chartBytes, entryAt}
+use Rattle.tables.specs.Layout.{rowCount}
 use Rattle.chart.specs.ByEnds.{placeAt}
 use Rattle.common.specs.Below.{sumBelow}
 use Rattle.theory.specs.Counts.{Shown}

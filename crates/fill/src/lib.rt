@@ -2,7 +2,6 @@
 use chart::by_ends::clear;
 use chart::by_ends::turn_rows;
 use chart::layout::PLACES;
-use chart::layout::row_count;
 use chart::sums::zero_row;
 use column::SUMS;
 use column::add_splits;
@@ -15,14 +14,18 @@ use links::link;
 use span::USERS;
 use span::USES;
 use span::settle;
+use tables::argument_counts;
+use tables::production_count;
+use tables::row_count;
 ghost use mathlib.Core.Path.{_≡_};
 ghost use mathlib.Core.Bool.{not, _&&_};
 ghost use lib.Dec.{eqb};
 ghost use Prim.Native.Nat.{ℕ, _+_, _*_, _<_, _≤_};
 ghost use lib.ListN.{length, getD};
 ghost use Rattle.common.specs.Zeros.{AllZero};
-ghost use Rattle.ccg.specs.Theory.{theoryOf, ParserTables};
-ghost use Rattle.chart.specs.Layout.{arityIn, textLimit, rowLimit, places, chartBytes};
+ghost use Rattle.tables.specs.Layout.{countsOf};
+ghost use Rattle.tables.specs.Theory.{theoryOf};
+ghost use Rattle.chart.specs.Layout.{rowLimit, places, chartNeed, ChartFits};
 ghost use Rattle.chart.specs.Counted.{CountedBy};
 ghost use Rattle.theory.specs.Steps.{everything};
 ghost use Rattle.span.specs.Tables.{Links, userBytes, useBytes};
@@ -45,7 +48,7 @@ fn fill_span(
     chart: &mut [u8],
     text: &[u8],
     counts: &[u8],
-    chars: &[u64],
+    tables: &[u64],
     users: &[u8],
     uses: &[u8],
     rows: usize,
@@ -57,10 +60,10 @@ fn fill_span(
     j: usize,
 )
     requires { ⌜ Links (now counts) (now users) (now uses) ⌝ }
-    requires { ⌜ Ready (now counts) (now chars) (now empty) (now back) (now sums) (now live) (now text) (now chart) rows ⌝ }
+    requires { ⌜ Ready (now counts) (now tables) (now empty) (now back) (now sums) (now live) (now text) (now chart) rows ⌝ }
     requires { ⌜ (i < j) × (j ≤ length (now text)) ⌝ }
     requires { ⌜ SmallCells (length (now text)) rows (j + 1) (now chart) × SmallSums rows j (now sums) ⌝ }
-    ensures { λ _. ⌜ Further (now (counts .entry)) (now (chars .entry)) (now (users .entry)) (now (empty .entry)) (now (back .entry)) (now (text .entry)) (now (chart .entry)) (now (sums .entry)) (now (live .entry)) (i + 1) j (now (chart .exit)) (now (sums .exit)) (now (live .exit)) i ⌝ }
+    ensures { λ _. ⌜ Further (now (counts .entry)) (now (tables .entry)) (now (users .entry)) (now (empty .entry)) (now (back .entry)) (now (text .entry)) (now (chart .entry)) (now (sums .entry)) (now (live .entry)) (i + 1) j (now (chart .exit)) (now (sums .exit)) (now (live .exit)) i ⌝ }
     ensures { λ _. ⌜ SmallCells (length (now (text .entry))) rows (j + 1) (now (chart .exit)) × SmallSums rows j (now (sums .exit)) ⌝ }
 {
     if is_dead(live, i, j) {
@@ -70,7 +73,7 @@ fn fill_span(
     sums_at(sums, rows, i, &mut inner);
     let mut cells = zero_row();
     let mut args = zero_row();
-    bare_args(text, counts, chars, i, j, &mut args);
+    bare_args(text, counts, tables, i, j, &mut args);
     settle(
         counts,
         rows,
@@ -91,7 +94,7 @@ fn fill_spans(
     chart: &mut [u8],
     text: &[u8],
     counts: &[u8],
-    chars: &[u64],
+    tables: &[u64],
     users: &[u8],
     uses: &[u8],
     rows: usize,
@@ -102,10 +105,10 @@ fn fill_spans(
     j: usize,
 )
     requires { ⌜ Links (now counts) (now users) (now uses) ⌝ }
-    requires { ⌜ Ready (now counts) (now chars) (now empty) (now back) (now sums) (now live) (now text) (now chart) rows ⌝ }
+    requires { ⌜ Ready (now counts) (now tables) (now empty) (now back) (now sums) (now live) (now text) (now chart) rows ⌝ }
     requires { ⌜ j ≤ length (now text) ⌝ }
     requires { ⌜ SmallCells (length (now text)) rows (j + 1) (now chart) × SmallSums rows j (now sums) ⌝ }
-    ensures { λ _. ⌜ Further (now (counts .entry)) (now (chars .entry)) (now (users .entry)) (now (empty .entry)) (now (back .entry)) (now (text .entry)) (now (chart .entry)) (now (sums .entry)) (now (live .entry)) j j (now (chart .exit)) (now (sums .exit)) (now (live .exit)) 0 ⌝ }
+    ensures { λ _. ⌜ Further (now (counts .entry)) (now (tables .entry)) (now (users .entry)) (now (empty .entry)) (now (back .entry)) (now (text .entry)) (now (chart .entry)) (now (sums .entry)) (now (live .entry)) j j (now (chart .exit)) (now (sums .exit)) (now (live .exit)) 0 ⌝ }
     ensures { λ _. ⌜ SmallCells (length (now (text .entry))) rows (j + 1) (now (chart .exit)) ⌝ }
 {
     let mut i = j;
@@ -115,7 +118,7 @@ fn fill_spans(
             chart,
             text,
             counts,
-            chars,
+            tables,
             users,
             uses,
             rows,
@@ -134,7 +137,7 @@ fn fill_column(
     chart: &mut [u8],
     text: &[u8],
     counts: &[u8],
-    chars: &[u64],
+    tables: &[u64],
     users: &[u8],
     uses: &[u8],
     rows: usize,
@@ -145,10 +148,10 @@ fn fill_column(
     j: usize,
 )
     requires { ⌜ Links (now counts) (now users) (now uses) ⌝ }
-    requires { ⌜ Ready (now counts) (now chars) (now empty) (now back) (now sums) (now live) (now text) (now chart) rows ⌝ }
+    requires { ⌜ Ready (now counts) (now tables) (now empty) (now back) (now sums) (now live) (now text) (now chart) rows ⌝ }
     requires { ⌜ j ≤ length (now text) ⌝ }
     requires { ⌜ SmallCells (length (now text)) rows j (now chart) ⌝ }
-    ensures { λ _. ⌜ Onward (now (counts .entry)) (now (chars .entry)) (now (users .entry)) (now (empty .entry)) (now (back .entry)) (now (text .entry)) (now (chart .entry)) j (now (chart .exit)) (j + 1) ⌝ }
+    ensures { λ _. ⌜ Onward (now (counts .entry)) (now (tables .entry)) (now (users .entry)) (now (empty .entry)) (now (back .entry)) (now (text .entry)) (now (chart .entry)) j (now (chart .exit)) (j + 1) ⌝ }
     ensures { λ _. ⌜ SmallCells (length (now (text .entry))) rows (j + 1) (now (chart .exit)) ⌝ }
 {
     clear_column(chart, text.len(), rows, j);
@@ -158,7 +161,7 @@ fn fill_column(
         chart,
         text,
         counts,
-        chars,
+        tables,
         users,
         uses,
         rows,
@@ -176,7 +179,7 @@ fn fill_columns(
     chart: &mut [u8],
     text: &[u8],
     counts: &[u8],
-    chars: &[u64],
+    tables: &[u64],
     users: &[u8],
     uses: &[u8],
     rows: usize,
@@ -186,8 +189,8 @@ fn fill_columns(
     live: &mut [u8],
 )
     requires { ⌜ Links (now counts) (now users) (now uses) ⌝ }
-    requires { ⌜ Ready (now counts) (now chars) (now empty) (now back) (now sums) (now live) (now text) (now chart) rows ⌝ }
-    ensures { λ _. ⌜ Onward (now (counts .entry)) (now (chars .entry)) (now (users .entry)) (now (empty .entry)) (now (back .entry)) (now (text .entry)) (now (chart .entry)) 0 (now (chart .exit)) (length (now (text .entry)) + 1) ⌝ }
+    requires { ⌜ Ready (now counts) (now tables) (now empty) (now back) (now sums) (now live) (now text) (now chart) rows ⌝ }
+    ensures { λ _. ⌜ Onward (now (counts .entry)) (now (tables .entry)) (now (users .entry)) (now (empty .entry)) (now (back .entry)) (now (text .entry)) (now (chart .entry)) 0 (now (chart .exit)) (length (now (text .entry)) + 1) ⌝ }
     ensures { λ _. ⌜ SmallCells (length (now (text .entry))) rows (length (now (text .entry)) + 1) (now (chart .exit)) ⌝ }
 {
     let mut j = 0;
@@ -196,7 +199,7 @@ fn fill_columns(
             chart,
             text,
             counts,
-            chars,
+            tables,
             users,
             uses,
             rows,
@@ -229,26 +232,37 @@ fn zero_sums() -> [u8; SUMS]
 }
 
 // Fills the chart of a text by the flat tables. Bytes beyond the chart stay.
-pub fn fill(chart: &mut [u8], text: &[u8], counts: &[u8], chars: &[u64], subs: &[u8])
-    requires { ⌜ ParserTables (now counts) (now chars) (now subs) ⌝ }
-    requires { ⌜ (length (now text) ≤ textLimit) × (chartBytes (arityIn (now counts)) (length (now counts)) (length (now text)) ≤ length (now chart)) ⌝ }
-    ensures { λ _. ⌜ CountedBy (theoryOf (now (counts .entry)) (now (chars .entry)) (now (subs .entry))) (now (text .entry)) everything (now (chart .exit)) ⌝ }
-    ensures { λ _. ⌜ ((k : ℕ) → chartBytes (arityIn (now (counts .entry))) (length (now (counts .entry))) (length (now (text .entry))) ≤ k → getD (now (chart .exit)) k 0 ≡ getD (now (chart .entry)) k 0) ⌝ }
+pub fn fill(chart: &mut [u8], text: &[u8], tables: &[u64])
+    requires { ⌜ ChartFits (now tables) (length (now text)) (now chart) ⌝ }
+    ensures { λ _. ⌜ CountedBy (theoryOf (now (tables .entry))) (now (text .entry)) everything (now (chart .exit)) ⌝ }
+    ensures { λ _. ⌜ ((k : ℕ) → chartNeed (now (tables .entry)) (length (now (text .entry))) ≤ k → getD (now (chart .exit)) k 0 ≡ getD (now (chart .entry)) k 0) ⌝ }
+{
+    let counts = argument_counts(tables);
+    let count = production_count(tables);
+    fill_by_counts(chart, text, &counts[..count], tables);
+}
+
+// The same with the argument counts as bytes.
+fn fill_by_counts(chart: &mut [u8], text: &[u8], counts: &[u8], tables: &[u64])
+    requires { ⌜ ChartFits (now tables) (length (now text)) (now chart) ⌝ }
+    requires { ⌜ now counts ≡ countsOf (now tables) ⌝ }
+    ensures { λ _. ⌜ CountedBy (theoryOf (now (tables .entry))) (now (text .entry)) everything (now (chart .exit)) ⌝ }
+    ensures { λ _. ⌜ ((k : ℕ) → chartNeed (now (tables .entry)) (length (now (text .entry))) ≤ k → getD (now (chart .exit)) k 0 ≡ getD (now (chart .entry)) k 0) ⌝ }
 {
     let mut users = zero_users();
     let mut uses = zero_uses();
-    link(counts, subs, &mut users, &mut uses);
+    link(counts, tables, &mut users, &mut uses);
+    let rows = row_count(tables);
     let mut empty = zero_row();
     let mut back = zero_row();
-    settle_empty(counts, &users, &uses, &mut back, &mut empty);
-    let rows = row_count(counts);
+    settle_empty(counts, rows, &users, &uses, &mut back, &mut empty);
     let mut sums = zero_sums();
     let mut live = [0; PLACES];
     fill_columns(
         chart,
         text,
         counts,
-        chars,
+        tables,
         &users,
         &uses,
         rows,

@@ -1,16 +1,14 @@
 -- Laws of the tables of users and uses, written row by row.
 use Prim.Native.Nat.{ℕ, _+_, _≤_, _<_}
-use mathlib.Core.Path.{_≡_, _∙_, ap, subst}
+use mathlib.Core.Path.{_≡_, _∙_, ap}
 use mathlib.Core.List.{List}
 use mathlib.Core.Logic.{by-cases}
 use native.Mathlib.Omega.{arith}
 use native.Mathlib.Decide.{decLt}
-use lib.Dec.{eqb}
 use lib.ListN.{length, getD}
-use Rattle.ccg.specs.Tables.{slot, subAt}
+use Rattle.tables.specs.Layout.{slot, takesProduction, arityIn, rowCount}
 use Rattle.chart.proofs.LayoutLaws.{row-in, row-next, row-same, row-shift, rows-few}
-use Rattle.chart.specs.Layout.{rowLimit, arityIn, rowOf, rowCount}
-use Rattle.common.proofs.BelowLaws.{bit-test}
+use Rattle.chart.specs.Layout.{rowLimit, rowOf}
 use Rattle.common.specs.Below.{sumBelow, bitOf}
 use Rattle.common.specs.Zeros.{AllZero}
 use Rattle.grammar.specs.Limits.{productionLimit, argumentLimit}
@@ -21,9 +19,9 @@ use Rattle.span.specs.Tables.{userAt, useAt, userBytes, useBytes, Links, UsersA
 pub row-below : (counts : List ℕ) (p d : ℕ) → length counts ≤ productionLimit → ((k : ℕ) → arityIn counts k ≤ argumentLimit) → p < length counts → d ≤ arityIn counts p → rowOf (arityIn counts) p d < rowLimit
 row-below counts p d few short l h = omega (arith, row-in (arityIn counts) p d (length counts) l h, rows-few (arityIn counts) (length counts) few short)
 
-module _ (counts subs : List ℕ) where
+module _ (counts tables : List ℕ) where
   -- before the first row
-  pub linked-none : (users uses : List ℕ) → AllZero userBytes users → AllZero useBytes uses → LinkedTo counts subs (rowOf (arityIn counts) 0 0) users uses
+  pub linked-none : (users uses : List ℕ) → AllZero userBytes users → AllZero useBytes uses → LinkedTo counts tables (rowOf (arityIn counts) 0 0) users uses
   unfolding rowOf sumBelow
   linked-none users uses z y =
       record {
@@ -36,7 +34,7 @@ module _ (counts subs : List ℕ) where
       }
 
   -- the row after the last argument of a production takes nothing
-  pub linked-last : (p : ℕ) (users uses : List ℕ) → LinkedTo counts subs (rowOf (arityIn counts) p (arityIn counts p)) users uses → LinkedTo counts subs (rowOf (arityIn counts) (p + 1) 0) users uses
+  pub linked-last : (p : ℕ) (users uses : List ℕ) → LinkedTo counts tables (rowOf (arityIn counts) p (arityIn counts p)) users uses → LinkedTo counts tables (rowOf (arityIn counts) (p + 1) 0) users uses
   linked-last p users uses t =
       record {
         usersLong = t .usersLong;
@@ -57,8 +55,8 @@ module _ (counts subs : List ℕ) where
   module _ (few : length counts ≤ productionLimit) (short : (p : ℕ) → arityIn counts p ≤ argumentLimit) where
     -- one row more
     module _ (p d : ℕ) (users uses users′ uses′ : List ℕ) (l : p < length counts) (h : d < arityIn counts p)
-        (t : LinkedTo counts subs (rowOf (arityIn counts) p d) users uses)
-        (r : RowLinked subs (slot p d) (rowOf (arityIn counts) p d) p (length counts) users uses users′ uses′) where
+        (t : LinkedTo counts tables (rowOf (arityIn counts) p d) users uses)
+        (r : RowLinked tables (slot p d) (rowOf (arityIn counts) p d) p (length counts) users uses users′ uses′) where
       -- an earlier row is as it was
       sooner : (p′ d′ q : ℕ) → p′ < length counts → d′ < arityIn counts p′ → rowOf (arityIn counts) p′ d′ < rowOf (arityIn counts) p d
           → getD users′ (userAt q (rowOf (arityIn counts) p′ d′)) 0 ≡ getD users (userAt q (rowOf (arityIn counts) p′ d′)) 0
@@ -70,7 +68,7 @@ module _ (counts subs : List ℕ) where
       this-row p′ d′ h′ b k = row-same (arityIn counts) p′ p d′ d (omega arith) (omega arith) (omega (arith, row-shift (arityIn counts) p d))
 
       takes-too : (p′ d′ q : ℕ) → p′ < length counts → d′ < arityIn counts p′ → q < length counts → rowOf (arityIn counts) p′ d′ < rowOf (arityIn counts) p (d + 1)
-          → getD users′ (userAt q (rowOf (arityIn counts) p′ d′)) 0 ≡ getD subs (subAt (slot p′ d′) q) 0
+          → getD users′ (userAt q (rowOf (arityIn counts) p′ d′)) 0 ≡ bitOf (takesProduction tables (slot p′ d′) q)
       takes-too p′ d′ q l′ h′ m b =
           by-cases (decLt (rowOf (arityIn counts) p′ d′) (rowOf (arityIn counts) p d))
           (λ k. sooner p′ d′ q l′ h′ k ∙ t .takes p′ d′ q l′ h′ m k)
@@ -90,7 +88,7 @@ module _ (counts subs : List ℕ) where
           let after : rowOf (arityIn counts) p d < k = omega (arith, row-shift (arityIn counts) p d) in
           r .others q k m (λ e. omega arith) ∙ t .later q k (omega arith) m
 
-      pub linked-row : LinkedTo counts subs (rowOf (arityIn counts) p (d + 1)) users′ uses′
+      pub linked-row : LinkedTo counts tables (rowOf (arityIn counts) p (d + 1)) users′ uses′
       linked-row =
           record {
             usersLong = r .usersLong ∙ t .usersLong;
@@ -102,7 +100,7 @@ module _ (counts subs : List ℕ) where
           }
 
     -- all rows
-    module _ (users uses : List ℕ) (t : LinkedTo counts subs (rowOf (arityIn counts) (length counts) 0) users uses) where
+    module _ (users uses : List ℕ) (t : LinkedTo counts tables (rowOf (arityIn counts) (length counts) 0) users uses) where
       inside : (p d : ℕ) → p < length counts → d < arityIn counts p → rowOf (arityIn counts) p d < rowOf (arityIn counts) (length counts) 0
       unfolding rowOf rowCount
       inside p d l h = omega (arith, row-in (arityIn counts) p d (length counts) l (omega arith))
@@ -123,8 +121,5 @@ module _ (counts subs : List ℕ) where
             outside = λ q r m b l. beyond q r b l;
           }
 
-      pub linked-users : UsersAre counts users (λ p d q. eqb (getD subs (subAt (slot p d) q) 0) 1)
-      linked-users =
-          record {
-            takes = λ p d q l h m. subst (λ (v : ℕ). getD users (userAt q (rowOf (arityIn counts) p d)) 0 ≡ bitOf (eqb v 1)) (t .takes p d q l h m (inside p d l h)) (bit-test (getD users (userAt q (rowOf (arityIn counts) p d)) 0) (t .bits (userAt q (rowOf (arityIn counts) p d))));
-          }
+      pub linked-users : UsersAre counts users (λ p d q. takesProduction tables (slot p d) q)
+      linked-users = record { takes = λ p d q l h m. t .takes p d q l h m (inside p d l h) }

@@ -7,10 +7,12 @@ use native.Mathlib.Omega.{arith}
 use native.Mathlib.Decide.{ℕ-discrete, decLt}
 use lib.ListN.{length, getD, set, length-set}
 use lib.Seq.{getD-set-same, getD-set-other}
-use Rattle.ccg.specs.Tables.{subAt}
+use Rattle.tables.specs.Layout.{takesProduction}
 use Rattle.chart.specs.Layout.{rowLimit}
 use Rattle.links.specs.Linked.{RowLinked}
+use Rattle.common.specs.Below.{bitOf}
 use Rattle.span.specs.Tables.{userAt, useAt}
+use Rattle.theory.proofs.SoundLaws.{bit-small}
 
 -- no entry falls when one is raised
 raised-grows : (l : List ℕ) (i v : ℕ) → i < length l → getD l i 0 ≤ v → (k : ℕ) → getD l k 0 ≤ getD (set l i v) k 0
@@ -35,8 +37,8 @@ user-places : (q q′ r : ℕ) → userAt q r ≡ userAt q′ r → q ≡ q′
 unfolding userAt
 user-places q q′ r e = omega arith
 
-module _ (subs : List ℕ) (s row p : ℕ) (users₀ uses₀ : List ℕ) where
-  pub row-none : RowLinked subs s row p 0 users₀ uses₀ users₀ uses₀
+module _ (tables : List ℕ) (s row p : ℕ) (users₀ uses₀ : List ℕ) where
+  pub row-none : RowLinked tables s row p 0 users₀ uses₀ users₀ uses₀
   row-none =
       record {
         usersLong = refl;
@@ -49,23 +51,23 @@ module _ (subs : List ℕ) (s row p : ℕ) (users₀ uses₀ : List ℕ) where
       }
 
   -- one production more: its entry of `users` is written, that of `uses` is raised to it
-  module _ (n : ℕ) (users uses : List ℕ) (w : ℕ) (small : getD subs (subAt s n) 0 ≤ 1) (rowIn : row < rowLimit)
+  module _ (n : ℕ) (users uses : List ℕ) (v w : ℕ) (is : v ≡ bitOf (takesProduction tables s n)) (rowIn : row < rowLimit)
       (userIn : userAt n row < length users₀) (useIn : useAt n p < length uses₀)
-      (largest : w ≡ max (getD uses (useAt n p) 0) (getD subs (subAt s n) 0))
-      (r : RowLinked subs s row p n users₀ uses₀ users uses) where
+      (largest : w ≡ max (getD uses (useAt n p) 0) v)
+      (r : RowLinked tables s row p n users₀ uses₀ users uses) where
     users′ : List ℕ
-    users′ = set users (userAt n row) (getD subs (subAt s n) 0)
+    users′ = set users (userAt n row) v
 
     uses′ : List ℕ
     uses′ = set uses (useAt n p) w
 
-    written : getD users′ (userAt n row) 0 ≡ getD subs (subAt s n) 0
+    written : getD users′ (userAt n row) 0 ≡ bitOf (takesProduction tables s n)
     unfolding users′
-    written = getD-set-same users (userAt n row) (getD subs (subAt s n) 0) 0 (omega (arith, r .usersLong))
+    written = getD-set-same users (userAt n row) v 0 (omega (arith, r .usersLong)) ∙ is
 
     kept : (k : ℕ) → (k ≡ userAt n row → ⊥) → getD users′ k 0 ≡ getD users k 0
     unfolding users′
-    kept k e = getD-set-other users (userAt n row) k (getD subs (subAt s n) 0) 0 e
+    kept k e = getD-set-other users (userAt n row) k v 0 e
 
     raised : getD uses′ (useAt n p) 0 ≡ w
     unfolding uses′
@@ -81,29 +83,29 @@ module _ (subs : List ℕ) (s row p : ℕ) (users₀ uses₀ : List ℕ) where
     still-bits : (k : ℕ) → getD users′ k 0 ≤ max 1 (getD users₀ k 0)
     still-bits k =
         elim (ℕ-discrete k (userAt n row)) [
-          | yes e ↦ subst⁻¹ (λ (x : ℕ). getD users′ x 0 ≤ max 1 (getD users₀ x 0)) e (omega (arith, written))
+          | yes e ↦ subst⁻¹ (λ (x : ℕ). getD users′ x 0 ≤ max 1 (getD users₀ x 0)) e (omega (arith, written, bit-small (takesProduction tables s n)))
           | no e ↦ omega (arith, kept k e, r .bits k)
         ]
 
-    takes-too : (q : ℕ) → q < n + 1 → getD users′ (userAt q row) 0 ≡ getD subs (subAt s q) 0
+    takes-too : (q : ℕ) → q < n + 1 → getD users′ (userAt q row) 0 ≡ bitOf (takesProduction tables s q)
     takes-too q l =
         elim (ℕ-discrete q n) [
-          | yes e ↦ subst⁻¹ (λ (x : ℕ). getD users′ (userAt x row) 0 ≡ getD subs (subAt s x) 0) e written
+          | yes e ↦ subst⁻¹ (λ (x : ℕ). getD users′ (userAt x row) 0 ≡ bitOf (takesProduction tables s x)) e written
           | no e ↦ kept (userAt q row) (λ f. e (user-places q n row f)) ∙ r .takes q (earlier q l e)
         ]
 
-    used-too : (q : ℕ) → q < n + 1 → getD subs (subAt s q) 0 ≤ getD uses′ (useAt q p) 0
+    used-too : (q : ℕ) → q < n + 1 → bitOf (takesProduction tables s q) ≤ getD uses′ (useAt q p) 0
     used-too q l =
         elim (ℕ-discrete q n) [
-          | yes e ↦ subst⁻¹ (λ (x : ℕ). getD subs (subAt s x) 0 ≤ getD uses′ (useAt x p) 0) e (omega (arith, raised))
+          | yes e ↦ subst⁻¹ (λ (x : ℕ). bitOf (takesProduction tables s x) ≤ getD uses′ (useAt x p) 0) e (omega (arith, raised, is))
           | no e ↦ omega (arith, r .used q (earlier q l e), risen (useAt q p))
         ]
 
-    pub row-more : RowLinked subs s row p (n + 1) users₀ uses₀ (set users (userAt n row) (getD subs (subAt s n) 0)) (set uses (useAt n p) w)
+    pub row-more : RowLinked tables s row p (n + 1) users₀ uses₀ (set users (userAt n row) v) (set uses (useAt n p) w)
     unfolding users′ uses′
     row-more =
         record {
-          usersLong = length-set users (userAt n row) (getD subs (subAt s n) 0) ∙ r .usersLong;
+          usersLong = length-set users (userAt n row) v ∙ r .usersLong;
           usesLong = length-set uses (useAt n p) w ∙ r .usesLong;
           bits = still-bits;
           takes = takes-too;

@@ -5,7 +5,8 @@ use mathlib.Core.Bool.{true}
 use mathlib.Core.List.{List, [], _∷_}
 use Rattle.ccg.specs.Flat.{mayStand}
 use Rattle.charset.specs.Set.{inRange}
-use Rattle.chart.specs.Layout.{rowCount, spanCount}
+use Rattle.chart.specs.Layout.{spanCount}
+use Rattle.tables.specs.Layout.{rowCount}
 use Rattle.common.specs.Below.{sumBelow, allBelow, anyBelow}
 use Rattle.common.specs.Lists.{tabulate}
 use Rattle.grammar.specs.Check.{shortHeader, headerBytes, badHeader, shortContents, badArgumentCount, badRangeCount, badLength, namesArgument, badArgument, badProduction, badRange, declarationBytes, badDeclaration, sameProduction, repeatedProduction}

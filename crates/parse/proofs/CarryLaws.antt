@@ -12,7 +12,8 @@ use Rattle.ccg.specs.Tables.{FlatTables}
 use Rattle.ccg.specs.Theory.{theoryOf}
 use Rattle.charset.specs.Set.{characters}
 use Rattle.chart.proofs.LayoutLaws.{rows-few}
-use Rattle.chart.specs.Layout.{rowLimit, arityIn, rowOf, rowCount, spanCount, cellAt, chartBytes, entryAt}
+use Rattle.chart.specs.Layout.{rowLimit, rowOf, spanCount, cellAt, chartBytes, entryAt}
+use Rattle.tables.specs.Layout.{arityIn, rowCount}
 use Rattle.common.proofs.BelowLaws.{sum-same}
 use Rattle.common.specs.Below.{bitOf}
 use Rattle.engine.specs.Outcome.{Answered, Parsed}

@@ -9,7 +9,8 @@ use native.Mathlib.Nat.{le-refl, mul-le-mul}
 use lib.ListN.{length, getD, take, drop, set}
 use lib.Seq.{getD-take, getD-drop}
 use Rattle.chart.proofs.LayoutLaws.{row-in, rows-few}
-use Rattle.chart.specs.Layout.{rowLimit, arityIn, rowOf, rowCount}
+use Rattle.chart.specs.Layout.{rowLimit, rowOf}
+use Rattle.tables.specs.Layout.{arityIn, rowCount}
 use Rattle.common.proofs.BelowLaws.{sum-bound}
 use Rattle.grammar.specs.Limits.{productionLimit}
 use Rattle.span.proofs.AdvanceLaws.{advanced-within}

@@ -4,7 +4,8 @@ use mathlib.Core.Path.{_≡_}
 use mathlib.Core.Bool.{Bool, false}
 use mathlib.Core.List.{List}
 use lib.ListN.{length, getD, set}
-use Rattle.chart.specs.Layout.{rowLimit, arityIn, rowOf, rowCount}
+use Rattle.chart.specs.Layout.{rowLimit, rowOf}
+use Rattle.tables.specs.Layout.{arityIn, rowCount}
 use Rattle.common.specs.Below.{bitOf}
 use Rattle.grammar.specs.Limits.{productionLimit, argumentLimit}
 use Rattle.span.specs.Span.{Span, argumentOf, ClosedAt, Raised, spare}

@@ -14,7 +14,8 @@ ghost use Prim.Native.Nat.{ℕ, _+_, _*_, _<_, _≤_, max};
 ghost use lib.ListN.{length, getD};
 ghost use Rattle.theory.specs.Steps.{cap};
 ghost use Rattle.grammar.specs.Limits.{productionLimit};
-ghost use Rattle.chart.specs.Layout.{arityIn, rowCount, rowLimit, rowOf};
+ghost use Rattle.chart.specs.Layout.{rowLimit, rowOf};
+ghost use Rattle.tables.specs.Layout.{arityIn, rowCount};
 ghost use Rattle.span.specs.Tables.{spanOf, advanced, Exact, Founded, Links, Loads, Visited, Settled};
 ghost use Rattle.common.specs.Bytes.{byteValues};
 

@@ -1,12 +1,12 @@
 -- Where the words of the tables stand, and what they say.
-use Prim.Native.Nat.{ℕ, _+_, _*_, _≤_, _<_}
+use Prim.Native.Nat.{ℕ, _+_, _≤_, _<_}
 use mathlib.Core.Path.{_≡_, _∙_}
 use mathlib.Core.List.{List}
 use native.Mathlib.Omega.{arith}
-use lib.ListN.{length, getD, drop, length-drop}
-use lib.Seq.{length-take-le, getD-take, getD-drop}
+use lib.ListN.{length, getD, take, drop, length-drop}
+use lib.Seq.{length-take-le, getD-take, getD-drop, ext-getD}
 use Rattle.grammar.specs.Limits.{productionLimit, argumentLimit}
-use Rattle.tables.specs.Layout.{slot, slots, countsAt, classWords, classAt, tableWords, countOf, countsOf, arityIn}
+use Rattle.tables.specs.Layout.{slot, slots, countsAt, classWords, classAt, tableWords, countOf, countsOf, arityIn, ParserTables}
 
 -- ---- counts
 
@@ -15,9 +15,20 @@ pub counts-long : (t : List ℕ) → length t ≡ tableWords → countOf t ≤ p
 unfolding countsOf
 counts-long t l h = length-take-le (countOf t) (drop countsAt t) (simp length-drop (omega arith))
 
+-- so there are few
+pub counts-few : (t : List ℕ) → ParserTables t → length (countsOf t) ≤ productionLimit
+counts-few t h = omega (arith, counts-long t (h .long) (h .fewProductions), h .fewProductions)
+
 pub count-at : (t : List ℕ) (p : ℕ) → p < countOf t → arityIn (countsOf t) p ≡ getD t (countsAt + p) 0
 unfolding countsOf
 count-at t p l = getD-take (countOf t) (drop countsAt t) p 0 l ∙ getD-drop countsAt t p 0
+
+-- a table that has a count for each production begins with the counts
+pub counts-copied : (t r : List ℕ) (n : ℕ) → n ≡ length (countsOf t) → n ≤ length r → ((p : ℕ) → p < length (countsOf t) → getD r p 0 ≡ arityIn (countsOf t) p)
+    → take n r ≡ countsOf t
+counts-copied t r n e l are =
+    ext-getD 0 (take n r) (countsOf t) (length-take-le n r l ∙ e)
+    (λ p m. let o : p < n = omega (arith, length-take-le n r l) in getD-take n r p 0 o ∙ are p (omega arith))
 
 -- ---- slots
 

@@ -1,6 +1,6 @@
 -- What writing changes in the tables: counts one by one, and a class among others.
 use Prim.Native.Nat.{ℕ, _+_, _*_, _/_, _%_, _≤_, _<_}
-use mathlib.Core.Path.{_≡_, refl, sym, _∙_, ap, subst⁻¹}
+use mathlib.Core.Path.{_≡_, sym, _∙_, ap, subst⁻¹}
 use mathlib.Core.Bool.{Bool, false}
 use mathlib.Core.List.{List}
 use mathlib.Core.Logic.{_≢_, by-cases}
@@ -13,7 +13,7 @@ use Rattle.common.proofs.BelowLaws.{sum-none, sum-more}
 use Rattle.common.specs.Region.{Region}
 use Rattle.grammar.specs.Limits.{productionLimit, argumentLimit}
 use Rattle.tables.proofs.LayoutLaws.{counts-long, count-at}
-use Rattle.tables.specs.Layout.{slots, countsAt, rowsAt, classesAt, productionWords, classWords, classAt, tableWords, countOf, countsOf, arityIn, rowCount, takesChar, takesProduction, ParserTables}
+use Rattle.tables.specs.Layout.{countsAt, rowsAt, classesAt, productionWords, classWords, classAt, tableWords, countsOf, arityIn, rowCount, takesChar, takesProduction, ParserTables}
 use Rattle.tables.specs.Put.{CountsPut, ClassPut}
 
 -- ---- counts

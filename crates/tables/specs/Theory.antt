@@ -7,7 +7,7 @@ use Rattle.tables.specs.Layout.{slot, countsOf, arityIn, takesChar, take
 use Rattle.theory.specs.Grammar.{Grammar}
 
 -- a grammar given by its argument counts and its two tests
-unfoldable pub grammarOf : List ℕ → (chars subs : ℕ → ℕ → ℕ → Bool) → Grammar
+abbrev pub grammarOf : List ℕ → (chars subs : ℕ → ℕ → ℕ → Bool) → Grammar
 grammarOf counts chars subs = record { count = length counts; arity = arityIn counts; chars = chars; subs = subs }
 
 abbrev pub theoryOf : List ℕ → Grammar

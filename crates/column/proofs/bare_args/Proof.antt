@@ -1,14 +1,14 @@
 -- `bare_args` meets its contract: a character stands between i and j only if they are neighbours.
 use Prim.Native.Nat.{ℕ, _+_}
-use mathlib.Core.Path.{refl, sym}
 use mathlib.Core.Bool.{_&&_}
+use mathlib.Core.Path.{refl, sym}
 use lib.Dec.{eqb}
 use lib.ListN.{length, getD}
-use borrow.Author.Tests.{eq-eqb, ne-eqb}
 use borrow.Author.Needs.{needs}
-use Rattle.ccg.specs.Tables.{slot, slotHas}
+use borrow.Author.Tests.{eq-eqb, ne-eqb}
 use Rattle.column.proofs.RowsLaws.{rows-zero, rows-same}
 use Rattle.common.specs.Below.{bitOf}
+use Rattle.tables.specs.Layout.{slot, takesChar}
 use Rattle.column.proofs.bare_args.Statement.{statement}
 use Rattle.column.proofs.bare_args.Tie as tie
 
@@ -17,8 +17,9 @@ add-if1 c = search needs
 
 returns : tie.Need-returns
 returns c =
-    let a = (c .before .before .before .before .before .args) in
-    rows-zero (λ (p d : ℕ). bitOf (eqb (a .i + 1) (a .j) && slotHas (a .chars .now) (slot p d) (getD (a .text .now) (a .i) 0))) (a .counts .now) (length (a .counts .now)) (a .out .now) (c .before .before .before .before .before .pre .1 .1)
+    let start = c .before .before .before .before .before in
+    let a = (start .args) in
+    rows-zero (λ (p d : ℕ). bitOf (eqb (a .i + 1) (a .j) && takesChar (a .tables .now) (slot p d) (getD (a .text .now) (a .i) 0))) (a .counts .now) (length (a .counts .now)) (a .out .now) (start .pre .1 .1)
     (λ p d. rw (ne-eqb (a .i + 1) (a .j) (c .if1 .taken)) refl)
 
 shared-slice-read-char-row : tie.Need-shared-slice-read-char-row
@@ -32,10 +33,11 @@ same-length c = search needs
 
 returns-2 : tie.Need-returns-2
 returns-2 c =
+    let char-row = c .before .before .char-row in
     let a = (c .before .before .before .before .before .before .before .before .before .before .args) in
-    rows-same (λ (p d : ℕ). bitOf (slotHas (a .chars .now) (slot p d) (getD (a .text .now) (a .i) 0)))
-    (λ (p d : ℕ). bitOf (eqb (a .i + 1) (a .j) && slotHas (a .chars .now) (slot p d) (getD (a .text .now) (a .i) 0))) (a .counts .now) (length (a .counts .now)) (c .before .before .char-row .last .1 .1 .1 .0)
-    (λ p d. sym (rw (eq-eqb (a .i + 1) (a .j) (c .before .before .before .before .before .if1 .left)) refl)) (c .before .before .char-row .ensures)
+    rows-same (λ (p d : ℕ). bitOf (takesChar (a .tables .now) (slot p d) (getD (a .text .now) (a .i) 0)))
+    (λ (p d : ℕ). bitOf (eqb (a .i + 1) (a .j) && takesChar (a .tables .now) (slot p d) (getD (a .text .now) (a .i) 0))) (a .counts .now) (length (a .counts .now)) (char-row .last .1 .1 .1 .0)
+    (λ p d. sym (rw (eq-eqb (a .i + 1) (a .j) (c .before .before .before .before .before .if1 .left)) refl)) (char-row .ensures)
 
 pub bare-args-spec : {M : Type 1} → statement M
 bare-args-spec =

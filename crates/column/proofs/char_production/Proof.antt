@@ -1,36 +1,38 @@
 -- `char_production` meets its contract: the arguments below d are written.
 use Prim.Native.Nat.{ℕ, _-_, _≤_}
-use mathlib.Core.Path.{_≡_, ap, subst}
 use mathlib.Core.List.{List}
+use mathlib.Core.Path.{_≡_, ap, subst}
 use native.Mathlib.Omega.{arith}
 use borrow.Author.Needs.{needs}
-use Rattle.ccg.specs.Tables.{slot, slotHas}
 use Rattle.common.proofs.RegionLaws.{region-none, region-more}
 use Rattle.common.specs.Below.{bitOf}
 use Rattle.common.specs.Region.{Region}
+use Rattle.tables.specs.Layout.{slot, takesChar}
 use Rattle.column.proofs.char_production.Statement.{statement}
 use Rattle.column.proofs.char_production.Tie as tie
 
 Entry : List ℕ → ℕ → ℕ → ℕ → ℕ → Type 0
-Entry chars p character d v = v ≡ bitOf (slotHas chars (slot p d) character)
+Entry tables p character d v = v ≡ bitOf (takesChar tables (slot p d) character)
 
 abbrev Inv-loop : tie.InvT-loop
-Inv-loop out₀ chars p base arity character d₀ out d = Region (Entry chars p character) 0 base d out₀ out × (d ≤ arity)
+Inv-loop out₀ tables p base arity character d₀ out d = Region (Entry tables p character) 0 base d out₀ out × (d ≤ arity)
 
 abbrev μ-loop : tie.MeasureT-loop
-μ-loop out₀ chars p base arity character d₀ out d = arity - d
+μ-loop out₀ tables p base arity character d₀ out d = arity - d
 
 loop-holds : tie.Need-loop-holds Inv-loop μ-loop
-loop-holds c = (region-none (Entry (c .before .before .args .chars .now) (c .before .before .args .p) (c .before .before .args .character)) 0 (c .before .before .args .base) (c .before .before .args .out .now), omega arith)
+loop-holds c =
+    let start = c .before .before in
+    (region-none (Entry (start .args .tables .now) (start .args .p) (start .args .character)) 0 (start .args .base) (start .args .out .now), omega arith)
 
-mul-slot-has : tie.Need-mul-slot-has Inv-loop μ-loop
-mul-slot-has c = omega arith
+mul-takes-char : tie.Need-mul-takes-char Inv-loop μ-loop
+mul-takes-char c = omega arith
 
-add-slot-has : tie.Need-add-slot-has Inv-loop μ-loop
-add-slot-has c = omega arith
+add-takes-char : tie.Need-add-takes-char Inv-loop μ-loop
+add-takes-char c = omega arith
 
-slot-has-requires : tie.Need-slot-has-requires Inv-loop μ-loop
-slot-has-requires c κs = omega arith
+takes-char-requires : tie.Need-takes-char-requires Inv-loop μ-loop
+takes-char-requires c κs = omega arith
 
 cast-out : tie.Need-cast-out Inv-loop μ-loop
 cast-out c = search needs
@@ -49,14 +51,19 @@ loop-less c = omega arith
 
 loop-again : tie.Need-loop-again Inv-loop μ-loop
 unfolding Entry slot
-loop-again c = (region-more (Entry (c .before .before .before .before .before .args .chars .now) (c .before .before .before .before .before .args .p) (c .before .before .before .before .before .args .character)) 0 (c .before .before .before .before .before .args .base) (c .before .before .before .before .before .args .out .now) (c .before .before .loop .d) (c .before .before .loop .out) (bitOf (c .slot-has .result)) (omega arith) (c .before .before .loop .inv .0) (ap bitOf (c .slot-has .ensures)), omega arith)
+loop-again c =
+    let start = c .before .before .before .before .before in
+    let turn = c .before .before .loop in
+    (region-more (Entry (start .args .tables .now) (start .args .p) (start .args .character)) 0 (start .args .base) (start .args .out .now) (turn .d) (turn .out) (bitOf (c .takes-char .result)) (omega arith) (turn .inv .0) (ap bitOf (c .takes-char .ensures)), omega arith)
 
 same-length : tie.Need-same-length Inv-loop μ-loop
 same-length c = c .before .loop .inv .0 .long
 
 returns : tie.Need-returns Inv-loop μ-loop
 unfolding Entry
-returns c = let e : c .before .loop .d ≡ c .before .before .before .before .args .arity = omega arith in subst (λ (n : ℕ). Region (Entry (c .before .before .before .before .args .chars .now) (c .before .before .before .before .args .p) (c .before .before .before .before .args .character)) 0 (c .before .before .before .before .args .base) n (c .before .before .before .before .args .out .now) (c .before .loop .out)) e (c .before .loop .inv .0)
+returns c =
+    let start = c .before .before .before .before in
+    let e : c .before .loop .d ≡ start .args .arity = omega arith in subst (λ (n : ℕ). Region (Entry (start .args .tables .now) (start .args .p) (start .args .character)) 0 (start .args .base) n (start .args .out .now) (c .before .loop .out)) e (c .before .loop .inv .0)
 
 pub char-production-spec : {M : Type 1} → statement M
 char-production-spec =
@@ -65,9 +72,9 @@ char-production-spec =
     Inv-loop
     μ-loop
     loop-holds
-    mul-slot-has
-    add-slot-has
-    slot-has-requires
+    mul-takes-char
+    add-takes-char
+    takes-char-requires
     cast-out
     add-out
     slice-write-out

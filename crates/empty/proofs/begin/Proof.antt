@@ -5,7 +5,8 @@ use native.Mathlib.Omega.{arith}
 use native.Mathlib.Nat.{le-refl}
 use lib.ListN.{length}
 use borrow.Author.Needs.{needs}
-use Rattle.chart.specs.Layout.{arityIn, rowOf}
+use Rattle.chart.specs.Layout.{rowOf}
+use Rattle.tables.specs.Layout.{arityIn}
 use Rattle.empty.proofs.BeginLaws.{begun-none, begun-fits, begun-more}
 use Rattle.empty.proofs.RowLaws.{row-room}
 use Rattle.empty.specs.Turns.{firstRow, Begun}

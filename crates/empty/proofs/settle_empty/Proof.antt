@@ -10,13 +10,10 @@ use Rattle.empty.proofs.settle_empty.Statement.{statement}
 use Rattle.empty.proofs.settle_empty.Tie as tie
 
 abbrev Inv-loop : tie.InvT-loop
-Inv-loop counts users uses args₀ cells₀ rows zeros back₀ changed₀ args cells back changed = Turning counts users args cells back changed
+Inv-loop counts rows users uses args₀ cells₀ zeros back₀ changed₀ args cells back changed = Turning counts users args cells back changed
 
 abbrev μ-loop : tie.MeasureT-loop
-μ-loop counts users uses args₀ cells₀ rows zeros back₀ changed₀ args cells back changed = 2 * spare (emptySpan counts users) cells + bitOf changed
-
-row-count-requires : tie.Need-row-count-requires Inv-loop μ-loop
-row-count-requires c κs = c .before .before .before .before .before .pre .0 .fewProductions
+μ-loop counts rows users uses args₀ cells₀ zeros back₀ changed₀ args cells back changed = 2 * spare (emptySpan counts users) cells + bitOf changed
 
 zero-row-requires : tie.Need-zero-row-requires Inv-loop μ-loop
 zero-row-requires c κs = tt
@@ -25,7 +22,9 @@ zero-row-requires-2 : tie.Need-zero-row-requires-2 Inv-loop μ-loop
 zero-row-requires-2 c κs = tt
 
 begin-requires : tie.Need-begin-requires Inv-loop μ-loop
-begin-requires c κs = ((c .before .before .before .before .before .before .before .before .before .before .args .uses .now, c .before .before .before .before .before .before .before .before .before .before .pre .0), (c .before .before .before .before .before .before .before .before .before .before .pre .1 .0, c .before .before .before .before .before .before .before .before .before .before .pre .1 .1, c .before .before .before .before .row-count .ensures))
+begin-requires c κs =
+    let start = c .before .before .before .before .before .before .before .before .before in
+    ((start .args .uses .now, start .pre .0), (start .pre .1 .0, start .pre .1 .1, start .pre .1 .2))
 
 slice-aggregate-follow : tie.Need-slice-aggregate-follow Inv-loop μ-loop
 slice-aggregate-follow c = sym (c .before .before .before .before .before .before .before .before .zero-row2 .ensures .long)
@@ -47,9 +46,11 @@ slice-aggregate-settle-3 c = sym (held-long (c .before .before .before .before .
 
 settle-requires : tie.Need-settle-requires Inv-loop μ-loop
 settle-requires c κs =
-    let p = c .before .before .before .before .before .before .before .before .before .before .before .before .before .before .before .before .before .before .before .before .before .before .before .before .before .before .pre in
+    let start = c .before .before .before .before .before .before .before .before .before .before .before .before .before .before .before .before .before .before .before .before .before .before .before .before .before in
+    let zero-row = c .before .before .before .before .before .before .before .before .before .before .before .before .before .before .before .before .before .before .before .zero-row in
+    let p = start .pre in
     let t = c .before .before .before .before .before .before .loop .inv in
-    (p .0, (turning-loads t (c .before .before .before .before .before .before .before .before .before .before .before .before .before .before .before .before .before .before .before .zero-row .ensures), (turning-founded t (c .before .before .before .before .before .before .before .before .before .before .before .before .before .before .before .before .before .before .before .zero-row .result), c .before .before .before .before .before .before .before .before .before .before .before .before .before .before .before .before .before .before .before .before .row-count .ensures)))
+    (p .0, (turning-loads t (zero-row .ensures), (turning-founded t (zero-row .result), start .pre .1 .2)))
 
 slice-aggregate-follow-2 : tie.Need-slice-aggregate-follow-2 Inv-loop μ-loop
 slice-aggregate-follow-2 c = sym (held-long (c .before .before .before .before .before .before .before .before .before .before .before .before .loop .inv))
@@ -61,27 +62,29 @@ follow-requires-2 c κs =
 
 loop-less : tie.Need-loop-less Inv-loop μ-loop
 loop-less c =
-    let a = c .before .before .before .before .before .before .before .before .before .before .before .before .before .before .before .before .before .before .before .before .before .before .before .before .before .before .before .before .before .before .before .before .before .before .before .args in
+    let start = c .before .before .before .before .before .before .before .before .before .before .before .before .before .before .before .before .before .before .before .before .before .before .before .before .before .before .before .before .before .before .before .before .before .before in
+    let a = start .args in
     let h = c .before .before .before .before .before .before .before .before .before .before .before .before .before .before .before .loop in
     let z = c .before .before .before .before .before .before .before .before .before .before .before .before .before .before .before .before .before .before .before .before .before .before .before .before .before .before .before .before .zero-row in
-    turning-less (h .inv) (c .before .before .before .before .before .before .before .before .before .before .before .before .before .before .before .before .before .before .before .before .before .before .before .before .before .before .before .before .before .before .before .before .before .before .before .pre .0) (z .ensures) (c .before .before .before .before .before .before .before .before .settle .ensures (λ r. 0) (exact-held (a .counts .now) (a .users .now) (z .result) (h .back) (h .inv .agree))) (c .before .before .before .before .before .before .before .args3 .given) (c .before .follow2 .ensures) (c .before .before .before .before .before .before .before .before .before .before .before .before .before .before .loop-test .taken)
+    turning-less (h .inv) (start .pre .0) (z .ensures) (c .before .before .before .before .before .before .before .before .settle .ensures (λ r. 0) (exact-held (a .counts .now) (a .users .now) (z .result) (h .back) (h .inv .agree))) (c .before .before .before .before .before .before .before .args3 .given) (c .before .follow2 .ensures) (c .before .before .before .before .before .before .before .before .before .before .before .before .before .before .loop-test .taken)
 
 loop-again : tie.Need-loop-again Inv-loop μ-loop
 loop-again c =
-    let a = c .before .before .before .before .before .before .before .before .before .before .before .before .before .before .before .before .before .before .before .before .before .before .before .before .before .before .before .before .before .before .before .before .before .before .before .args in
+    let start = c .before .before .before .before .before .before .before .before .before .before .before .before .before .before .before .before .before .before .before .before .before .before .before .before .before .before .before .before .before .before .before .before .before .before in
+    let a = start .args in
     let h = c .before .before .before .before .before .before .before .before .before .before .before .before .before .before .before .loop in
-    let p = c .before .before .before .before .before .before .before .before .before .before .before .before .before .before .before .before .before .before .before .before .before .before .before .before .before .before .before .before .before .before .before .before .before .before .before .pre in
+    let p = start .pre in
     let z = c .before .before .before .before .before .before .before .before .before .before .before .before .before .before .before .before .before .before .before .before .before .before .before .before .before .before .before .before .zero-row in
     turning-next (h .inv) (p .0) (z .ensures) (c .before .before .before .before .before .before .before .before .settle .ensures (λ r. 0) (exact-held (a .counts .now) (a .users .now) (z .result) (h .back) (h .inv .agree))) (c .before .before .before .before .before .before .before .args3 .given) (c .before .follow2 .ensures)
 
 same-length : tie.Need-same-length Inv-loop μ-loop
-same-length c = c .before .loop .inv .argsLong ∙ sym (c .before .before .before .before .before .before .before .before .before .before .before .before .before .before .before .before .before .before .before .before .before .pre .1 .0 .long)
+same-length c = c .before .loop .inv .argsLong ∙ sym (c .before .before .before .before .before .before .before .before .before .before .before .before .before .before .before .before .before .before .before .before .pre .1 .0 .long)
 
 same-length-2 : tie.Need-same-length-2 Inv-loop μ-loop
-same-length-2 c = c .before .loop .inv .right .long ∙ sym (c .before .before .before .before .before .before .before .before .before .before .before .before .before .before .before .before .before .before .before .before .before .pre .1 .1 .long)
+same-length-2 c = c .before .loop .inv .right .long ∙ sym (c .before .before .before .before .before .before .before .before .before .before .before .before .before .before .before .before .before .before .before .before .pre .1 .1 .long)
 
 returns : tie.Need-returns Inv-loop μ-loop
-returns c chars subs are = turning-last (c .before .before .before .before .before .before .before .before .before .before .before .before .before .before .before .before .before .before .before .before .before .pre .0) (c .before .loop .inv) (c .loop-test .left) chars subs are
+returns c chars subs are = turning-last (c .before .before .before .before .before .before .before .before .before .before .before .before .before .before .before .before .before .before .before .before .pre .0) (c .before .loop .inv) (c .loop-test .left) chars subs are
 
 pub settle-empty-spec : {M : Type 1} → statement M
 settle-empty-spec =
@@ -89,7 +92,6 @@ settle-empty-spec =
     (tie.spec
     Inv-loop
     μ-loop
-    row-count-requires
     zero-row-requires
     zero-row-requires-2
     begin-requires

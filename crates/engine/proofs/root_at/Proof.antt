@@ -6,7 +6,8 @@ use native.Mathlib.Nat.{le-refl, mul-le-mul}
 use lib.ListN.{length, getD}
 use borrow.Author.Needs.{needs}
 use Rattle.chart.specs.Counted.{entryOf}
-use Rattle.chart.specs.Layout.{arityIn, rowOf, spanCount, cellAt, entryAt}
+use Rattle.chart.specs.Layout.{rowOf, spanCount, cellAt, entryAt}
+use Rattle.tables.specs.Layout.{arityIn}
 use Rattle.engine.proofs.RootLaws.{whole-row, whole-few, whole-room}
 use Rattle.engine.specs.Roots.{rootTerm}
 use Rattle.extract.specs.Places.{cellOf}

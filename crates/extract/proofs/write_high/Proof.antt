@@ -1,11 +1,12 @@
 -- `write_high` meets its contract: an only tree has no more levels.
 use Prim.Native.Nat.{ℕ, _+_, _*_, _≤_}
-use native.Mathlib.Omega.{arith}
 use native.Mathlib.Nat.{mul-le-mul, mul-le-mul-right}
+use native.Mathlib.Omega.{arith}
 use lib.ListN.{length, length-replicate}
 use borrow.Author.Needs.{needs}
 use Rattle.chart.specs.Layout.{places}
 use Rattle.extract.specs.Walk.{levelBytes, levelLimit}
+use Rattle.tables.proofs.LayoutLaws.{counts-few}
 use Rattle.extract.proofs.write_high.Statement.{statement}
 use Rattle.extract.proofs.write_high.Tie as tie
 
@@ -14,9 +15,10 @@ slice-aggregate-write-tree c = search needs
 
 write-tree-requires : tie.Need-write-tree-requires
 write-tree-requires c κs =
-    let h = c .before .before .before .before .before .before .before .before .before .pre .0 in
-    let places-few : length (c .before .before .before .before .before .before .before .before .before .args .text .now) + 1 ≤ places = omega (arith, h .short) in
-    (h, (c .before .before .before .before .before .before .before .before .before .pre .1, omega (arith, length-replicate {A = ℕ} (levelLimit * levelBytes) 0, mul-le-mul-right levelBytes (mul-le-mul (h .tables .fewProductions) places-few))))
+    let start = c .before .before .before .before .before .before in
+    let h = start .pre .0 in
+    let places-few : length (start .args .text .now) + 1 ≤ places = omega (arith, h .fits .short) in
+    (h, (start .pre .1, omega (arith, length-replicate {A = ℕ} (levelLimit * levelBytes) 0, mul-le-mul-right levelBytes (mul-le-mul (counts-few (start .args .tables .now) (h .fits .tables)) places-few))))
 
 same-length : tie.Need-same-length
 same-length c = search needs

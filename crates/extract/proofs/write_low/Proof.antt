@@ -1,7 +1,7 @@
 -- `write_low` meets its contract: its few levels are enough.
 use Prim.Native.Nat.{ℕ, _*_}
-use native.Mathlib.Omega.{arith}
 use native.Mathlib.Nat.{mul-le-mul-right}
+use native.Mathlib.Omega.{arith}
 use lib.ListN.{length-replicate}
 use borrow.Author.Needs.{needs}
 use Rattle.extract.specs.Walk.{levelBytes, fewLevels}
@@ -13,8 +13,9 @@ slice-aggregate-write-tree c = search needs
 
 write-tree-requires : tie.Need-write-tree-requires
 write-tree-requires c κs =
-    let enough = mul-le-mul-right levelBytes (c .before .before .before .before .before .before .before .before .before .pre .1 .1) in
-    (c .before .before .before .before .before .before .before .before .before .pre .0, (c .before .before .before .before .before .before .before .before .before .pre .1 .0, omega (arith, length-replicate {A = ℕ} (fewLevels * levelBytes) 0, enough)))
+    let start = c .before .before .before .before .before .before in
+    let enough = mul-le-mul-right levelBytes (start .pre .1 .1) in
+    (start .pre .0, (start .pre .1 .0, omega (arith, length-replicate {A = ℕ} (fewLevels * levelBytes) 0, enough)))
 
 same-length : tie.Need-same-length
 same-length c = search needs

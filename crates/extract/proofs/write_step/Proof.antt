@@ -1,11 +1,10 @@
 -- `write_step` meets its contract: a level whose arguments are all written is closed, and any other goes on.
-use Prim.Native.Nat.{ℕ}
-use mathlib.Core.Path.{_∙_, ap}
+use mathlib.Core.Path.{_∙_, ap, sym}
 use native.Mathlib.Omega.{arith}
-use lib.ListN.{getD}
 use borrow.Author.Needs.{needs}
 use Rattle.extract.proofs.StepLaws.{last-production, last-within, closed-further}
 use Rattle.extract.specs.Walk.{productionOf, writtenOf}
+use Rattle.tables.specs.Layout.{countsOf, arityIn}
 use Rattle.extract.proofs.write_step.Statement.{statement}
 use Rattle.extract.proofs.write_step.Tie as tie
 
@@ -15,11 +14,8 @@ sub-k c = search needs
 mul-k : tie.Need-mul-k
 mul-k c = search needs
 
-add-if1 : tie.Need-add-if1
-add-if1 c = search needs
-
-slice-read-if1 : tie.Need-slice-read-if1
-slice-read-if1 c = search needs
+add-wide : tie.Need-add-wide
+add-wide c = search needs
 
 slice-read-wide : tie.Need-slice-read-wide
 slice-read-wide c = search needs
@@ -27,20 +23,32 @@ slice-read-wide c = search needs
 wide-requires : tie.Need-wide-requires
 wide-requires c κs = search needs
 
-shared-slice-read-if1 : tie.Need-shared-slice-read-if1
-unfolding productionOf
-shared-slice-read-if1 c = omega (arith, c .before .wide .ensures, last-production (c .before .before .before .before .before .before .before .before .before .before .before .before .pre .0) (c .before .before .before .before .before .before .before .before .before .before .before .before .pre .1 .0))
+slice-read-wide-2 : tie.Need-slice-read-wide-2
+slice-read-wide-2 c = search needs
 
-sub-t21 : tie.Need-sub-t21
-sub-t21 c = search needs
+wide-requires-2 : tie.Need-wide-requires-2
+wide-requires-2 c κs = search needs
+
+argument-count-requires : tie.Need-argument-count-requires
+unfolding productionOf
+argument-count-requires c κs =
+    let start = c .before .before .before .before .before .before .before .before .before in
+    (start .pre .0 .walkable .fits .tables, omega (arith, c .wide2 .ensures, last-production (start .pre .0) (start .pre .1 .0)))
+
+sub-t18 : tie.Need-sub-t18
+sub-t18 c = search needs
 
 returns : tie.Need-returns
 unfolding productionOf writtenOf
-returns c = closed-further (c .before .before .before .before .before .before .before .before .before .before .before .before .before .pre .0) (c .before .before .before .before .before .before .before .before .before .before .before .before .before .pre .1 .0) (c .if1 .taken ∙ ap (λ (k : ℕ). getD (c .before .before .before .before .before .before .before .before .before .before .before .before .before .args .counts .now) k 0) (c .before .before .wide .ensures))
+returns c =
+    let start = c .before .before .before .before .before .before .before .before .before .before .before in
+    closed-further (start .pre .0) (start .pre .1 .0) (sym (c .before .before .before .before .wide .ensures) ∙ c .if1 .taken ∙ c .before .argument-count .ensures ∙ ap (arityIn (countsOf (start .args .tables .now))) (c .before .before .wide2 .ensures))
 
 write-next-requires : tie.Need-write-next-requires
 unfolding productionOf writtenOf
-write-next-requires c κs = (c .before .before .before .before .before .before .before .before .before .before .before .before .before .before .before .pre .0, (c .before .before .before .before .before .before .before .before .before .before .before .before .before .before .before .pre .1, omega (arith, last-within (c .before .before .before .before .before .before .before .before .before .before .before .before .before .before .before .pre .0) (c .before .before .before .before .before .before .before .before .before .before .before .before .before .before .before .pre .1 .0), c .before .before .if1 .left, ap (λ (k : ℕ). getD (c .before .before .before .before .before .before .before .before .before .before .before .before .before .before .before .args .counts .now) k 0) (c .before .before .before .before .wide .ensures))))
+write-next-requires c κs =
+    let start = c .before .before .before .before .before .before .before .before .before .before .before .before .before in
+    (start .pre .0, (start .pre .1, omega (arith, last-within (start .pre .0) (start .pre .1 .0), c .before .before .if1 .left, c .before .before .before .before .before .before .wide .ensures, c .before .before .before .argument-count .ensures, ap (arityIn (countsOf (start .args .tables .now))) (c .before .before .before .before .wide2 .ensures))))
 
 same-length : tie.Need-same-length
 same-length c = search needs
@@ -57,12 +65,13 @@ write-step-spec =
     (tie.spec
     sub-k
     mul-k
-    add-if1
-    slice-read-if1
+    add-wide
     slice-read-wide
     wide-requires
-    shared-slice-read-if1
-    sub-t21
+    slice-read-wide-2
+    wide-requires-2
+    argument-count-requires
+    sub-t18
     returns
     write-next-requires
     same-length

@@ -4,25 +4,31 @@ use mathlib.Core.Path.{_≡_, refl, sym, _∙_, subst}
 use native.Mathlib.Omega.{arith}
 use lib.ListN.{length}
 use Rattle.chart.proofs.LayoutLaws.{row-next, row-of-base}
-use Rattle.chart.specs.Layout.{arityIn, rowOf}
+use Rattle.chart.specs.Layout.{rowOf}
 use Rattle.common.specs.Below.{sumBelow}
 use Rattle.links.proofs.LinkedLaws.{row-below, linked-none, linked-links, linked-users}
 use Rattle.links.specs.Linked.{LinkedTo}
+use Rattle.tables.specs.Layout.{arityIn}
 use Rattle.links.proofs.link.Statement.{statement}
 use Rattle.links.proofs.link.Tie as tie
 
 abbrev Inv-loop : tie.InvT-loop
-Inv-loop counts subs users₀ uses₀ base₀ p₀ users uses base p = LinkedTo counts subs (rowOf (arityIn counts) p 0) users uses × (base ≡ rowOf (arityIn counts) p 0) × (p ≤ length counts)
+Inv-loop counts tables users₀ uses₀ base₀ p₀ users uses base p = LinkedTo counts tables (rowOf (arityIn counts) p 0) users uses × (base ≡ rowOf (arityIn counts) p 0) × (p ≤ length counts)
 
 abbrev μ-loop : tie.MeasureT-loop
-μ-loop counts subs users₀ uses₀ base₀ p₀ users uses base p = length counts - p
+μ-loop counts tables users₀ uses₀ base₀ p₀ users uses base p = length counts - p
 
 loop-holds : tie.Need-loop-holds Inv-loop μ-loop
 unfolding rowOf sumBelow
-loop-holds c = (linked-none (c .before .before .before .before .args .counts .now) (c .before .before .before .before .args .subs .now) (c .before .before .before .before .args .users .now) (c .before .before .before .before .args .uses .now) (c .before .before .before .before .pre .1 .1 .0) (c .before .before .before .before .pre .1 .1 .1), refl, omega arith)
+loop-holds c =
+    let start = c .before .before .before .before in
+    (linked-none (start .args .counts .now) (start .args .tables .now) (start .args .users .now) (start .args .uses .now) (start .pre .1 .1 .0) (start .pre .1 .1 .1), refl, omega arith)
 
 link-production-requires : tie.Need-link-production-requires Inv-loop μ-loop
-link-production-requires c κs = (c .before .before .before .before .before .before .before .before .pre .0, (c .before .before .before .before .before .before .before .before .pre .1 .0, ((omega arith, c .before .before .before .loop .inv .1), c .before .before .before .loop .inv .0)))
+link-production-requires c κs =
+    let start = c .before .before .before .before .before .before .before .before in
+    let turn = c .before .before .before .loop in
+    (start .pre .0, (start .pre .1 .0, ((omega arith, turn .inv .1), turn .inv .0)))
 
 shared-slice-read-wide : tie.Need-shared-slice-read-wide Inv-loop μ-loop
 shared-slice-read-wide c = omega arith
@@ -35,8 +41,10 @@ add-base c = omega (arith, c .before .before .before .before .before .before .be
 
 add-base-2 : tie.Need-add-base-2 Inv-loop μ-loop
 add-base-2 c =
-    let counts = c .before .before .before .before .before .before .before .before .before .before .before .before .before .before .before .args .counts .now in
-    omega (arith, c .wide .ensures, c .before .before .before .before .before .before .before .before .before .before .before .before .before .before .before .pre .0 .1 (c .before .before .before .before .before .before .before .before .before .before .loop .p), row-below counts (c .before .before .before .before .before .before .before .before .before .before .loop .p) 0 (c .before .before .before .before .before .before .before .before .before .before .before .before .before .before .before .pre .0 .0) (c .before .before .before .before .before .before .before .before .before .before .before .before .before .before .before .pre .0 .1) (omega arith) (omega arith))
+    let start = c .before .before .before .before .before .before .before .before .before .before .before .before .before .before .before in
+    let turn = c .before .before .before .before .before .before .before .before .before .before .loop in
+    let counts = start .args .counts .now in
+    omega (arith, c .wide .ensures, start .pre .0 .1 (turn .p), row-below counts (turn .p) 0 (start .pre .0 .0) (start .pre .0 .1) (omega arith) (omega arith))
 
 add-p : tie.Need-add-p Inv-loop μ-loop
 add-p c = omega arith
@@ -46,9 +54,10 @@ loop-less c = omega arith
 
 loop-again : tie.Need-loop-again Inv-loop μ-loop
 loop-again c =
+    let turn = c .before .before .before .before .before .before .before .before .before .before .loop in
     let counts = c .before .before .before .before .before .before .before .before .before .before .before .before .before .before .before .args .counts .now in
-    let p = c .before .before .before .before .before .before .before .before .before .before .loop .p in
-    (c .before .before .before .before .before .before .link-production .ensures, omega (arith, c .wide .ensures, c .before .before .before .before .before .before .before .before .before .before .loop .inv .1, row-next (arityIn counts) p, row-of-base (arityIn counts) p (arityIn counts p)), omega arith)
+    let p = turn .p in
+    (c .before .before .before .before .before .before .link-production .ensures, omega (arith, c .wide .ensures, turn .inv .1, row-next (arityIn counts) p, row-of-base (arityIn counts) p (arityIn counts p)), omega arith)
 
 same-length : tie.Need-same-length Inv-loop μ-loop
 same-length c = c .before .loop .inv .0 .usersLong ∙ sym (c .before .before .before .before .before .before .pre .1 .1 .0 .long)
@@ -58,11 +67,12 @@ same-length-2 c = c .before .loop .inv .0 .usesLong ∙ sym (c .before .before .
 
 returns : tie.Need-returns Inv-loop μ-loop
 returns c =
-    let counts = c .before .before .before .before .before .before .args .counts .now in
-    let subs = c .before .before .before .before .before .before .args .subs .now in
+    let start = c .before .before .before .before .before .before in
+    let counts = start .args .counts .now in
+    let tables = start .args .tables .now in
     let e : c .before .loop .p ≡ length counts = omega arith in
-    let t : LinkedTo counts subs (rowOf (arityIn counts) (length counts) 0) (c .before .loop .users) (c .before .loop .uses) = subst (λ (p : ℕ). LinkedTo counts subs (rowOf (arityIn counts) p 0) (c .before .loop .users) (c .before .loop .uses)) e (c .before .loop .inv .0) in
-    (linked-links counts subs (c .before .before .before .before .before .before .pre .0 .0) (c .before .before .before .before .before .before .pre .0 .1) (c .before .loop .users) (c .before .loop .uses) t, linked-users counts subs (c .before .before .before .before .before .before .pre .0 .0) (c .before .before .before .before .before .before .pre .0 .1) (c .before .loop .users) (c .before .loop .uses) t)
+    let t : LinkedTo counts tables (rowOf (arityIn counts) (length counts) 0) (c .before .loop .users) (c .before .loop .uses) = subst (λ (p : ℕ). LinkedTo counts tables (rowOf (arityIn counts) p 0) (c .before .loop .users) (c .before .loop .uses)) e (c .before .loop .inv .0) in
+    (linked-links counts tables (start .pre .0 .0) (start .pre .0 .1) (c .before .loop .users) (c .before .loop .uses) t, linked-users counts tables (start .pre .0 .0) (start .pre .0 .1) (c .before .loop .users) (c .before .loop .uses) t)
 
 pub link-spec : {M : Type 1} → statement M
 link-spec =

@@ -1,8 +1,9 @@
 -- `link_row` meets its contract: the productions below q are linked.
 use Prim.Native.Nat.{ℕ, _-_, _≤_}
-use mathlib.Core.Path.{_≡_, subst}
+use mathlib.Core.Path.{_≡_, subst, ap}
 use native.Mathlib.Omega.{arith}
-use Rattle.ccg.specs.Tables.{subAt}
+use borrow.Author.Needs.{needs}
+use Rattle.common.specs.Below.{bitOf}
 use Rattle.links.proofs.RowLaws.{row-none, row-more}
 use Rattle.links.specs.Linked.{RowLinked}
 use Rattle.span.specs.Tables.{userAt, useAt}
@@ -10,28 +11,27 @@ use Rattle.links.proofs.link_row.Statement.{statement}
 use Rattle.links.proofs.link_row.Tie as tie
 
 abbrev Inv-loop : tie.InvT-loop
-Inv-loop subs count s row p users₀ uses₀ q₀ users uses q = RowLinked subs s row p q users₀ uses₀ users uses × (q ≤ count)
+Inv-loop tables count s row p users₀ uses₀ q₀ users uses q = RowLinked tables s row p q users₀ uses₀ users uses × (q ≤ count)
 
 abbrev μ-loop : tie.MeasureT-loop
-μ-loop subs count s row p users₀ uses₀ q₀ users uses q = count - q
+μ-loop tables count s row p users₀ uses₀ q₀ users uses q = count - q
 
 loop-holds : tie.Need-loop-holds Inv-loop μ-loop
-loop-holds c = (row-none (c .before .before .before .args .subs .now) (c .before .before .before .args .s) (c .before .before .before .args .row) (c .before .before .before .args .p) (c .before .before .before .args .users .now) (c .before .before .before .args .uses .now), omega arith)
+loop-holds c =
+    let start = c .before .before .before in
+    (row-none (start .args .tables .now) (start .args .s) (start .args .row) (start .args .p) (start .args .users .now) (start .args .uses .now), omega arith)
+
+takes-production-requires : tie.Need-takes-production-requires Inv-loop μ-loop
+takes-production-requires c κs = search needs
+
+cast-takes : tie.Need-cast-takes Inv-loop μ-loop
+cast-takes c = omega arith
 
 mul-users : tie.Need-mul-users Inv-loop μ-loop
 mul-users c = omega arith
 
 add-users : tie.Need-add-users Inv-loop μ-loop
 add-users c = omega arith
-
-shared-slice-read-users : tie.Need-shared-slice-read-users Inv-loop μ-loop
-shared-slice-read-users c = omega arith
-
-mul-users-2 : tie.Need-mul-users-2 Inv-loop μ-loop
-mul-users-2 c = omega arith
-
-add-users-2 : tie.Need-add-users-2 Inv-loop μ-loop
-add-users-2 c = omega arith
 
 slice-write-users : tie.Need-slice-write-users Inv-loop μ-loop
 slice-write-users c = omega (arith, c .before .before .loop .inv .0 .usersLong)
@@ -45,15 +45,6 @@ add-larger c = omega arith
 slice-read-larger : tie.Need-slice-read-larger Inv-loop μ-loop
 slice-read-larger c = omega (arith, c .before .before .before .loop .inv .0 .usesLong)
 
-mul-larger-2 : tie.Need-mul-larger-2 Inv-loop μ-loop
-mul-larger-2 c = omega arith
-
-add-larger-2 : tie.Need-add-larger-2 Inv-loop μ-loop
-add-larger-2 c = omega arith
-
-shared-slice-read-larger : tie.Need-shared-slice-read-larger Inv-loop μ-loop
-shared-slice-read-larger c = omega arith
-
 larger-requires : tie.Need-larger-requires Inv-loop μ-loop
 larger-requires c κs = tt
 
@@ -64,7 +55,7 @@ add-uses : tie.Need-add-uses Inv-loop μ-loop
 add-uses c = omega arith
 
 slice-write-uses : tie.Need-slice-write-uses Inv-loop μ-loop
-slice-write-uses c = omega (arith, c .before .before .before .before .before .loop .inv .0 .usesLong)
+slice-write-uses c = omega (arith, c .before .before .before .before .loop .inv .0 .usesLong)
 
 add-q : tie.Need-add-q Inv-loop μ-loop
 add-q c = omega arith
@@ -73,8 +64,12 @@ loop-less : tie.Need-loop-less Inv-loop μ-loop
 loop-less c = omega arith
 
 loop-again : tie.Need-loop-again Inv-loop μ-loop
-unfolding userAt useAt subAt
-loop-again c = (row-more (c .before .before .before .before .before .before .before .before .before .args .subs .now) (c .before .before .before .before .before .before .before .before .before .args .s) (c .before .before .before .before .before .before .before .before .before .args .row) (c .before .before .before .before .before .before .before .before .before .args .p) (c .before .before .before .before .before .before .before .before .before .args .users .now) (c .before .before .before .before .before .before .before .before .before .args .uses .now) (c .before .before .before .before .before .loop .q) (c .before .before .before .before .before .loop .users) (c .before .before .before .before .before .loop .uses) (c .larger .result) (c .before .before .before .before .before .before .before .before .before .pre .0 .1 _) (omega arith) (omega arith) (omega arith) (c .larger .ensures) (c .before .before .before .before .before .loop .inv .0), omega arith)
+unfolding userAt useAt
+loop-again c =
+    let start = c .before .before .before .before .before .before .before .before in
+    let turn = c .before .before .before .before .loop in
+    let takes-production = c .before .before .takes-production in
+    (row-more (start .args .tables .now) (start .args .s) (start .args .row) (start .args .p) (start .args .users .now) (start .args .uses .now) (turn .q) (turn .users) (turn .uses) (bitOf (takes-production .result)) (c .larger .result) (ap bitOf (takes-production .ensures)) (omega arith) (omega arith) (omega arith) (c .larger .ensures) (turn .inv .0), omega arith)
 
 same-length : tie.Need-same-length Inv-loop μ-loop
 same-length c = c .before .loop .inv .0 .usersLong
@@ -83,7 +78,9 @@ same-length-2 : tie.Need-same-length-2 Inv-loop μ-loop
 same-length-2 c = c .before .loop .inv .0 .usesLong
 
 returns : tie.Need-returns Inv-loop μ-loop
-returns c = let e : c .before .loop .q ≡ c .before .before .before .before .before .args .count = omega arith in subst (λ (n : ℕ). RowLinked (c .before .before .before .before .before .args .subs .now) (c .before .before .before .before .before .args .s) (c .before .before .before .before .before .args .row) (c .before .before .before .before .before .args .p) n (c .before .before .before .before .before .args .users .now) (c .before .before .before .before .before .args .uses .now) (c .before .loop .users) (c .before .loop .uses)) e (c .before .loop .inv .0)
+returns c =
+    let start = c .before .before .before .before .before in
+    let e : c .before .loop .q ≡ start .args .count = omega arith in subst (λ (n : ℕ). RowLinked (start .args .tables .now) (start .args .s) (start .args .row) (start .args .p) n (start .args .users .now) (start .args .uses .now) (c .before .loop .users) (c .before .loop .uses)) e (c .before .loop .inv .0)
 
 pub link-row-spec : {M : Type 1} → statement M
 link-row-spec =
@@ -92,18 +89,14 @@ link-row-spec =
     Inv-loop
     μ-loop
     loop-holds
+    takes-production-requires
+    cast-takes
     mul-users
     add-users
-    shared-slice-read-users
-    mul-users-2
-    add-users-2
     slice-write-users
     mul-larger
     add-larger
     slice-read-larger
-    mul-larger-2
-    add-larger-2
-    shared-slice-read-larger
     larger-requires
     mul-uses
     add-uses

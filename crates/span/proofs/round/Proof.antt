@@ -3,7 +3,8 @@ use Prim.Native.Nat.{ℕ, _-_, _≤_}
 use mathlib.Core.Path.{_≡_, refl, _∙_}
 use native.Mathlib.Omega.{arith}
 use lib.ListN.{length}
-use Rattle.chart.specs.Layout.{arityIn, rowOf}
+use Rattle.chart.specs.Layout.{rowOf}
+use Rattle.tables.specs.Layout.{arityIn}
 use Rattle.span.proofs.RoundLaws.{visited-join, base-first, base-next, loads-kept, founded-kept}
 use Rattle.span.proofs.TableLaws.{table-room}
 use Rattle.span.proofs.VisitLaws.{visited-idle}

@@ -5,9 +5,9 @@ use native.Mathlib.Omega.{arith}
 use native.Mathlib.Nat.{mul-le-mul}
 use borrow.Author.Needs.{needs}
 use Rattle.theory.specs.Steps.{cap}
+use Rattle.common.specs.Bytes.{byteValues}
 use Rattle.span.proofs.step.Statement.{statement}
 use Rattle.span.proofs.step.Tie as tie
-use Rattle.common.specs.Bytes.{byteValues}
 
 -- a product of bytes
 product-few : {a b x y : ℕ} → a ≡ x → b ≡ y → x < byteValues → y < byteValues → a * b ≤ (byteValues - 1) * (byteValues - 1)

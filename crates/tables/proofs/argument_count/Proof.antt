@@ -1,8 +1,8 @@
 -- `argument_count` meets its contract: it is the word of production p.
-use Rattle.tables.proofs.LayoutLaws.{counts-long, count-at}
 use mathlib.Core.Path.{sym, _∙_}
-use borrow.Author.Needs.{needs}
 use native.Mathlib.Omega.{arith}
+use borrow.Author.Needs.{needs}
+use Rattle.tables.proofs.LayoutLaws.{counts-long, count-at}
 use Rattle.tables.proofs.argument_count.Statement.{statement}
 use Rattle.tables.proofs.argument_count.Tie as tie
 

@@ -1,15 +1,13 @@
 -- `argument_counts` meets its contract: the counts of the productions passed are copied.
 use Prim.Native.Nat.{ℕ, _-_, _≤_, _<_}
+use mathlib.Core.Path.{_≡_, _∙_, refl}
+use native.Mathlib.Decide.{ℕ-discrete}
+use native.Mathlib.Omega.{arith}
+use lib.ListN.{length, getD, length-set}
+use lib.Seq.{getD-set-same, getD-set-other}
 use Rattle.grammar.specs.Limits.{productionLimit}
 use Rattle.tables.proofs.LayoutLaws.{counts-long}
 use Rattle.tables.specs.Layout.{countsOf, arityIn}
-use lib.ListN.{length, getD, length-set}
-use lib.ListN.{length, getD}
-use lib.Seq.{getD-set-same, getD-set-other}
-use mathlib.Core.Path.{_≡_, _∙_}
-use mathlib.Core.Path.{_≡_, refl, _∙_}
-use native.Mathlib.Decide.{ℕ-discrete}
-use native.Mathlib.Omega.{arith}
 use Rattle.tables.proofs.argument_counts.Statement.{statement}
 use Rattle.tables.proofs.argument_counts.Tie as tie
 

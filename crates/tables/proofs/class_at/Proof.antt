@@ -1,7 +1,7 @@
 -- `class_at` meets its contract.
-use Rattle.tables.specs.Layout.{classAt}
 use mathlib.Core.Path.{refl}
 use borrow.Author.Needs.{needs}
+use Rattle.tables.specs.Layout.{classAt}
 use Rattle.tables.proofs.class_at.Statement.{statement}
 use Rattle.tables.proofs.class_at.Tie as tie
 

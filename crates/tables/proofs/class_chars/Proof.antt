@@ -1,14 +1,14 @@
 -- `class_chars` meets its contract: the four words of the slot.
 use Prim.Native.Nat.{ℕ, zero, suc, _+_, _/_, _%_, _<_}
-use Rattle.charset.specs.Set.{characters, bit, has, setWords, wordBits}
-use Rattle.tables.proofs.LayoutLaws.{class-in}
-use Rattle.tables.specs.Layout.{classAt, takesChar}
-use lib.ListN.{getD}
 use mathlib.Core.List.{List, [], _∷_}
 use mathlib.Core.Path.{_≡_, refl, sym, ap}
 use native.Mathlib.Nat.{add-zero}
-use borrow.Author.Needs.{needs}
 use native.Mathlib.Omega.{arith}
+use lib.ListN.{getD}
+use borrow.Author.Needs.{needs}
+use Rattle.charset.specs.Set.{characters, bit, has, setWords, wordBits}
+use Rattle.tables.proofs.LayoutLaws.{class-in}
+use Rattle.tables.specs.Layout.{classAt, takesChar}
 use Rattle.tables.proofs.class_chars.Statement.{statement}
 use Rattle.tables.proofs.class_chars.Tie as tie
 

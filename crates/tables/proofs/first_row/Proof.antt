@@ -1,8 +1,8 @@
 -- `first_row` meets its contract: it is the word of production p.
-use Rattle.tables.proofs.LayoutLaws.{counts-long}
 use mathlib.Core.Path.{_∙_}
-use borrow.Author.Needs.{needs}
 use native.Mathlib.Omega.{arith}
+use borrow.Author.Needs.{needs}
+use Rattle.tables.proofs.LayoutLaws.{counts-long}
 use Rattle.tables.proofs.first_row.Statement.{statement}
 use Rattle.tables.proofs.first_row.Tie as tie
 

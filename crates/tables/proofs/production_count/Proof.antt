@@ -1,7 +1,7 @@
 -- `production_count` meets its contract: it is the first word.
-use Rattle.tables.proofs.LayoutLaws.{counts-long}
 use mathlib.Core.Path.{sym, _∙_}
 use borrow.Author.Needs.{needs}
+use Rattle.tables.proofs.LayoutLaws.{counts-long}
 use Rattle.tables.proofs.production_count.Statement.{statement}
 use Rattle.tables.proofs.production_count.Tie as tie
 

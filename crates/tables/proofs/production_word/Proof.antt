@@ -1,16 +1,13 @@
-use Prim.Native.Nat.{ℕ, _+_, _*_, _-_, _≤_, _<_}
+use Prim.Native.Nat.{ℕ, _+_, _*_, _-_, _≤_}
+use mathlib.Core.Bool.{false, _&&_}
+use mathlib.Core.Path.{_≡_, refl, _∙_}
+use native.Mathlib.Omega.{arith}
+use lib.Dec.{ltb}
+use lib.ListN.{getD}
+use borrow.Author.Tests.{le-ltb, lt-ltb}
 use Rattle.charset.proofs.BitLaws.{bit-zero}
 use Rattle.charset.specs.Set.{bit, wordBits}
 use Rattle.tables.proofs.BitsLaws.{bit-more}
-use borrow.Author.Tests.{le-ltb}
-use borrow.Author.Tests.{lt-ltb}
-use lib.Dec.{ltb}
-use lib.ListN.{getD}
-use mathlib.Core.Bool.{false, _&&_}
-use mathlib.Core.Bool.{false}
-use mathlib.Core.Path.{_≡_, refl, _∙_}
-use mathlib.Core.Path.{_≡_}
-use native.Mathlib.Omega.{arith}
 use Rattle.tables.proofs.production_word.Statement.{statement}
 use Rattle.tables.proofs.production_word.Tie as tie
 

@@ -1,12 +1,12 @@
 -- `put_chars` meets its contract: the places below k hold the words.
 use Prim.Native.Nat.{ℕ, _-_, _≤_}
-use Rattle.charset.specs.Set.{setWords}
-use Rattle.common.proofs.RegionLaws.{region-none, region-more}
-use Rattle.common.specs.Region.{Region}
-use lib.ListN.{getD}
 use mathlib.Core.List.{List}
 use mathlib.Core.Path.{_≡_, refl, subst}
 use native.Mathlib.Omega.{arith}
+use lib.ListN.{getD}
+use Rattle.charset.specs.Set.{setWords}
+use Rattle.common.proofs.RegionLaws.{region-none, region-more}
+use Rattle.common.specs.Region.{Region}
 use Rattle.tables.proofs.put_chars.Statement.{statement}
 use Rattle.tables.proofs.put_chars.Tie as tie
 

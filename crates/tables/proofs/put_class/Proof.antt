@@ -1,8 +1,8 @@
 -- `put_class` meets its contract: the words of the characters, and then those of the productions.
+use native.Mathlib.Omega.{arith}
+use borrow.Author.Needs.{needs}
 use Rattle.tables.proofs.LayoutLaws.{class-in}
 use Rattle.tables.proofs.PutLaws.{class-put}
-use borrow.Author.Needs.{needs}
-use native.Mathlib.Omega.{arith}
 use Rattle.tables.proofs.put_class.Statement.{statement}
 use Rattle.tables.proofs.put_class.Tie as tie
 

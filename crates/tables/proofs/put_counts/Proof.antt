@@ -1,15 +1,11 @@
-use Prim.Native.Nat.{_+_}
-use Prim.Native.Nat.{ℕ, _*_, _-_, _≤_}
-use Rattle.common.specs.Bytes.{byteValues}
-use Rattle.grammar.specs.Limits.{productionLimit}
-use Rattle.tables.proofs.PutLaws.{row-none, row-more, counts-none, counts-more}
-use Rattle.tables.specs.Layout.{arityIn, rowCount}
-use Rattle.tables.specs.Layout.{countsAt}
-use Rattle.tables.specs.Put.{CountsPut}
-use lib.ListN.{length-set}
-use lib.ListN.{length}
-use mathlib.Core.Path.{_≡_, sym, _∙_, ap, subst}
+use Prim.Native.Nat.{_+_, ℕ, _*_, _-_, _≤_}
+use mathlib.Core.Path.{_≡_, sym, _∙_, subst}
 use native.Mathlib.Omega.{arith}
+use lib.ListN.{length-set, length}
+use Rattle.common.specs.Bytes.{byteValues}
+use Rattle.tables.proofs.PutLaws.{row-none, row-more, counts-none, counts-more}
+use Rattle.tables.specs.Layout.{arityIn, rowCount, countsAt}
+use Rattle.tables.specs.Put.{CountsPut}
 use Rattle.tables.proofs.put_counts.Statement.{statement}
 use Rattle.tables.proofs.put_counts.Tie as tie
 

@@ -1,14 +1,14 @@
 -- `put_productions` meets its contract: the words below k hold the bits of their productions.
 use Prim.Native.Nat.{ℕ, _+_, _*_, _-_, _≤_, _<_}
-use Rattle.charset.specs.Set.{bit, wordBits}
-use Rattle.common.proofs.RegionLaws.{region-none, region-more}
-use Rattle.common.specs.Region.{Region}
-use Rattle.tables.specs.Layout.{productionWords}
-use lib.ListN.{getD}
 use mathlib.Core.Bool.{Bool, false}
 use mathlib.Core.List.{List}
 use mathlib.Core.Path.{_≡_, subst}
 use native.Mathlib.Omega.{arith}
+use lib.ListN.{getD}
+use Rattle.charset.specs.Set.{bit, wordBits}
+use Rattle.common.proofs.RegionLaws.{region-none, region-more}
+use Rattle.common.specs.Region.{Region}
+use Rattle.tables.specs.Layout.{productionWords}
 use Rattle.tables.proofs.put_productions.Statement.{statement}
 use Rattle.tables.proofs.put_productions.Tie as tie
 

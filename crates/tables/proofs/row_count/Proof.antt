@@ -1,8 +1,8 @@
 -- `row_count` meets its contract: the first row past all productions.
 use Prim.Native.Nat.{ℕ}
-use Rattle.tables.specs.Layout.{countsOf, arityIn, rowCount}
 use mathlib.Core.Path.{_∙_, ap}
 use borrow.Author.Needs.{needs}
+use Rattle.tables.specs.Layout.{countsOf, arityIn, rowCount}
 use Rattle.tables.proofs.row_count.Statement.{statement}
 use Rattle.tables.proofs.row_count.Tie as tie
 

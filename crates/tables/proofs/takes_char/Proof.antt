@@ -1,10 +1,10 @@
 -- `takes_char` meets its contract: the shift and the remainder are the bit of the definition.
+use mathlib.Core.Path.{refl}
+use native.Mathlib.Omega.{arith}
+use borrow.Author.Needs.{needs}
 use Rattle.charset.specs.Set.{bit}
 use Rattle.tables.proofs.LayoutLaws.{class-in}
 use Rattle.tables.specs.Layout.{takesChar}
-use mathlib.Core.Path.{refl}
-use borrow.Author.Needs.{needs}
-use native.Mathlib.Omega.{arith}
 use Rattle.tables.proofs.takes_char.Statement.{statement}
 use Rattle.tables.proofs.takes_char.Tie as tie
 

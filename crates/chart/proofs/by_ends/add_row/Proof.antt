@@ -5,14 +5,13 @@ use mathlib.Core.List.{List}
 use native.Mathlib.Omega.{arith}
 use lib.ListN.{getD}
 use Rattle.chart.proofs.ByEndsLaws.{place-in, place-few, place-next, product-small, cell-small, sum-made}
-use Rattle.common.proofs.RegionLaws.{front-more}
+use Rattle.common.proofs.RegionLaws.{front-more, region-none, region-more}
 use Rattle.chart.specs.ByEnds.{placeAt}
-use Rattle.common.proofs.RegionLaws.{region-none, region-more}
 use Rattle.common.specs.Region.{Region}
 use Rattle.theory.specs.Steps.{cap}
+use Rattle.chart.specs.Layout.{entryAt}
 use Rattle.chart.proofs.by_ends.add_row.Statement.{statement}
 use Rattle.chart.proofs.by_ends.add_row.Tie as tie
-use Rattle.chart.specs.Layout.{entryAt}
 
 -- the sum of start k, and the largest of it and what is live
 Sum : (chart sums : List ℕ) (n row m arg at k v : ℕ) → Type 0

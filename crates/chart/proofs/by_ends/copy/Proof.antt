@@ -4,8 +4,7 @@ use mathlib.Core.Path.{_≡_, refl, subst}
 use mathlib.Core.List.{List}
 use native.Mathlib.Omega.{arith}
 use lib.ListN.{getD}
-use Rattle.common.proofs.RegionLaws.{front-more}
-use Rattle.common.proofs.RegionLaws.{region-none}
+use Rattle.common.proofs.RegionLaws.{front-more, region-none}
 use Rattle.common.specs.Region.{Region}
 use Rattle.chart.proofs.by_ends.copy.Statement.{statement}
 use Rattle.chart.proofs.by_ends.copy.Tie as tie

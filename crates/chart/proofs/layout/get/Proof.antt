@@ -5,9 +5,9 @@ use native.Mathlib.Omega.{arith}
 use lib.ListN.{getD}
 use borrow.Author.Needs.{needs}
 use Rattle.chart.proofs.LayoutLaws.{cell-in}
+use Rattle.chart.specs.Layout.{entryAt}
 use Rattle.chart.proofs.layout.get.Statement.{statement}
 use Rattle.chart.proofs.layout.get.Tie as tie
-use Rattle.chart.specs.Layout.{entryAt}
 
 cell-at-requires : tie.Need-cell-at-requires
 cell-at-requires c κs = search needs
