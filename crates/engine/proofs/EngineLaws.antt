@@ -1,97 +1,81 @@
 -- A filled chart answers: its cells at the root count the parses, and the tree written is the parse if there is one.
-use Prim.Native.Nat.{ℕ, _-_, _*_, _≤_, _<_}
+use Prim.Native.Nat.{ℕ, _-_, _≤_, _<_}
 use mathlib.Core.Path.{_≡_, refl, _∙_, ap, subst, subst⁻¹}
-use mathlib.Core.Bool.{true}
+use mathlib.Core.Bool.{Bool, false, true}
 use mathlib.Core.List.{List}
 use native.Mathlib.Omega.{arith}
 use native.Mathlib.Nat.{le-refl}
-use lib.Dec.{eqb}
 use lib.ListN.{length, getD, take, length-take}
 use lib.Seq.{length-take-le, take-all, sets}
-use borrow.Author.Tests.{eq-eqb}
-use Rattle.ccg.specs.Theory.{theoryOf}
 use Rattle.chart.proofs.CountedLaws.{counted-front}
 use Rattle.chart.specs.Counted.{CountedBy}
-use Rattle.chart.specs.Layout.{chartBytes}
-use Rattle.tables.specs.Layout.{arityIn}
-use Rattle.common.proofs.BelowLaws.{sum-same, sum-at, bit-test}
+use Rattle.chart.specs.Layout.{chartNeed, ChartFits}
+use Rattle.common.proofs.BelowLaws.{sum-at}
 use Rattle.common.proofs.OverwrittenLaws.{overwritten-of, sets-front}
 use Rattle.common.proofs.ProductLaws.{product-one, right-below}
 use Rattle.common.specs.Below.{sumBelow, bitOf}
 use Rattle.common.specs.Lists.{overwritten}
 use Rattle.engine.specs.Outcome.{Answered, ChartAfter}
-use Rattle.engine.specs.Roots.{rootTest, rootTerm, parsingBy, Lent, Filled, RootsReady}
+use Rattle.engine.specs.Roots.{ParseBy, rootTerm, parsingBy, Filled}
 use Rattle.engine.specs.declared.Answer.the-variants.{None, One, Several, Refused}
 use Rattle.extract.proofs.WrittenLaws.{bytes-long}
-use Rattle.extract.specs.Places.{Bases, Walkable, cellOf}
+use Rattle.extract.specs.Places.{cellOf}
 use Rattle.extract.specs.Walk.{OnlyWritten}
 use Rattle.extract.specs.Written.{bytesOf, room}
+use Rattle.tables.specs.Layout.{rootSlot, countsOf, arityIn, takesProduction}
+use Rattle.tables.specs.Theory.{theoryOf}
 use Rattle.theory.proofs.ClosedLaws.{everything-due}
 use Rattle.theory.proofs.CountLaws.{counts-bounds, counts-unique, parse-of, parse-counts}
 use Rattle.theory.specs.Counts.{Only, Counts}
-use Rattle.theory.specs.Grammar.{Grammar, Spells, Parse}
+use Rattle.theory.specs.Grammar.{Grammar, Spells}
 use Rattle.theory.specs.Steps.{cap, everything, rootSum}
 use Rattle.theory.specs.Tree.{Tree, node, Forest, listing}
 
 -- ---- what is lent
 
--- the cells at the root may be read
-pub roots-ready : (counts chars subs bases roots w chart : List ℕ) → Lent counts chars subs roots w chart → Bases counts bases → RootsReady counts bases roots w chart
-roots-ready counts chars subs bases roots w chart h rows =
-    record {
-      fewProductions = h .tables .fewProductions;
-      fewArguments = h .tables .fewArguments;
-      some = h .some;
-      rows = rows;
-      rootsLong = h .rootsLong;
-      short = h .short;
-      longEnough = h .longEnough;
-    }
-
--- a chart of the same length may be lent
-pub lent-kept : (counts chars subs roots w chart chart′ : List ℕ) → length chart′ ≡ length chart → Lent counts chars subs roots w chart → Lent counts chars subs roots w chart′
-lent-kept counts chars subs roots w chart chart′ e h =
-    record { tables = h .tables; some = h .some; rootsLong = h .rootsLong; rootBits = h .rootBits; short = h .short; longEnough = omega (arith, h .longEnough) }
+-- a chart of the same length fits
+pub fits-kept : (tables : List ℕ) (n : ℕ) (chart chart′ : List ℕ) → length chart′ ≡ length chart → ChartFits tables n chart → ChartFits tables n chart′
+fits-kept tables n chart chart′ e h = record { tables = h .tables; short = h .short; longEnough = omega (arith, h .longEnough) }
 
 -- one that is filled everywhere
-pub filled-all : (counts chars subs roots w chart : List ℕ) → Lent counts chars subs roots w chart → CountedBy (theoryOf counts chars subs) w everything chart → Filled counts chars subs roots w chart
-filled-all counts chars subs roots w chart h counted =
-    record { lent = h; wanted = everything; dues = everything-due (theoryOf counts chars subs) w; rootsWanted = λ p l e. refl; counted = counted }
-
--- the extractor may walk it
-pub filled-walkable : (counts chars subs bases roots w chart : List ℕ) → Filled counts chars subs roots w chart → Bases counts bases → Walkable counts chars subs bases w chart
-filled-walkable counts chars subs bases roots w chart h rows =
-    record { tables = h .lent .tables; rows = rows; short = h .lent .short; longEnough = h .lent .longEnough; wanted = h .wanted; dues = h .dues; counted = h .counted }
+pub filled-all : (tables w chart : List ℕ) → ChartFits tables (length w) chart → CountedBy (theoryOf tables) w everything chart → Filled tables w chart
+filled-all tables w chart h counted =
+    record { walkable = record { fits = h; wanted = everything; dues = everything-due (theoryOf tables) w; counted = counted }; rootsWanted = λ p l e. refl }
 
 -- ---- the parses
 
-module _ (counts chars subs roots w chart : List ℕ) (h : Filled counts chars subs roots w chart) where
-  abbrev g : Grammar
-  g = theoryOf counts chars subs
+bit-one : (b : Bool) → 1 ≤ bitOf b → b ≡ true
+bit-one true l = refl
+bit-one false l = absurd (omega arith)
 
-  abbrev pub IsParse : Tree → Type 0
-  IsParse = Parse (theoryOf counts chars subs) (rootTest roots) w
+module _ (tables w chart : List ℕ) (h : Filled tables w chart) where
+  abbrev g : Grammar
+  g = theoryOf tables
+
+  abbrev roots : ℕ → Bool
+  roots = takesProduction tables rootSlot
+
+  abbrev IsParse : Tree → Type 0
+  IsParse = ParseBy tables w
 
   abbrev total : ℕ
-  total = sumBelow (length counts) (rootTerm counts roots w chart)
+  total = sumBelow (length (countsOf tables)) (rootTerm tables w chart)
 
   -- how many lists of trees production p has for the whole text
   trees : ℕ → ℕ
-  trees p = cellOf counts w chart p (getD counts p 0) 0 (length w)
+  trees p = cellOf tables w chart p (arityIn (countsOf tables) p) 0 (length w)
 
-  total-is : total ≡ rootSum g (rootTest roots) trees
-  unfolding rootSum rootTerm rootTest trees theoryOf
-  total-is =
-      sum-same (rootTerm counts roots w chart) (λ p. bitOf (eqb (getD roots p 0) 1) * trees p) (length counts)
-      (λ p l. ap (λ (n : ℕ). n * trees p) (bit-test (getD roots p 0) (h .lent .rootBits p)))
+  total-is : total ≡ rootSum g roots trees
+  unfolding rootSum rootTerm trees
+  total-is = refl
 
-  trees-count : (p : ℕ) → p < g .count → rootTest roots p ≡ true → Counts (λ (f : Forest). Spells g w p f (g .arity p) 0 (length w)) (trees p)
-  unfolding trees cellOf theoryOf
-  trees-count p l e = h .counted .counts p (getD counts p 0) 0 (length w) l (le-refl (getD counts p 0)) (omega arith) (le-refl (length w)) (h .rootsWanted p l e)
+  trees-count : (p : ℕ) → p < g .count → roots p ≡ true → Counts (λ (f : Forest). Spells g w p f (g .arity p) 0 (length w)) (trees p)
+  unfolding trees
+  trees-count p l e = h .walkable .counted .counts p (arityIn (countsOf tables) p) 0 (length w) l (le-refl (arityIn (countsOf tables) p)) (omega arith) (le-refl (length w)) (h .rootsWanted p l e)
 
   -- The cells at the root count them.
   pub parses-counted : (v : ℕ) → v ≡ cap total → Counts IsParse v
-  parses-counted v e = subst⁻¹ (Counts IsParse) (e ∙ ap cap total-is) (parse-counts g w (rootTest roots) trees trees-count)
+  parses-counted v e = subst⁻¹ (Counts IsParse) (e ∙ ap cap total-is) (parse-counts g w roots trees trees-count)
 
   -- so they add up to one if there is one
   pub total-one : Counts IsParse 1 → total ≡ 1
@@ -99,28 +83,27 @@ module _ (counts chars subs roots w chart : List ℕ) (h : Filled counts chars s
 
   -- ---- the only one
 
-  module _ (one : Counts IsParse 1) (p : ℕ) (lp : p < length counts) (at-root : 1 ≤ rootTerm counts roots w chart p) where
-    allowed : rootTest roots p ≡ true
-    unfolding rootTest rootTerm
-    allowed = eq-eqb (getD roots p 0) 1 (omega (arith, h .lent .rootBits p, product-one (getD roots p 0) (cellOf counts w chart p (getD counts p 0) 0 (length w)) at-root .0))
+  module _ (one : Counts IsParse 1) (p : ℕ) (lp : p < length (countsOf tables)) (at-root : 1 ≤ rootTerm tables w chart p) where
+    allowed : roots p ≡ true
+    unfolding rootTerm
+    allowed = bit-one (roots p) (product-one (bitOf (roots p)) (cellOf tables w chart p (arityIn (countsOf tables) p) 0 (length w)) at-root .0)
 
     -- the cell that its tree is written from counts one
-    pub root-cell : cellOf counts w chart p (getD counts p 0) 0 (length w) ≡ 1
+    pub root-cell : cellOf tables w chart p (arityIn (countsOf tables) p) 0 (length w) ≡ 1
     unfolding rootTerm
     root-cell =
-        let cell = cellOf counts w chart p (getD counts p 0) 0 (length w) in
-        let a = product-one (getD roots p 0) cell at-root in
-        omega (arith, a .1, right-below (getD roots p 0) cell (a .0), sum-at (rootTerm counts roots w chart) (length counts) p lp, total-one one)
+        let cell = cellOf tables w chart p (arityIn (countsOf tables) p) 0 (length w) in
+        let a = product-one (bitOf (roots p)) cell at-root in
+        omega (arith, a .1, right-below (bitOf (roots p)) cell (a .0), sum-at (rootTerm tables w chart) (length (countsOf tables)) p lp, total-one one)
 
     -- the tree written is a parse, and the only one
-    module _ (l₀ l : List ℕ) (r : ℕ) (v : OnlyWritten (theoryOf counts chars subs) w p l₀ l r) where
+    module _ (l₀ l : List ℕ) (r : ℕ) (v : OnlyWritten (theoryOf tables) w p l₀ l r) where
       abbrev tree : Tree
       tree = node p (v .trees)
 
       only : Only IsParse tree
-      unfolding theoryOf
       only =
-          let it = parse-of g w (rootTest roots) trees trees-count p (v .trees) lp allowed (v .only .holds) in
+          let it = parse-of g w roots trees trees-count p (v .trees) lp allowed (v .only .holds) in
           record { holds = it; alone = λ u s. counts-bounds IsParse 1 one .same (le-refl 1) u tree s it }
 
       -- the first m numbers are at the start of the buffer, if they fit
@@ -155,15 +138,14 @@ answered-several P v l c h = (counts-bounds P v c .two (omega arith), refl)
 
 -- ---- the chart
 
-pub chart-after : (counts chars subs roots w before chart : List ℕ) → CountedBy (theoryOf counts chars subs) w everything chart → length chart ≡ length before
-    → chartBytes (arityIn counts) (length counts) (length w) ≤ length chart → ((k : ℕ) → chartBytes (arityIn counts) (length counts) (length w) ≤ k → getD chart k 0 ≡ getD before k 0)
-    → ChartAfter (parsingBy counts chars subs roots w) before chart
-unfolding theoryOf
-chart-after counts chars subs roots w before chart counted e enough b =
-    let n = chartBytes (arityIn counts) (length counts) (length w) in
+pub chart-after : (tables w before chart : List ℕ) → CountedBy (theoryOf tables) w everything chart → length chart ≡ length before
+    → chartNeed tables (length w) ≤ length chart → ((k : ℕ) → chartNeed tables (length w) ≤ k → getD chart k 0 ≡ getD before k 0)
+    → ChartAfter (parsingBy tables w) before chart
+chart-after tables w before chart counted e enough b =
+    let n = chartNeed tables (length w) in
     record {
       entries = take n chart;
       long = length-take-le n chart enough;
-      counted = counted-front (λ (p d i j : ℕ) (f : Forest). Spells (theoryOf counts chars subs) w p f d i j) (arityIn counts) (length counts) (length w) everything chart counted;
+      counted = counted-front (λ (p d i j : ℕ) (f : Forest). Spells (theoryOf tables) w p f d i j) (arityIn (countsOf tables)) (length (countsOf tables)) (length w) everything chart counted;
       whole = overwritten-of 0 n chart before e enough b;
     }

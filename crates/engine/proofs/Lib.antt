@@ -4,3 +4,4 @@ pub mod EngineLaws
 pub mod UniqueLaws
 pub mod AnswerLaws
 pub mod RefusalsLaws
+pub mod OutcomeLaws

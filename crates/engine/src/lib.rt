@@ -1,20 +1,27 @@
-// Parses a text by the flat tables and the productions allowed at the root, whichever grammar they come from.
-use chart::layout::get;
+// Parses a text by the flat tables, whichever grammar they come from; and the refusals of a text and of its chart.
+use chart::layout::TEXT_LIMIT;
+use chart::layout::chart_need;
+use chart::layout::entry_of;
 use chart::sums::capped;
-use extract::row_bases;
 use extract::write_only;
 use fill::fill;
+use grammar::Verdict;
 use grammar::layout::wide;
+use tables::ROOT_SLOT;
+use tables::argument_count;
+use tables::production_count;
+use tables::takes_production;
 ghost use mathlib.Core.Path.{_≡_};
-ghost use Prim.Native.Nat.{_*_, _<_, _≤_};
+ghost use Prim.Native.Nat.{_<_, _≤_};
 ghost use lib.ListN.{length};
 ghost use Rattle.common.specs.Below.{sumBelow};
-ghost use Rattle.theory.specs.Counts.{Counts};
-ghost use Rattle.theory.specs.Grammar.{Parse};
-ghost use Rattle.ccg.specs.Theory.{theoryOf};
-ghost use Rattle.engine.specs.Outcome.{Answered, ChartAfter, Parsed};
-ghost use Rattle.engine.specs.Roots.{rootTerm, rootTest, parsingBy, Lent, Filled, RootsReady};
 ghost use Rattle.common.specs.Bytes.{byteValues};
+ghost use Rattle.chart.specs.Layout.{ChartFits};
+ghost use Rattle.tables.specs.Layout.{countsOf, ParserTables};
+ghost use Rattle.theory.specs.Counts.{Counts};
+ghost use Rattle.engine.specs.Outcome.{Answered, ChartAfter, Parsed, UnlessRefused};
+ghost use Rattle.engine.specs.Refusals.{tooLong, textRefusal};
+ghost use Rattle.engine.specs.Roots.{ParseBy, rootTerm, parsingBy, Filled};
 
 // What parsing a text gives.
 pub enum Answer {
@@ -28,88 +35,103 @@ pub enum Answer {
     Refused(usize, usize),
 }
 
-// How many trees production p has for the whole text, if it is allowed at the root: 0, 1, or 2 for more.
-fn root_at(
-    chart: &[u8],
-    text: &[u8],
-    counts: &[u8],
-    bases: &[usize],
-    roots: &[u8],
-    p: usize,
-) -> usize
-    requires { ⌜ RootsReady (now counts) (now bases) (now roots) (now text) (now chart) ⌝ }
-    requires { ⌜ p < length (now counts) ⌝ }
-    ensures { λ r. ⌜ r ≡ rootTerm (now (counts .entry)) (now (roots .entry)) (now (text .entry)) (now (chart .entry)) p ⌝ }
-    ensures { λ r. ⌜ r < byteValues * byteValues ⌝ }
+// ---- refusals
+
+// 10: the text is over its limit.
+pub fn check_text(text: &[u8]) -> Verdict
+    ensures { λ r. ⌜ r ≡ tooLong (now (text .entry)) ⌝ }
 {
-    wide(roots[p]) * wide(get(chart, text.len(), bases[p] + wide(counts[p]), 0, text.len()))
+    if TEXT_LIMIT < text.len() {
+        return Verdict::Refused(10, text.len());
+    }
+    Verdict::Accepted
+}
+
+// 10, and then 20: the chart is too short.
+fn check_lent(tables: &[u64], text: &[u8], chart: &[u8]) -> Verdict
+    requires { ⌜ ParserTables (now tables) ⌝ }
+    ensures { λ r. ⌜ r ≡ textRefusal (now (tables .entry)) (now (text .entry)) (now (chart .entry)) ⌝ }
+{
+    let verdict = check_text(text);
+    match verdict {
+        Verdict::Refused(number, place) => Verdict::Refused(number, place),
+        Verdict::Accepted => {
+            let needed = chart_need(tables, text.len());
+            if chart.len() < needed {
+                return Verdict::Refused(20, needed);
+            }
+            Verdict::Accepted
+        }
+    }
+}
+
+// ---- counting
+
+// How many trees production p has for the whole text, if it is allowed at the root: 0, 1, or 2 for more.
+fn root_at(chart: &[u8], text: &[u8], tables: &[u64], p: usize) -> usize
+    requires { ⌜ ChartFits (now tables) (length (now text)) (now chart) ⌝ }
+    requires { ⌜ p < length (countsOf (now tables)) ⌝ }
+    ensures { λ r. ⌜ r ≡ rootTerm (now (tables .entry)) (now (text .entry)) (now (chart .entry)) p ⌝ }
+    ensures { λ r. ⌜ r < byteValues ⌝ }
+{
+    if !takes_production(tables, ROOT_SLOT, p) {
+        return 0;
+    }
+    let arity = argument_count(tables, p);
+    wide(entry_of(chart, tables, text.len(), p, arity, 0, text.len()))
 }
 
 // How many trees all of them have together.
-fn root_sum(chart: &[u8], text: &[u8], counts: &[u8], bases: &[usize], roots: &[u8]) -> usize
-    requires { ⌜ RootsReady (now counts) (now bases) (now roots) (now text) (now chart) ⌝ }
-    ensures { λ r. ⌜ r ≡ sumBelow (length (now (counts .entry))) (rootTerm (now (counts .entry)) (now (roots .entry)) (now (text .entry)) (now (chart .entry))) ⌝ }
+fn root_sum(chart: &[u8], text: &[u8], tables: &[u64]) -> usize
+    requires { ⌜ ChartFits (now tables) (length (now text)) (now chart) ⌝ }
+    ensures { λ r. ⌜ r ≡ sumBelow (length (countsOf (now (tables .entry)))) (rootTerm (now (tables .entry)) (now (text .entry)) (now (chart .entry))) ⌝ }
 {
+    let count = production_count(tables);
     let mut sum = 0;
     let mut p = 0;
-    while p < counts.len() {
-        sum += root_at(chart, text, counts, bases, roots, p);
+    while p < count {
+        sum += root_at(chart, text, tables, p);
         p += 1;
     }
     sum
 }
 
 // The first production that has one.
-fn first_root(chart: &[u8], text: &[u8], counts: &[u8], bases: &[usize], roots: &[u8]) -> usize
-    requires { ⌜ RootsReady (now counts) (now bases) (now roots) (now text) (now chart) ⌝ }
-    requires { ⌜ 1 ≤ sumBelow (length (now counts)) (rootTerm (now counts) (now roots) (now text) (now chart)) ⌝ }
-    ensures { λ r. ⌜ (r < length (now (counts .entry))) × (1 ≤ rootTerm (now (counts .entry)) (now (roots .entry)) (now (text .entry)) (now (chart .entry)) r) ⌝ }
+fn first_root(chart: &[u8], text: &[u8], tables: &[u64]) -> usize
+    requires { ⌜ ChartFits (now tables) (length (now text)) (now chart) ⌝ }
+    requires { ⌜ 1 ≤ sumBelow (length (countsOf (now tables))) (rootTerm (now tables) (now text) (now chart)) ⌝ }
+    ensures { λ r. ⌜ (r < length (countsOf (now (tables .entry)))) × (1 ≤ rootTerm (now (tables .entry)) (now (text .entry)) (now (chart .entry)) r) ⌝ }
 {
     let mut p = 0;
-    let mut trees = root_at(chart, text, counts, bases, roots, p);
+    let mut trees = root_at(chart, text, tables, p);
     while trees == 0 {
         p += 1;
-        trees = root_at(chart, text, counts, bases, roots, p);
+        trees = root_at(chart, text, tables, p);
     }
     p
 }
 
 // Fills the chart, and counts the parses: 0, 1, or 2 for more.
-pub fn count_parses(
-    counts: &[u8],
-    chars: &[u64],
-    subs: &[u8],
-    roots: &[u8],
-    text: &[u8],
-    chart: &mut [u8],
-) -> u8
-    requires { ⌜ Lent (now counts) (now chars) (now subs) (now roots) (now text) (now chart) ⌝ }
-    ensures { λ r. ⌜ Counts (Parse (theoryOf (now (counts .entry)) (now (chars .entry)) (now (subs .entry))) (rootTest (now (roots .entry))) (now (text .entry))) r ⌝ }
-    ensures { λ _. ⌜ Filled (now (counts .entry)) (now (chars .entry)) (now (subs .entry)) (now (roots .entry)) (now (text .entry)) (now (chart .exit)) ⌝ }
-    ensures { λ _. ⌜ ChartAfter (parsingBy (now (counts .entry)) (now (chars .entry)) (now (subs .entry)) (now (roots .entry)) (now (text .entry))) (now (chart .entry)) (now (chart .exit)) ⌝ }
+pub fn count_parses(tables: &[u64], text: &[u8], chart: &mut [u8]) -> u8
+    requires { ⌜ ChartFits (now tables) (length (now text)) (now chart) ⌝ }
+    ensures { λ r. ⌜ Counts (ParseBy (now (tables .entry)) (now (text .entry))) r ⌝ }
+    ensures { λ _. ⌜ Filled (now (tables .entry)) (now (text .entry)) (now (chart .exit)) ⌝ }
+    ensures { λ _. ⌜ ChartAfter (parsingBy (now (tables .entry)) (now (text .entry))) (now (chart .entry)) (now (chart .exit)) ⌝ }
 {
-    fill(chart, text, counts, chars, subs);
-    let bases = row_bases(counts);
-    capped(root_sum(chart, text, counts, &bases, roots))
+    fill(chart, text, tables);
+    capped(root_sum(chart, text, tables))
 }
 
+// ---- parsing
+
 // Writes the listing of the only parse, as far as there is room.
-pub fn write_parse(
-    counts: &[u8],
-    chars: &[u64],
-    subs: &[u8],
-    roots: &[u8],
-    text: &[u8],
-    chart: &[u8],
-    listing: &mut [u8],
-) -> Answer
-    requires { ⌜ Filled (now counts) (now chars) (now subs) (now roots) (now text) (now chart) ⌝ }
-    requires { ⌜ Counts (Parse (theoryOf (now counts) (now chars) (now subs)) (rootTest (now roots)) (now text)) 1 ⌝ }
-    ensures { λ r. ⌜ Answered (Parse (theoryOf (now (counts .entry)) (now (chars .entry)) (now (subs .entry))) (rootTest (now (roots .entry))) (now (text .entry))) (now (listing .entry)) r (now (listing .exit)) ⌝ }
+pub fn write_parse(tables: &[u64], text: &[u8], chart: &[u8], listing: &mut [u8]) -> Answer
+    requires { ⌜ Filled (now tables) (now text) (now chart) ⌝ }
+    requires { ⌜ Counts (ParseBy (now tables) (now text)) 1 ⌝ }
+    ensures { λ r. ⌜ Answered (ParseBy (now (tables .entry)) (now (text .entry))) (now (listing .entry)) r (now (listing .exit)) ⌝ }
 {
-    let bases = row_bases(counts);
-    let root = first_root(chart, text, counts, &bases, roots);
-    let next = write_only(chart, text, counts, chars, subs, &bases, listing, root);
+    let root = first_root(chart, text, tables);
+    let next = write_only(chart, text, tables, listing, root);
     if listing.len() / 2 < next {
         return Answer::Refused(22, listing.len() / 2);
     }
@@ -117,24 +139,28 @@ pub fn write_parse(
 }
 
 // The chart is filled; a text with one parse has its listing written, as far as there is room.
-pub fn parse_tables(
-    counts: &[u8],
-    chars: &[u64],
-    subs: &[u8],
-    roots: &[u8],
-    text: &[u8],
-    chart: &mut [u8],
-    listing: &mut [u8],
-) -> Answer
-    requires { ⌜ Lent (now counts) (now chars) (now subs) (now roots) (now text) (now chart) ⌝ }
-    ensures { λ r. ⌜ Parsed (parsingBy (now (counts .entry)) (now (chars .entry)) (now (subs .entry)) (now (roots .entry)) (now (text .entry))) (now (chart .entry)) (now (listing .entry)) r (now (chart .exit)) (now (listing .exit)) ⌝ }
+fn parse_lent(tables: &[u64], text: &[u8], chart: &mut [u8], listing: &mut [u8]) -> Answer
+    requires { ⌜ ChartFits (now tables) (length (now text)) (now chart) ⌝ }
+    ensures { λ r. ⌜ Parsed (parsingBy (now (tables .entry)) (now (text .entry))) (now (chart .entry)) (now (listing .entry)) r (now (chart .exit)) (now (listing .exit)) ⌝ }
 {
-    let found = count_parses(counts, chars, subs, roots, text, chart);
+    let found = count_parses(tables, text, chart);
     if found == 0 {
         return Answer::None;
     }
     if 1 < found {
         return Answer::Several;
     }
-    write_parse(counts, chars, subs, roots, text, chart, listing)
+    write_parse(tables, text, chart, listing)
+}
+
+// Parses a text by tables: 10, 20, and then the answer.
+pub fn parse_tables(tables: &[u64], text: &[u8], chart: &mut [u8], listing: &mut [u8]) -> Answer
+    requires { ⌜ ParserTables (now tables) ⌝ }
+    ensures { λ r. ⌜ UnlessRefused (textRefusal (now (tables .entry)) (now (text .entry)) (now (chart .entry))) (parsingBy (now (tables .entry)) (now (text .entry))) (now (chart .entry)) (now (listing .entry)) r (now (chart .exit)) (now (listing .exit)) ⌝ }
+{
+    let verdict = check_lent(tables, text, chart);
+    match verdict {
+        Verdict::Refused(number, place) => Answer::Refused(number, place),
+        Verdict::Accepted => parse_lent(tables, text, chart, listing),
+    }
 }

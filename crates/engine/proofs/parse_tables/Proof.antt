@@ -1,62 +1,57 @@
--- `parse_tables` meets its contract: none, several, or the only one is written.
-use mathlib.Core.Path.{_≡_, subst}
-use native.Mathlib.Omega.{arith}
-use Rattle.ccg.specs.Theory.{theoryOf}
-use Rattle.engine.proofs.EngineLaws.{answered-none, answered-several}
-use Rattle.engine.specs.Roots.{rootTest}
-use Rattle.theory.specs.Counts.{Counts}
-use Rattle.theory.specs.Grammar.{Parse}
+-- `parse_tables` meets its contract: refused, or parsed.
+use Rattle.engine.proofs.OutcomeLaws.{outcome-refused, outcome-accepted}
+use Rattle.engine.proofs.RefusalsLaws.{accepted-fits}
+use Rattle.engine.specs.Refusals.{textRefusal}
+use Rattle.engine.specs.Roots.{parsingBy}
+use mathlib.Core.Path.{sym, _∙_}
 use borrow.Author.Needs.{needs}
 use Rattle.engine.proofs.parse_tables.Statement.{statement}
 use Rattle.engine.proofs.parse_tables.Tie as tie
 
-count-parses-requires : tie.Need-count-parses-requires
-count-parses-requires c κs = search needs
+check-lent-requires : tie.Need-check-lent-requires
+check-lent-requires c κs = search needs
+
+enum-known-verdict : tie.Need-enum-known-verdict
+enum-known-verdict c = search needs
+
+enum-told : tie.Need-enum-told
+enum-told c = search needs
+
+parse-lent-requires : tie.Need-parse-lent-requires
+parse-lent-requires c κs =
+    let start = c .before .before .before .before .before .before .before .before .before .before in
+    accepted-fits (start .args .tables .now) (start .args .text .now) (start .args .chart .now) (start .pre) (sym (c .before .before .before .before .check-lent .ensures) ∙ c .before .before .enum-told .given .1)
 
 same-length : tie.Need-same-length
 same-length c = search needs
 
 returns : tie.Need-returns
 returns c =
-    let a = c .before .before .before .before .before .before .before .before .before .before .before .before .args in
-    let n = c .before .before .before .count-parses .ensures in
-    record { chart = n .1 .1; answer = answered-none (Parse (theoryOf (a .counts .now) (a .chars .now) (a .subs .now)) (rootTest (a .roots .now)) (a .text .now)) (c .before .before .before .count-parses .result) (a .listing .now) (n .0) (c .if1 .taken) }
+    let start = c .before .before .before .before .before .before .before .before .before in
+    outcome-refused (parsingBy (start .args .tables .now) (start .args .text .now)) (start .args .chart .now) (start .args .listing .now) (textRefusal (start .args .tables .now) (start .args .text .now) (start .args .chart .now)) _ _ (sym (c .before .before .before .check-lent .ensures) ∙ c .before .verdict .given .1)
 
 same-length-2 : tie.Need-same-length-2
 same-length-2 c = search needs
 
-returns-2 : tie.Need-returns-2
-returns-2 c =
-    let a = c .before .before .before .before .before .before .before .before .before .before .before .before .before .args in
-    let n = c .before .before .before .before .count-parses .ensures in
-    record { chart = n .1 .1; answer = answered-several (Parse (theoryOf (a .counts .now) (a .chars .now) (a .subs .now)) (rootTest (a .roots .now)) (a .text .now)) (c .before .before .before .before .count-parses .result) (a .listing .now) (n .0) (c .if2 .taken) }
-
-write-parse-requires : tie.Need-write-parse-requires
-write-parse-requires c κs =
-    let a = c .before .before .before .before .before .before .before .before .before .before .before .before .before .before .before .args in
-    let n = c .before .before .before .before .before .before .count-parses .ensures in
-    let one : c .before .before .before .before .before .before .count-parses .result ≡ 1 = omega arith in
-    (n .1 .0, subst (Counts (Parse (theoryOf (a .counts .now) (a .chars .now) (a .subs .now)) (rootTest (a .roots .now)) (a .text .now))) one (n .0))
-
 same-length-3 : tie.Need-same-length-3
 same-length-3 c = search needs
 
-same-length-4 : tie.Need-same-length-4
-same-length-4 c = search needs
-
-returns-3 : tie.Need-returns-3
-returns-3 c = search needs
+returns-2 : tie.Need-returns-2
+returns-2 c =
+    let start = c .before .before .before .before .before .before .before .before .before .before .before .before .before .before .before in
+    let parse-lent = c .before .before .before .before .parse-lent in
+    outcome-accepted (parsingBy (start .args .tables .now) (start .args .text .now)) (start .args .chart .now) (start .args .listing .now) (textRefusal (start .args .tables .now) (start .args .text .now) (start .args .chart .now)) (parse-lent .result) (parse-lent .last .1 .1 .0) (parse-lent .last .1 .1 .1 .0) (sym (c .before .before .before .before .before .before .before .before .before .check-lent .ensures) ∙ c .before .before .before .before .before .before .before .enum-told .given .1) (parse-lent .ensures)
 
 pub parse-tables-spec : {M : Type 1} → statement M
 parse-tables-spec =
     tie.close
     (tie.spec
-    count-parses-requires
+    check-lent-requires
+    enum-known-verdict
+    enum-told
+    parse-lent-requires
     same-length
     returns
     same-length-2
-    returns-2
-    write-parse-requires
     same-length-3
-    same-length-4
-    returns-3)
+    returns-2)

@@ -1,83 +1,63 @@
--- `root_at` meets its contract: the cell is that of the production with all its arguments, for the whole text.
-use Prim.Native.Nat.{ℕ, _+_, _*_, _≤_, _<_, _-_}
-use mathlib.Core.Path.{_≡_, _∙_, ap, ap₂, subst⁻¹}
-use native.Mathlib.Omega.{arith}
-use native.Mathlib.Nat.{le-refl, mul-le-mul}
-use lib.ListN.{length, getD}
-use borrow.Author.Needs.{needs}
-use Rattle.chart.specs.Counted.{entryOf}
-use Rattle.chart.specs.Layout.{rowOf, spanCount, cellAt, entryAt}
-use Rattle.tables.specs.Layout.{arityIn}
-use Rattle.engine.proofs.RootLaws.{whole-row, whole-few, whole-room}
+-- `root_at` meets its contract: the bit of the root's class, and the entry of the production with all its arguments, for the whole text.
+use Prim.Native.Nat.{ℕ, _*_, _<_}
+use Rattle.common.specs.Below.{bitOf}
 use Rattle.engine.specs.Roots.{rootTerm}
 use Rattle.extract.specs.Places.{cellOf}
+use Rattle.tables.proofs.LayoutLaws.{counts-few}
+use Rattle.tables.specs.Layout.{rootSlot, countsOf, arityIn, takesProduction}
+use borrow.Author.Tests.{not-true, not-false}
+use lib.ListN.{length}
+use mathlib.Core.Bool.{false, true}
+use mathlib.Core.Path.{_≡_, refl, sym, _∙_, ap}
+use native.Mathlib.Nat.{le-refl, one-mul, zero-mul}
+use borrow.Author.Needs.{needs}
+use native.Mathlib.Omega.{arith}
 use Rattle.engine.proofs.root_at.Statement.{statement}
 use Rattle.engine.proofs.root_at.Tie as tie
-use Rattle.common.specs.Bytes.{byteValues}
 
--- a product of bytes
-product-few : {a b x y : ℕ} → a ≡ x → b ≡ y → x < byteValues → y < byteValues → a * b < byteValues * byteValues
-product-few {a} {b} e f h l =
-    let m : a ≤ byteValues - 1 = omega arith in
-    let n : b ≤ byteValues - 1 = omega arith in
-    omega (arith, mul-le-mul m n)
+takes-production-requires : tie.Need-takes-production-requires
+takes-production-requires c κs =
+    let start = c .before .before .before in
+    (start .pre .0 .tables .long, omega arith, omega (arith, counts-few (start .args .tables .now) (start .pre .0 .tables), start .pre .1))
 
-shared-slice-read-wide : tie.Need-shared-slice-read-wide
-shared-slice-read-wide c = search needs
+returns : tie.Need-returns
+unfolding rootTerm
+returns c =
+    let start = c .before .before .before .before .before in
+    let no-bit : takesProduction (start .args .tables .now) rootSlot (start .args .p) ≡ false = sym (c .before .takes-production .ensures) ∙ not-true (c .before .takes-production .result) (c .if1 .taken) in
+    let cell = cellOf (start .args .tables .now) (start .args .text .now) (start .args .chart .now) (start .args .p) (arityIn (countsOf (start .args .tables .now)) (start .args .p)) 0 (length (start .args .text .now)) in
+    (sym (rw no-bit (zero-mul cell)), omega arith)
+
+argument-count-requires : tie.Need-argument-count-requires
+argument-count-requires c κs =
+    let start = c .before .before .before .before .before in
+    (start .pre .0 .tables, start .pre .1)
+
+entry-of-requires : tie.Need-entry-of-requires
+entry-of-requires c κs =
+    let start = c .before .before .before .before .before .before in
+    (start .pre .0, (start .pre .1, omega (arith, c .argument-count .ensures), omega arith, le-refl (length (start .args .text .now))))
 
 wide-requires : tie.Need-wide-requires
 wide-requires c κs = search needs
 
-mul-get : tie.Need-mul-get
-mul-get c = search needs
-
-shared-slice-read-get : tie.Need-shared-slice-read-get
-shared-slice-read-get c = search needs
-
-shared-slice-read-wide-2 : tie.Need-shared-slice-read-wide-2
-shared-slice-read-wide-2 c = search needs
-
-wide-requires-2 : tie.Need-wide-requires-2
-wide-requires-2 c κs = search needs
-
-add-get : tie.Need-add-get
-add-get c = omega (arith, c .wide2 .ensures, whole-row (c .before .before .before .before .before .before .before .before .before .before .args .counts .now) (c .before .before .before .before .before .before .before .before .before .before .args .bases .now) (c .before .before .before .before .before .before .before .before .before .before .args .roots .now) (c .before .before .before .before .before .before .before .before .before .before .args .text .now) (c .before .before .before .before .before .before .before .before .before .before .args .chart .now) (c .before .before .before .before .before .before .before .before .before .before .pre .0) (c .before .before .before .before .before .before .before .before .before .before .args .p) (c .before .before .before .before .before .before .before .before .before .before .pre .1), whole-few (c .before .before .before .before .before .before .before .before .before .before .args .counts .now) (c .before .before .before .before .before .before .before .before .before .before .args .bases .now) (c .before .before .before .before .before .before .before .before .before .before .args .roots .now) (c .before .before .before .before .before .before .before .before .before .before .args .text .now) (c .before .before .before .before .before .before .before .before .before .before .args .chart .now) (c .before .before .before .before .before .before .before .before .before .before .pre .0) (c .before .before .before .before .before .before .before .before .before .before .args .p) (c .before .before .before .before .before .before .before .before .before .before .pre .1))
-
-get-requires : tie.Need-get-requires
-get-requires c κs =
-    let ready = c .before .before .before .before .before .before .before .before .before .before .pre .0 in
-    let row : getD (c .before .before .before .before .before .before .before .before .before .before .args .bases .now) (c .before .before .before .before .before .before .before .before .before .before .args .p) 0 + c .wide2 .result ≡ rowOf (arityIn (c .before .before .before .before .before .before .before .before .before .before .args .counts .now)) (c .before .before .before .before .before .before .before .before .before .before .args .p) (arityIn (c .before .before .before .before .before .before .before .before .before .before .args .counts .now) (c .before .before .before .before .before .before .before .before .before .before .args .p)) = omega (arith, c .wide2 .ensures, whole-row (c .before .before .before .before .before .before .before .before .before .before .args .counts .now) (c .before .before .before .before .before .before .before .before .before .before .args .bases .now) (c .before .before .before .before .before .before .before .before .before .before .args .roots .now) (c .before .before .before .before .before .before .before .before .before .before .args .text .now) (c .before .before .before .before .before .before .before .before .before .before .args .chart .now) ready (c .before .before .before .before .before .before .before .before .before .before .args .p) (c .before .before .before .before .before .before .before .before .before .before .pre .1)) in (
-      (ready .short, omega (arith, row, whole-few (c .before .before .before .before .before .before .before .before .before .before .args .counts .now) (c .before .before .before .before .before .before .before .before .before .before .args .bases .now) (c .before .before .before .before .before .before .before .before .before .before .args .roots .now) (c .before .before .before .before .before .before .before .before .before .before .args .text .now) (c .before .before .before .before .before .before .before .before .before .before .args .chart .now) ready (c .before .before .before .before .before .before .before .before .before .before .args .p) (c .before .before .before .before .before .before .before .before .before .before .pre .1)), omega arith, le-refl (length (c .before .before .before .before .before .before .before .before .before .before .args .text .now))),
-      subst⁻¹ (λ (n : ℕ). (n + 1) * spanCount (length (c .before .before .before .before .before .before .before .before .before .before .args .text .now)) ≤ length (c .before .before .before .before .before .before .before .before .before .before .args .chart .now)) row (whole-room (c .before .before .before .before .before .before .before .before .before .before .args .counts .now) (c .before .before .before .before .before .before .before .before .before .before .args .bases .now) (c .before .before .before .before .before .before .before .before .before .before .args .roots .now) (c .before .before .before .before .before .before .before .before .before .before .args .text .now) (c .before .before .before .before .before .before .before .before .before .before .args .chart .now) ready (c .before .before .before .before .before .before .before .before .before .before .args .p) (c .before .before .before .before .before .before .before .before .before .before .pre .1)),
-    )
-
-wide-requires-3 : tie.Need-wide-requires-3
-wide-requires-3 c κs = search needs
-
-mul-result : tie.Need-mul-result
-mul-result c = omega (arith, product-few (c .before .before .before .before .before .wide .ensures) (c .wide3 .ensures) (omega (arith, c .before .before .before .before .before .before .shared-slice-known6 .given (c .before .before .before .before .before .before .before .before .before .before .before .before .args .p))) (omega arith))
-
-returns : tie.Need-returns
-unfolding rootTerm cellOf entryOf
-returns c =
-    let row = whole-row (c .before .before .before .before .before .before .before .before .before .before .before .before .args .counts .now) (c .before .before .before .before .before .before .before .before .before .before .before .before .args .bases .now) (c .before .before .before .before .before .before .before .before .before .before .before .before .args .roots .now) (c .before .before .before .before .before .before .before .before .before .before .before .before .args .text .now) (c .before .before .before .before .before .before .before .before .before .before .before .before .args .chart .now) (c .before .before .before .before .before .before .before .before .before .before .before .before .pre .0) (c .before .before .before .before .before .before .before .before .before .before .before .before .args .p) (c .before .before .before .before .before .before .before .before .before .before .before .before .pre .1) in
-    let e : getD (c .before .before .before .before .before .before .before .before .before .before .before .before .args .bases .now) (c .before .before .before .before .before .before .before .before .before .before .before .before .args .p) 0 + c .before .before .wide2 .result ≡ rowOf (arityIn (c .before .before .before .before .before .before .before .before .before .before .before .before .args .counts .now)) (c .before .before .before .before .before .before .before .before .before .before .before .before .args .p) (arityIn (c .before .before .before .before .before .before .before .before .before .before .before .before .args .counts .now) (c .before .before .before .before .before .before .before .before .before .before .before .before .args .p)) = omega (arith, c .before .before .wide2 .ensures, row) in (
-      ap₂ _*_ (c .before .before .before .before .before .wide .ensures) (c .wide3 .ensures ∙ c .before .get .ensures ∙ ap (λ (n : ℕ). entryAt (c .before .before .before .before .before .before .before .before .before .before .before .before .args .chart .now) (cellAt (length (c .before .before .before .before .before .before .before .before .before .before .before .before .args .text .now)) n 0 (length (c .before .before .before .before .before .before .before .before .before .before .before .before .args .text .now)))) e),
-      product-few (c .before .before .before .before .before .wide .ensures) (c .wide3 .ensures) (omega (arith, c .before .before .before .before .before .before .shared-slice-known6 .given (c .before .before .before .before .before .before .before .before .before .before .before .before .args .p))) (omega arith),
-    )
+returns-2 : tie.Need-returns-2
+unfolding rootTerm
+returns-2 c =
+    let start = c .before .before .before .before .before .before .before .before in
+    let takes-production = c .before .before .before .before .takes-production in
+    let bit : takesProduction (start .args .tables .now) rootSlot (start .args .p) ≡ true = sym (takes-production .ensures) ∙ not-false (takes-production .result) (c .before .before .before .if1 .left) in
+    let cell = cellOf (start .args .tables .now) (start .args .text .now) (start .args .chart .now) (start .args .p) (arityIn (countsOf (start .args .tables .now)) (start .args .p)) 0 (length (start .args .text .now)) in
+    let same : c .wide .result ≡ cell = c .wide .ensures ∙ c .before .entry-of .ensures ∙ ap (λ (n : ℕ). cellOf (start .args .tables .now) (start .args .text .now) (start .args .chart .now) (start .args .p) n 0 (length (start .args .text .now))) (c .before .before .argument-count .ensures) in
+    (same ∙ sym (rw bit (one-mul cell)), omega (arith, c .wide .ensures))
 
 pub root-at-spec : {M : Type 1} → statement M
 root-at-spec =
     tie.close
     (tie.spec
-    shared-slice-read-wide
+    takes-production-requires
+    returns
+    argument-count-requires
+    entry-of-requires
     wide-requires
-    mul-get
-    shared-slice-read-get
-    shared-slice-read-wide-2
-    wide-requires-2
-    add-get
-    get-requires
-    wide-requires-3
-    mul-result
-    returns)
+    returns-2)

@@ -1,0 +1,63 @@
+-- `parse_lent` meets its contract: none, several, or the only one is written.
+use Rattle.engine.proofs.EngineLaws.{answered-none, answered-several}
+use Rattle.engine.specs.Roots.{ParseBy}
+use Rattle.theory.specs.Counts.{Counts}
+use mathlib.Core.Path.{_≡_, subst}
+use borrow.Author.Needs.{needs}
+use native.Mathlib.Omega.{arith}
+use Rattle.engine.proofs.parse_lent.Statement.{statement}
+use Rattle.engine.proofs.parse_lent.Tie as tie
+
+count-parses-requires : tie.Need-count-parses-requires
+count-parses-requires c κs = search needs
+
+same-length : tie.Need-same-length
+same-length c = search needs
+
+returns : tie.Need-returns
+returns c =
+    let count-parses = c .before .before .before .count-parses in
+    let a = c .before .before .before .before .before .before .before .before .before .args in
+    let n = count-parses .ensures in
+    record { chart = n .1 .1; answer = answered-none (ParseBy (a .tables .now) (a .text .now)) (count-parses .result) (a .listing .now) (n .0) (c .if1 .taken) }
+
+same-length-2 : tie.Need-same-length-2
+same-length-2 c = search needs
+
+returns-2 : tie.Need-returns-2
+returns-2 c =
+    let count-parses = c .before .before .before .before .count-parses in
+    let a = c .before .before .before .before .before .before .before .before .before .before .args in
+    let n = count-parses .ensures in
+    record { chart = n .1 .1; answer = answered-several (ParseBy (a .tables .now) (a .text .now)) (count-parses .result) (a .listing .now) (n .0) (c .if2 .taken) }
+
+write-parse-requires : tie.Need-write-parse-requires
+write-parse-requires c κs =
+    let count-parses = c .before .before .before .before .before .before .count-parses in
+    let a = c .before .before .before .before .before .before .before .before .before .before .before .before .args in
+    let n = count-parses .ensures in
+    let one : count-parses .result ≡ 1 = omega arith in
+    (n .1 .0, subst (Counts (ParseBy (a .tables .now) (a .text .now))) one (n .0))
+
+same-length-3 : tie.Need-same-length-3
+same-length-3 c = search needs
+
+same-length-4 : tie.Need-same-length-4
+same-length-4 c = search needs
+
+returns-3 : tie.Need-returns-3
+returns-3 c = search needs
+
+pub parse-lent-spec : {M : Type 1} → statement M
+parse-lent-spec =
+    tie.close
+    (tie.spec
+    count-parses-requires
+    same-length
+    returns
+    same-length-2
+    returns-2
+    write-parse-requires
+    same-length-3
+    same-length-4
+    returns-3)
