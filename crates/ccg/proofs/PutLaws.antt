@@ -3,14 +3,11 @@ use Prim.Native.Nat.{ℕ, suc, _+_, _≤_}
 use mathlib.Core.Path.{_≡_, refl, sym, _∙_, ap, ap₂, subst}
 use mathlib.Core.List.{List, [], _∷_, _++_}
 use native.Mathlib.Omega.{arith}
-use native.Mathlib.Nat.{add-zero, add-suc, zero-add, suc-add}
-use lib.ListN.{length, drop, set, length-append}
+use native.Mathlib.Nat.{zero-add}
+use lib.ListN.{length, drop, length-append}
 use lib.Seq.{set-out, sets, length-sets, sets-eq}
 use Rattle.ccg.specs.Put.{Put}
-
-pub sets-append : (v w l : List ℕ) (i : ℕ) → sets l i (v ++ w) ≡ sets (sets l i v) (i + length v) w
-sets-append [] w l i = rw add-zero refl
-sets-append (a ∷ v) w l i = sets-append v w (set l i a) (suc i) ∙ ap (λ (k : ℕ). sets (sets (set l i a) (suc i) v) k w) (sym (add-suc i (length v) ∙ sym (suc-add i (length v))))
+use Rattle.common.proofs.OverwrittenLaws.{sets-append}
 
 pub put-none : (l : List ℕ) (at : ℕ) → Put [] l at l at
 put-none l at = record { wrote = refl; next = omega arith }

@@ -1,7 +1,7 @@
 -- The character class grammar that the tables of a grammar hold is the grammar's own.
 use Prim.Native.Nat.{ℕ, _+_, _-_, _≤_, _<_}
-use mathlib.Core.Path.{_≡_, refl, sym, _∙_, ap, fun-ext}
-use mathlib.Core.Bool.{Bool, false, true, and-false}
+use mathlib.Core.Path.{_≡_, refl, sym, _∙_, fun-ext}
+use mathlib.Core.Bool.{false, true, _&&_, and-false}
 use mathlib.Core.List.{List}
 use mathlib.Core.Logic.{⊎-elim, by-cases}
 use native.Mathlib.Omega.{arith}
@@ -10,52 +10,63 @@ use lib.Dec.{leb, ltb, eqb}
 use lib.ListN.{getD}
 use borrow.Author.Tests.{leb-true, lt-ltb, le-ltb, le-leb, lt-leb}
 use Rattle.ccg.proofs.FlatLaws.{flat-of-class, flat-of-sort}
-use Rattle.ccg.specs.Flat.{isProduction, mayStand, flatClass, flatLine, flatGrammar}
-use Rattle.ccg.specs.Tables.{slot, tableMay, tableHas, tableCount, subAt, slotHas, FlatTables, tableClass, slotLine, tableLine, tableGrammar}
-use Rattle.ccg.specs.Text.{grammarText, numberLimit}
+use Rattle.ccg.specs.Flat.{isProduction, mayStand, flatClass, flatLine, flatGrammar, plainClass}
+use Rattle.ccg.specs.Tables.{FlatTables, tableClass, tableLine, tableGrammar}
+use Rattle.ccg.specs.Text.{numberLimit}
 use Rattle.charset.specs.Set.{characters}
 use Rattle.common.proofs.BoolLaws.{and-first-true, true-or-false}
 use Rattle.common.proofs.ListLaws.{tabulate-same}
-use Rattle.common.specs.Below.{bitOf}
-use Rattle.grammar.proofs.ClassesLaws.{class-character}
+use Rattle.grammar.proofs.ClassesLaws.{sort-no-class, class-character}
 use Rattle.grammar.specs.Classes.{isClass, classHas}
 use Rattle.grammar.specs.Formed.{WellFormed}
-use Rattle.grammar.specs.Layout.{sorts, productions, classes, argumentCount, argument}
-use Rattle.grammar.specs.Limits.{classBase, productionLimit, argumentLimit}
-use Rattle.priority.specs.Conflict.{isSort, fits, isThere}
+use Rattle.grammar.specs.Layout.{sorts, productions, classes, startSort, argumentCount, result, argument}
+use Rattle.grammar.specs.Limits.{classBase}
+use Rattle.priority.specs.Conflict.{isSort, fits}
+use Rattle.tables.specs.Layout.{slot, rootSlot, takesChar, takesProduction}
 use Rattle.theory.specs.Tree.{productionNumber}
 
 -- ---- what the class of a slot has
 
-module _ (chars subs : List ℕ) (s : ℕ) where
-  pub table-of-character : (n : ℕ) → n < characters → tableClass chars subs s n ≡ slotHas chars s n
+module _ (t : List ℕ) (s : ℕ) where
+  pub table-of-character : (n : ℕ) → n < characters → tableClass t s n ≡ takesChar t s n
   unfolding tableClass
   table-of-character n l = rw (lt-ltb n characters l) refl
 
   -- no number between the characters and the productions
-  pub table-between : (n : ℕ) → characters ≤ n → n < productionNumber 0 → tableClass chars subs s n ≡ false
+  pub table-between : (n : ℕ) → characters ≤ n → n < productionNumber 0 → tableClass t s n ≡ false
   unfolding tableClass
   table-between n l h = rw (le-ltb n characters l, lt-leb (productionNumber 0) n h) refl
 
-  pub table-of-production : (n : ℕ) → productionNumber 0 ≤ n → n < numberLimit → tableClass chars subs s n ≡ eqb (getD subs (subAt s (n - productionNumber 0)) 0) 1
+  pub table-of-production : (n : ℕ) → productionNumber 0 ≤ n → n < numberLimit → tableClass t s n ≡ takesProduction t s (n - productionNumber 0)
   unfolding tableClass
   table-of-production n l h = rw (le-ltb n characters (omega arith), le-leb (productionNumber 0) n l, lt-ltb n numberLimit h) refl
 
-  table-above : (n : ℕ) → numberLimit ≤ n → tableClass chars subs s n ≡ false
+  table-above : (n : ℕ) → numberLimit ≤ n → tableClass t s n ≡ false
   unfolding tableClass
   table-above n l = rw (le-ltb n characters (omega arith), le-leb (productionNumber 0) n (omega arith), le-ltb n numberLimit l) refl
 
+-- ---- numbers of productions
+
+module _ (b : List ℕ) (n : ℕ) where
+  no-production : n < productionNumber 0 → isProduction b n ≡ false
+  unfolding isProduction
+  no-production l = rw (lt-leb (productionNumber 0) n l) refl
+
+  is-there : productionNumber 0 ≤ n → isProduction b n ≡ ltb (n - productionNumber 0) (productions b)
+  unfolding isProduction
+  is-there l =
+      rw (le-leb (productionNumber 0) n l)
+      (by-cases (decLt n (productionNumber (productions b)))
+      (λ m. lt-ltb n (productionNumber (productions b)) m ∙ sym (lt-ltb (n - productionNumber 0) (productions b) (omega arith)))
+      (λ m. le-ltb n (productionNumber (productions b)) (omega arith) ∙ sym (le-ltb (n - productionNumber 0) (productions b) (omega arith))))
+
+  -- no number is above the productions
+  none-above : WellFormed b → numberLimit ≤ n → isProduction b n ≡ false
+  none-above w l = is-there (omega arith) ∙ le-ltb (n - productionNumber 0) (productions b) (omega (arith, w .framed .fewProductions))
+
 -- ---- what the class of an argument has
 
-bit-of : (v : Bool) → eqb (bitOf v) 1 ≡ v
-bit-of true = refl
-bit-of false = refl
-
-module _ (b : List ℕ) (w : WellFormed b) (bytes : (k : ℕ) → getD b k 0 < characters) (p i : ℕ) (lp : p < productions b) (li : i < argumentCount b p) where
-  no-production : (n : ℕ) → n < productionNumber 0 → isProduction b n ≡ false
-  unfolding isProduction
-  no-production n l = rw (lt-leb (productionNumber 0) n l) refl
-
+module _ (b : List ℕ) (w : WellFormed b) (bytes : (k : ℕ) → getD b k 0 < characters) (p i : ℕ) where
   class-no-production : (n : ℕ) → characters ≤ n → classHas b (argument b p i - classBase) n ≡ false
   class-no-production n l =
       ⊎-elim
@@ -71,84 +82,73 @@ module _ (b : List ℕ) (w : WellFormed b) (bytes : (k : ℕ) → getD b k 0 < c
       let above = leb-true classBase x (and-first-true (leb classBase x) (ltb x (classBase + classes b)) e) in
       rw (le-ltb x (sorts b) (omega (arith, w .framed .fewSorts))) refl
 
-  flat-of-character : (n : ℕ) → n < characters → flatClass b p i n ≡ tableHas b p i n
-  unfolding tableHas
+  flat-of-character : (n : ℕ) → n < characters → flatClass b p i n ≡ (isClass b (argument b p i) && classHas b (argument b p i - classBase) n)
   flat-of-character n l =
-      rw (lt-ltb p (productions b) lp, lt-ltb i (argumentCount b p) li)
-      (⊎-elim
+      ⊎-elim
       (λ e. flat-of-class b p i n e ∙ rw e refl)
-      (λ e. flat-of-sort b p i n e ∙ rw (e, no-production n (omega arith)) refl)
-      (true-or-false (isClass b (argument b p i))))
+      (λ e. flat-of-sort b p i n e ∙ rw (e, no-production b n (omega arith)) refl)
+      (true-or-false (isClass b (argument b p i)))
 
-  flat-between : (n : ℕ) → characters ≤ n → n < productionNumber 0 → flatClass b p i n ≡ false
-  flat-between n l h =
+  flat-of-production : (n : ℕ) → productionNumber 0 ≤ n → flatClass b p i n ≡ (ltb (n - productionNumber 0) (productions b) && mayStand b p i (n - productionNumber 0))
+  flat-of-production n l =
+      let q = n - productionNumber 0 in
+      ⊎-elim
+      (λ e. flat-of-class b p i n e ∙ class-no-production n (omega arith) ∙ sym (rw (class-may-not q e) (and-false (ltb q (productions b)))))
+      (λ e. flat-of-sort b p i n e ∙ rw (is-there b n l) refl)
+      (true-or-false (isClass b (argument b p i)))
+
+  -- a number that is neither a character nor of a production
+  flat-of-none : (n : ℕ) → characters ≤ n → isProduction b n ≡ false → flatClass b p i n ≡ false
+  flat-of-none n l none =
       ⊎-elim
       (λ e. flat-of-class b p i n e ∙ class-no-production n l)
-      (λ e. flat-of-sort b p i n e ∙ rw (no-production n h) refl)
+      (λ e. flat-of-sort b p i n e ∙ rw none refl)
       (true-or-false (isClass b (argument b p i)))
 
-  is-there : (n : ℕ) → productionNumber 0 ≤ n → isThere b p i (n - productionNumber 0) ≡ isProduction b n
-  unfolding isThere isProduction
-  is-there n l =
-      rw (lt-ltb p (productions b) lp, lt-ltb i (argumentCount b p) li, le-leb (productionNumber 0) n l)
-      (by-cases (decLt n (productionNumber (productions b)))
-      (λ m. lt-ltb (n - productionNumber 0) (productions b) (omega arith) ∙ sym (lt-ltb n (productionNumber (productions b)) m))
-      (λ m. le-ltb (n - productionNumber 0) (productions b) (omega arith) ∙ sym (le-ltb n (productionNumber (productions b)) (omega arith))))
+  -- the class of the slot and the class of the argument agree
+  pub table-class : p < productions b → i < argumentCount b p → (t : List ℕ) → FlatTables b t → (n : ℕ) → tableClass t (slot p i) n ≡ flatClass b p i n
+  table-class lp li t f n =
+      let s = slot p i in
+      by-cases (decLt n characters)
+      (λ l. table-of-character t s n l ∙ f .charsAre p i n lp li l ∙ sym (flat-of-character n l))
+      (λ m. by-cases (decLt n (productionNumber 0))
+      (λ l. table-between t s n (omega arith) l ∙ sym (flat-of-none n (omega arith) (no-production b n l)))
+      (λ m₂. by-cases (decLt n numberLimit)
+      (λ l. table-of-production t s n (omega arith) l ∙ f .productionsAre p i (n - productionNumber 0) lp li (omega arith) ∙ sym (flat-of-production n (omega arith)))
+      (λ m₃. table-above t s n (omega arith) ∙ sym (flat-of-none n (omega arith) (none-above b n w (omega arith))))))
 
-  flat-of-production : (n : ℕ) → productionNumber 0 ≤ n → flatClass b p i n ≡ tableMay b p i (n - productionNumber 0)
-  unfolding tableMay
-  flat-of-production n l =
-      ⊎-elim
-      (λ e. flat-of-class b p i n e ∙ class-no-production n (omega arith) ∙ sym (rw (class-may-not (n - productionNumber 0) e) (and-false (isThere b p i (n - productionNumber 0)))))
-      (λ e. flat-of-sort b p i n e ∙ rw (is-there n l) refl)
-      (true-or-false (isClass b (argument b p i)))
+-- ---- what the class of the root has
 
-  -- no number is above the productions
-  flat-above : (n : ℕ) → numberLimit ≤ n → flatClass b p i n ≡ false
-  unfolding isProduction
-  flat-above n l =
-      ⊎-elim
-      (λ e. flat-of-class b p i n e ∙ class-no-production n (omega arith))
-      (λ e. flat-of-sort b p i n e ∙ rw (le-leb (productionNumber 0) n (omega arith), le-ltb n (productionNumber (productions b)) (omega (arith, w .framed .fewProductions))) refl)
-      (true-or-false (isClass b (argument b p i)))
+module _ (b : List ℕ) (w : WellFormed b) (bytes : (k : ℕ) → getD b k 0 < characters) (t : List ℕ) (f : FlatTables b t) where
+  plain-of-start : (n : ℕ) → plainClass b (startSort b) n ≡ (isProduction b n && eqb (result b (n - productionNumber 0)) (startSort b))
+  unfolding plainClass
+  plain-of-start n = rw (sort-no-class b w (startSort b) (w .framed .startNamed)) refl
 
-  module _ (counts chars subs : List ℕ) (t : FlatTables b counts chars subs) where
-    -- the class of the slot and the class of the argument agree
-    table-class : (n : ℕ) → tableClass chars subs (slot p i) n ≡ flatClass b p i n
-    table-class n =
-        let fewer : p < productionLimit = omega (arith, w .framed .fewProductions) in
-        let few : i < argumentLimit = omega (arith, w .framed .fewArguments p lp) in
-        by-cases (decLt n characters)
-        (λ l. table-of-character chars subs (slot p i) n l ∙ t .charsAre p i n fewer few l ∙ sym (flat-of-character n l))
-        (λ m. by-cases (decLt n (productionNumber 0))
-        (λ l. table-between chars subs (slot p i) n (omega arith) l ∙ sym (flat-between n (omega arith) l))
-        (λ m₂. by-cases (decLt n numberLimit)
-        (λ l. table-of-production chars subs (slot p i) n (omega arith) l
-        ∙ ap (λ (v : ℕ). eqb v 1) (t .subsAre p i (n - productionNumber 0) fewer few (omega arith))
-        ∙ bit-of (tableMay b p i (n - productionNumber 0))
-        ∙ sym (flat-of-production n (omega arith)))
-        (λ m₃. table-above chars subs (slot p i) n (omega arith) ∙ sym (flat-above n (omega arith)))))
+  -- the numbers of the productions of the start sort
+  pub table-root : (n : ℕ) → tableClass t rootSlot n ≡ plainClass b (startSort b) n
+  table-root n =
+      let q = n - productionNumber 0 in
+      rw (plain-of-start n)
+      (by-cases (decLt n characters)
+      (λ l. table-of-character t rootSlot n l ∙ f .rootChars n l ∙ sym (rw (no-production b n (omega arith)) refl))
+      (λ m. by-cases (decLt n (productionNumber 0))
+      (λ l. table-between t rootSlot n (omega arith) l ∙ sym (rw (no-production b n l) refl))
+      (λ m₂. by-cases (decLt n numberLimit)
+      (λ l. table-of-production t rootSlot n (omega arith) l ∙ f .rootsAre q (omega arith) ∙ sym (rw (is-there b n (omega arith)) refl))
+      (λ m₃. table-above t rootSlot n (omega arith) ∙ sym (rw (none-above b n w (omega arith)) refl)))))
 
 -- ---- the whole grammar
 
-module _ (b counts chars subs : List ℕ) (w : WellFormed b) (bytes : (k : ℕ) → getD b k 0 < characters) (t : FlatTables b counts chars subs) where
-  count-is : (p : ℕ) → p < productions b → getD counts p 0 ≡ argumentCount b p
-  unfolding tableCount
-  count-is p l = t .countsAre p (omega (arith, w .framed .fewProductions)) ∙ rw (lt-ltb p (productions b) l) refl
-
-  table-line : (p : ℕ) → p < productions b → tableLine counts chars subs p ≡ flatLine b p
-  unfolding tableLine slotLine flatLine
+module _ (b t : List ℕ) (w : WellFormed b) (bytes : (k : ℕ) → getD b k 0 < characters) (f : FlatTables b t) where
+  table-line : (p : ℕ) → p < productions b → tableLine t p ≡ flatLine b p
+  unfolding tableLine flatLine
   table-line p l =
       rw (
-        count-is p l,
-        tabulate-same (argumentCount b p) (λ i. tableClass chars subs (slot p i)) (flatClass b p) (λ i m. fun-ext (table-class b w bytes p i l m counts chars subs t)),
+        f .countsAre p l,
+        tabulate-same (argumentCount b p) (λ i. tableClass t (slot p i)) (flatClass b p) (λ i m. fun-ext (table-class b w bytes p i l m t f)),
       ) refl
 
   -- the tables of a grammar hold its character class grammar
-  pub table-grammar : tableGrammar (productions b) counts chars subs ≡ flatGrammar b
+  pub table-grammar : tableGrammar t ≡ flatGrammar b
   unfolding tableGrammar flatGrammar
-  table-grammar = tabulate-same (productions b) (tableLine counts chars subs) (flatLine b) table-line
-
-  -- and its text
-  pub table-text : grammarText (tableGrammar (productions b) counts chars subs) ≡ grammarText (flatGrammar b)
-  table-text = ap grammarText table-grammar
+  table-grammar = rw (f .countIs) (tabulate-same (productions b) (tableLine t) (flatLine b) table-line)

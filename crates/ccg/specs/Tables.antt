@@ -4,17 +4,18 @@ use mathlib.Core.Path.{_≡_}
 use mathlib.Core.Bool.{Bool, false, cond, _&&_}
 use mathlib.Core.List.{List}
 use lib.Dec.{leb, ltb, eqb}
-use lib.ListN.{length, getD}
+use lib.ListN.{length, getD, take, drop}
 use Rattle.ccg.specs.Ccg.{Line}
 use Rattle.ccg.specs.Flat.{mayStand}
 use Rattle.charset.specs.Set.{characters}
 use Rattle.common.specs.Lists.{tabulate}
 use Rattle.grammar.specs.Classes.{isClass, classHas}
 use Rattle.grammar.specs.Layout.{productions, startSort, argumentCount, result, argument}
-use Rattle.grammar.specs.Limits.{productionLimit, classBase}
+use Rattle.grammar.specs.Limits.{productionLimit, classBase, headerLength}
 use Rattle.priority.specs.Conflict.{rightOrNonassoc, leftOrNonassoc}
 use Rattle.priority.specs.Priorities.{isHigher}
 use Rattle.tables.specs.Layout.{slot, rootSlot, countsOf, arityIn, takesChar, takesProduction, ParserTables}
+use Rattle.tables.specs.Put.{CountsPut}
 use Rattle.theory.specs.Tree.{productionNumber}
 
 -- ---- what the tables of a grammar say
@@ -30,6 +31,10 @@ pub record FlatTables (b t : List ℕ) : Type 0 where
   pub rootsAre : (q : ℕ) → q < productionLimit → takesProduction t rootSlot q ≡ (ltb q (productions b) && eqb (result b q) (startSort b))
 
 -- ---- the character class grammar that tables hold
+
+-- n is the number of a production that may stand at slot s, if it is the number of a production
+unfoldable pub takesNumber : List ℕ → ℕ → ℕ → Bool
+takesNumber t s n = takesProduction t s (n - productionNumber 0)
 
 -- the class of a slot: its characters, and the numbers of its productions
 unfoldable pub tableClass : List ℕ → ℕ → ℕ → Bool
@@ -59,3 +64,23 @@ noSort = 255
 pub record Results (b results : List ℕ) : Type 0 where
   pub there : (q : ℕ) → q < productions b → getD results q 0 ≡ result b q
   pub missing : (q : ℕ) → productions b ≤ q → q < productionLimit → getD results q 0 ≡ noSort
+
+-- The argument counts of a grammar, with which its contents begin.
+abbrev pub countBytes : List ℕ → List ℕ
+countBytes b = take (productions b) (drop headerLength b)
+
+-- The class of argument i of production p.
+pub record ArgumentWritten (b : List ℕ) (p i : ℕ) (t : List ℕ) : Type 0 where
+  pub charsAre : (c : ℕ) → c < characters → takesChar t (slot p i) c ≡ (isClass b (argument b p i) && classHas b (argument b p i - classBase) c)
+  pub productionsAre : (q : ℕ) → q < productionLimit → takesProduction t (slot p i) q ≡ (ltb q (productions b) && mayStand b p i q)
+
+-- The class of the root.
+pub record RootWritten (b t : List ℕ) : Type 0 where
+  pub charsAre : (c : ℕ) → c < characters → takesChar t rootSlot c ≡ false
+  pub productionsAre : (q : ℕ) → q < productionLimit → takesProduction t rootSlot q ≡ (ltb q (productions b) && eqb (result b q) (startSort b))
+
+-- The counts, the class of the root, and the classes of the arguments whose slots are below s.
+pub record WrittenBelow (b : List ℕ) (s : ℕ) (t : List ℕ) : Type 0 where
+  pub counts : CountsPut (countBytes b) (length (countBytes b)) t
+  pub root : RootWritten b t
+  pub arguments : (p i : ℕ) → p < productions b → i < argumentCount b p → slot p i < s → ArgumentWritten b p i t

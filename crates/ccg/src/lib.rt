@@ -1,22 +1,16 @@
 // The character class grammar (01's flat book): the flat tables, and its written form.
-pub mod tables;
+pub mod flat;
 pub mod text;
 
+use flat::flatten;
 use grammar::Verdict;
-use grammar::layout::production_count;
-use grammar::limits::PRODUCTION_LIMIT;
 use priority::check_grammar;
-use tables::CHAR_WORDS;
-use tables::SUB_BYTES;
-use tables::flatten;
+use tables::zero_tables;
 use text::put_grammar;
 ghost use mathlib.Core.Path.{_≡_};
 ghost use lib.ListN.{length};
-ghost use Rattle.grammar.specs.Limits.{productionLimit};
 ghost use Rattle.grammar.specs.Formed.{WellFormed};
 ghost use Rattle.ccg.specs.Flat.{flatGrammar};
-ghost use Rattle.common.specs.Zeros.{AllZero};
-ghost use Rattle.ccg.specs.Tables.{charWords, subBytes};
 ghost use Rattle.ccg.specs.Text.{grammarText, writeAnswer, flatAnswer, bufferAfter};
 
 // What writing a character class grammar gives.
@@ -45,33 +39,12 @@ fn write_accepted(book: &[u8], out: &mut [u8]) -> FlatAnswer
     ensures { λ r. ⌜ r ≡ writeAnswer (length (grammarText (flatGrammar (now (book .entry))))) (length (now (out .entry))) ⌝ }
     ensures { λ r. ⌜ now (out .exit) ≡ bufferAfter (writeAnswer (length (grammarText (flatGrammar (now (book .entry))))) (length (now (out .entry)))) (grammarText (flatGrammar (now (book .entry)))) (now (out .entry)) ⌝ }
 {
-    let mut counts = zero_counts();
-    let mut chars = zero_chars();
-    let mut subs = zero_subs();
-    flatten(book, &mut counts, &mut chars, &mut subs);
-    let count = production_count(book);
-    let needed = put_grammar(&mut out[..0], &counts, &chars, &subs, count);
+    let mut tables = zero_tables();
+    flatten(book, &mut tables);
+    let needed = put_grammar(&mut out[..0], &tables);
     if out.len() < needed {
         return FlatAnswer::Refused(21, needed);
     }
-    put_grammar(out, &counts, &chars, &subs, count);
+    put_grammar(out, &tables);
     FlatAnswer::Written(needed)
-}
-
-pub fn zero_counts() -> [u8; PRODUCTION_LIMIT]
-    ensures { λ r. ⌜ AllZero productionLimit r ⌝ }
-{
-    [0; PRODUCTION_LIMIT]
-}
-
-pub fn zero_chars() -> [u64; CHAR_WORDS]
-    ensures { λ r. ⌜ AllZero charWords r ⌝ }
-{
-    [0; CHAR_WORDS]
-}
-
-pub fn zero_subs() -> [u8; SUB_BYTES]
-    ensures { λ r. ⌜ AllZero subBytes r ⌝ }
-{
-    [0; SUB_BYTES]
 }

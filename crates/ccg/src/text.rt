@@ -3,15 +3,18 @@
 use charset::CHARACTERS;
 use charset::CharSet;
 use charset::NextRun;
-use charset::SET_WORDS;
-use grammar::layout::wide;
 use grammar::limits::ARGUMENT_LIMIT;
 use grammar::limits::PRODUCTION_LIMIT;
+use tables::FIRST_PRODUCTION;
+use tables::argument_count;
+use tables::class_chars;
+use tables::production_count;
+use tables::takes_production;
 ghost use mathlib.Core.Path.{_≡_};
 ghost use mathlib.Core.List.{[], _∷_};
-ghost use Prim.Native.Nat.{ℕ, _+_, _*_, _-_, _<_, _≤_};
+ghost use Prim.Native.Nat.{_+_, _*_, _-_, _<_, _≤_};
 ghost use lib.ListN.{length};
-ghost use Rattle.grammar.specs.Limits.{productionLimit, argumentLimit};
+ghost use Rattle.grammar.specs.Limits.{productionLimit};
 ghost use Rattle.theory.specs.Tree.{productionNumber};
 ghost use Rattle.charset.specs.Set.{characters, has};
 ghost use Rattle.charset.specs.Runs.{range, runs, firstRun};
@@ -19,10 +22,8 @@ ghost use Rattle.charset.specs.Sought.{Sought};
 ghost use Rattle.common.specs.Lists.{joined};
 ghost use Rattle.ccg.specs.Put.{Put, farthest};
 ghost use Rattle.ccg.specs.Text.{backslash, digitZero, numeral, numberLimit, rangeText, classText, resultText, lineText, grammarText, numeralBase, threeDigits};
-ghost use Rattle.ccg.specs.Tables.{slotHas, subNumber, tableClass, slotLine, tableGrammar, FewArguments, slots, slotWords, charWords, subBytes};
-
-// The number of production 0.
-pub const FIRST_PRODUCTION: usize = 258;
+ghost use Rattle.tables.specs.Layout.{slots, tableWords, countsOf, ParserTables};
+ghost use Rattle.ccg.specs.Tables.{takesNumber, tableClass, tableLine, tableGrammar};
 
 // One byte.
 fn put(out: &mut [u8], at: usize, byte: u8) -> usize
@@ -105,16 +106,16 @@ fn put_char_runs(out: &mut [u8], at: usize, set: CharSet) -> usize
     place
 }
 
-// The normal ranges of the production numbers of a slot, whose entries begin at `base`.
-fn put_production_runs(out: &mut [u8], at: usize, subs: &[u8], base: usize) -> usize
-    requires { ⌜ base + productionLimit ≤ length (now subs) ⌝ }
-    requires { ⌜ at + length (joined rangeText (runs (subNumber (now subs) base) (productionNumber 0) productionLimit)) ≤ farthest ⌝ }
-    ensures { λ r. ⌜ Put (joined rangeText (runs (subNumber (now (subs .entry)) base) (productionNumber 0) productionLimit)) (now (out .entry)) at (now (out .exit)) r ⌝ }
+// The normal ranges of the numbers of the productions that may stand at slot s.
+fn put_production_runs(out: &mut [u8], at: usize, tables: &[u64], s: usize) -> usize
+    requires { ⌜ (length (now tables) ≡ tableWords) × (s ≤ slots) ⌝ }
+    requires { ⌜ at + length (joined rangeText (runs (takesNumber (now tables) s) (productionNumber 0) productionLimit)) ≤ farthest ⌝ }
+    ensures { λ r. ⌜ Put (joined rangeText (runs (takesNumber (now (tables .entry)) s) (productionNumber 0) productionLimit)) (now (out .entry)) at (now (out .exit)) r ⌝ }
 {
     let mut place = at;
     let mut from = FIRST_PRODUCTION;
     while from < FIRST_PRODUCTION + PRODUCTION_LIMIT {
-        let NextRun::Run(low, high) = next_production_run(subs, base, from) else {
+        let NextRun::Run(low, high) = next_production_run(tables, s, from) else {
             return place;
         };
         let next = put_range(out, place, low, high);
@@ -124,28 +125,28 @@ fn put_production_runs(out: &mut [u8], at: usize, subs: &[u8], base: usize) -> u
     place
 }
 
-// The first of the normal ranges of a slot's production numbers from `from` on.
-fn next_production_run(subs: &[u8], base: usize, from: usize) -> NextRun
-    requires { ⌜ base + productionLimit ≤ length (now subs) ⌝ }
+// The first of these ranges from `from` on.
+fn next_production_run(tables: &[u64], s: usize, from: usize) -> NextRun
+    requires { ⌜ (length (now tables) ≡ tableWords) × (s ≤ slots) ⌝ }
     requires { ⌜ (productionNumber 0 ≤ from) × (from < numberLimit) ⌝ }
-    ensures { λ r. ⌜ r ≡ firstRun (runs (subNumber (now (subs .entry)) base) from (numberLimit - from)) ⌝ }
+    ensures { λ r. ⌜ r ≡ firstRun (runs (takesNumber (now (tables .entry)) s) from (numberLimit - from)) ⌝ }
 {
-    let low = seek_number(subs, base, from, true);
+    let low = seek_number(tables, s, from, true);
     if FIRST_PRODUCTION + PRODUCTION_LIMIT <= low {
         return NextRun::End;
     }
-    NextRun::Run(low, seek_number(subs, base, low, false) - 1)
+    NextRun::Run(low, seek_number(tables, s, low, false) - 1)
 }
 
-// The first production number from `from` on whose entry is as wanted, past all of them if there is none.
-fn seek_number(subs: &[u8], base: usize, from: usize, wanted: bool) -> usize
-    requires { ⌜ base + productionLimit ≤ length (now subs) ⌝ }
+// The first production number from `from` on that may stand at slot s, or may not, as wanted; past all of them if there is none.
+fn seek_number(tables: &[u64], s: usize, from: usize, wanted: bool) -> usize
+    requires { ⌜ (length (now tables) ≡ tableWords) × (s ≤ slots) ⌝ }
     requires { ⌜ productionNumber 0 ≤ from ⌝ }
-    ensures { λ r. ⌜ Sought numberLimit (subNumber (now (subs .entry)) base) wanted from r ⌝ }
+    ensures { λ r. ⌜ Sought numberLimit (takesNumber (now (tables .entry)) s) wanted from r ⌝ }
 {
     let mut at = from;
     while at < FIRST_PRODUCTION + PRODUCTION_LIMIT {
-        if (subs[base + (at - FIRST_PRODUCTION)] == 1) == wanted {
+        if takes_production(tables, s, at - FIRST_PRODUCTION) == wanted {
             return at;
         }
         at += 1;
@@ -153,31 +154,15 @@ fn seek_number(subs: &[u8], base: usize, from: usize, wanted: bool) -> usize
     at
 }
 
-// The characters of slot s.
-fn slot_set(chars: &[u64], s: usize) -> CharSet
-    requires { ⌜ s * slotWords + slotWords ≤ length (now chars) ⌝ }
-    ensures { λ r. ⌜ ((c : ℕ) → c < characters → has (r .words) c ≡ slotHas (now (chars .entry)) s c) ⌝ }
-{
-    let base = s * SET_WORDS;
-    CharSet {
-        words: [
-            chars[base],
-            chars[base + 1],
-            chars[base + 2],
-            chars[base + 3],
-        ],
-    }
-}
-
 // The class of slot s.
-fn put_class(out: &mut [u8], at: usize, chars: &[u64], subs: &[u8], s: usize) -> usize
-    requires { ⌜ (length (now chars) ≡ charWords) × (length (now subs) ≡ subBytes) × (s < slots) ⌝ }
-    requires { ⌜ at + length (classText (tableClass (now chars) (now subs) s)) ≤ farthest ⌝ }
-    ensures { λ r. ⌜ Put (classText (tableClass (now (chars .entry)) (now (subs .entry)) s)) (now (out .entry)) at (now (out .exit)) r ⌝ }
+fn put_class(out: &mut [u8], at: usize, tables: &[u64], s: usize) -> usize
+    requires { ⌜ (length (now tables) ≡ tableWords) × (s ≤ slots) ⌝ }
+    requires { ⌜ at + length (classText (tableClass (now tables) s)) ≤ farthest ⌝ }
+    ensures { λ r. ⌜ Put (classText (tableClass (now (tables .entry)) s)) (now (out .entry)) at (now (out .exit)) r ⌝ }
 {
     let open = put(out, at, b'[');
-    let characters = put_char_runs(out, open, slot_set(chars, s));
-    let productions = put_production_runs(out, characters, subs, s * PRODUCTION_LIMIT);
+    let characters = put_char_runs(out, open, class_chars(tables, s));
+    let productions = put_production_runs(out, characters, tables, s);
     put(out, productions, b']')
 }
 
@@ -198,16 +183,17 @@ fn put_result(out: &mut [u8], at: usize, p: usize) -> usize
     put(out, close, b'\n')
 }
 
-// The line of production p, which has `count` arguments.
-fn put_line(out: &mut [u8], at: usize, chars: &[u64], subs: &[u8], p: usize, count: usize) -> usize
-    requires { ⌜ (length (now chars) ≡ charWords) × (length (now subs) ≡ subBytes) × (p < productionLimit) × (count ≤ argumentLimit) ⌝ }
-    requires { ⌜ at + length (lineText (slotLine (now chars) (now subs) p count)) ≤ farthest ⌝ }
-    ensures { λ r. ⌜ Put (lineText (slotLine (now (chars .entry)) (now (subs .entry)) p count)) (now (out .entry)) at (now (out .exit)) r ⌝ }
+// The line of production p.
+fn put_line(out: &mut [u8], at: usize, tables: &[u64], p: usize) -> usize
+    requires { ⌜ ParserTables (now tables) × (p < length (countsOf (now tables))) ⌝ }
+    requires { ⌜ at + length (lineText (tableLine (now tables) p)) ≤ farthest ⌝ }
+    ensures { λ r. ⌜ Put (lineText (tableLine (now (tables .entry)) p)) (now (out .entry)) at (now (out .exit)) r ⌝ }
 {
+    let count = argument_count(tables, p);
     let mut place = at;
     let mut i = 0;
     while i < count {
-        let class = put_class(out, place, chars, subs, p * ARGUMENT_LIMIT + i);
+        let class = put_class(out, place, tables, p * ARGUMENT_LIMIT + i);
         let space = put(out, class, b' ');
         place = space;
         i += 1;
@@ -215,16 +201,16 @@ fn put_line(out: &mut [u8], at: usize, chars: &[u64], subs: &[u8], p: usize, cou
     put_result(out, place, p)
 }
 
-// The first `count` lines of the grammar that tables hold. What does not fit is dropped; the length of the whole comes back.
-pub fn put_grammar(out: &mut [u8], counts: &[u8], chars: &[u64], subs: &[u8], count: usize) -> usize
-    requires { ⌜ FewArguments (now counts) (now chars) (now subs) ⌝ }
-    requires { ⌜ count ≤ productionLimit ⌝ }
-    ensures { λ r. ⌜ Put (grammarText (tableGrammar count (now (counts .entry)) (now (chars .entry)) (now (subs .entry)))) (now (out .entry)) 0 (now (out .exit)) r ⌝ }
+// The grammar that tables hold. What does not fit is dropped; the length of the whole comes back.
+pub fn put_grammar(out: &mut [u8], tables: &[u64]) -> usize
+    requires { ⌜ ParserTables (now tables) ⌝ }
+    ensures { λ r. ⌜ Put (grammarText (tableGrammar (now (tables .entry)))) (now (out .entry)) 0 (now (out .exit)) r ⌝ }
 {
+    let count = production_count(tables);
     let mut place = 0;
     let mut p = 0;
     while p < count {
-        let next = put_line(out, place, chars, subs, p, wide(counts[p]));
+        let next = put_line(out, place, tables, p);
         place = next;
         p += 1;
     }

@@ -1,38 +1,43 @@
 -- `seek_number` meets its contract: no number passed is as wanted.
 use Prim.Native.Nat.{_-_}
-use native.Mathlib.Omega.{arith}
-use borrow.Author.Needs.{needs}
-use Rattle.ccg.specs.Tables.{subNumber}
+use Rattle.ccg.specs.Tables.{takesNumber}
 use Rattle.ccg.specs.Text.{numberLimit}
 use Rattle.charset.proofs.SeekLaws.{Passed, seek-none, seek-more, seek-found, seek-end}
 use Rattle.common.proofs.BoolLaws.{beq-true, beq-false}
+use mathlib.Core.Path.{sym, _∙_}
+use borrow.Author.Needs.{needs}
+use native.Mathlib.Omega.{arith}
 use Rattle.ccg.proofs.text.seek_number.Statement.{statement}
 use Rattle.ccg.proofs.text.seek_number.Tie as tie
 
 abbrev Inv-loop : tie.InvT-loop
-Inv-loop subs base from wanted at₀ at = Passed numberLimit (subNumber subs base) wanted from at
+Inv-loop tables s from wanted at₀ at = Passed numberLimit (takesNumber tables s) wanted from at
 
 abbrev μ-loop : tie.MeasureT-loop
-μ-loop subs base from wanted at₀ at = numberLimit - at
+μ-loop tables s from wanted at₀ at = numberLimit - at
 
 loop-holds : tie.Need-loop-holds Inv-loop μ-loop
-loop-holds c = seek-none numberLimit (subNumber (c .args .subs .now) (c .args .base)) (c .args .wanted) (c .args .from)
+loop-holds c =
+    let start = c .before in
+    seek-none numberLimit (takesNumber (start .args .tables .now) (start .args .s)) (start .args .wanted) (start .args .from)
 
 add-loop : tie.Need-add-loop Inv-loop μ-loop
 add-loop c = search needs
 
-sub-if1 : tie.Need-sub-if1 Inv-loop μ-loop
-sub-if1 c = omega (arith, c .before .loop .inv .after)
+sub-takes-production : tie.Need-sub-takes-production Inv-loop μ-loop
+sub-takes-production c = omega (arith, c .before .loop .inv .after)
 
-add-if1 : tie.Need-add-if1 Inv-loop μ-loop
-add-if1 c = omega (arith, c .before .loop .inv .after)
-
-shared-slice-read-if1 : tie.Need-shared-slice-read-if1 Inv-loop μ-loop
-shared-slice-read-if1 c = omega (arith, c .before .before .loop .inv .after)
+takes-production-requires : tie.Need-takes-production-requires Inv-loop μ-loop
+takes-production-requires c κs =
+    let start = c .before .before .before in
+    (start .pre .0 .0, start .pre .0 .1, omega (arith, c .before .loop .inv .after))
 
 returns : tie.Need-returns Inv-loop μ-loop
-unfolding subNumber
-returns c = seek-found numberLimit (subNumber (c .before .before .before .before .args .subs .now) (c .before .before .before .before .args .base)) (c .before .before .before .before .args .wanted) (c .before .before .before .before .args .from) (c .before .before .before .loop .at) (beq-true _ _ (c .if1 .taken)) (c .before .before .before .loop .inv)
+unfolding takesNumber
+returns c =
+    let start = c .before .before .before .before .before in
+    let turn = c .before .before .before .loop in
+    seek-found numberLimit (takesNumber (start .args .tables .now) (start .args .s)) (start .args .wanted) (start .args .from) (turn .at) (sym (c .before .takes-production .ensures) ∙ beq-true _ _ (c .if1 .taken)) (turn .inv)
 
 add-at : tie.Need-add-at Inv-loop μ-loop
 add-at c = omega arith
@@ -41,11 +46,16 @@ loop-less : tie.Need-loop-less Inv-loop μ-loop
 loop-less c = omega arith
 
 loop-again : tie.Need-loop-again Inv-loop μ-loop
-unfolding subNumber
-loop-again c = seek-more numberLimit (subNumber (c .before .before .before .before .args .subs .now) (c .before .before .before .before .args .base)) (c .before .before .before .before .args .wanted) (c .before .before .before .before .args .from) (c .before .before .before .loop .at) (c .before .before .loop-test .taken) (beq-false _ _ (c .if1 .left)) (c .before .before .before .loop .inv)
+unfolding takesNumber
+loop-again c =
+    let start = c .before .before .before .before .before in
+    let turn = c .before .before .before .loop in
+    seek-more numberLimit (takesNumber (start .args .tables .now) (start .args .s)) (start .args .wanted) (start .args .from) (turn .at) (c .before .before .loop-test .taken) (sym (c .before .takes-production .ensures) ∙ beq-false _ _ (c .if1 .left)) (turn .inv)
 
 returns-2 : tie.Need-returns-2 Inv-loop μ-loop
-returns-2 c = seek-end numberLimit (subNumber (c .before .before .args .subs .now) (c .before .before .args .base)) (c .before .before .args .wanted) (c .before .before .args .from) (c .before .loop .at) (c .loop-test .left) (c .before .loop .inv)
+returns-2 c =
+    let start = c .before .before .before in
+    seek-end numberLimit (takesNumber (start .args .tables .now) (start .args .s)) (start .args .wanted) (start .args .from) (c .before .loop .at) (c .loop-test .left) (c .before .loop .inv)
 
 pub seek-number-spec : {M : Type 1} → statement M
 seek-number-spec =
@@ -55,9 +65,8 @@ seek-number-spec =
     μ-loop
     loop-holds
     add-loop
-    sub-if1
-    add-if1
-    shared-slice-read-if1
+    sub-takes-production
+    takes-production-requires
     returns
     add-at
     loop-less

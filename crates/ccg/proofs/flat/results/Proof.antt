@@ -9,8 +9,8 @@ use Rattle.grammar.proofs.FormedLaws.{production-in, bodies-in}
 use Rattle.grammar.proofs.LayoutLaws.{production-first, production-next}
 use Rattle.grammar.specs.Layout.{productionAt, result}
 use Rattle.grammar.specs.Limits.{productionLimit}
-use Rattle.ccg.proofs.tables.results.Statement.{statement}
-use Rattle.ccg.proofs.tables.results.Tie as tie
+use Rattle.ccg.proofs.flat.results.Statement.{statement}
+use Rattle.ccg.proofs.flat.results.Tie as tie
 
 abbrev Inv-loop : tie.InvT-loop
 Inv-loop book out₀ count at₀ q₀ out at q = (at ≡ productionAt book q) × (q ≤ count) × Filled (λ (k : ℕ) (v : ℕ). v ≡ result book k) 0 (replicate productionLimit noSort) q out

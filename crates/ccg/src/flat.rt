@@ -1,6 +1,6 @@
-// The flat tables: for each production and argument the characters and the productions that may stand there.
+// Writes the flat tables of a grammar: at each argument the characters and the productions that may stand there, and at the root the productions of
+// the start sort.
 use charset::CharSet;
-use charset::SET_WORDS;
 use common::both;
 use grammar::classes::class_set;
 use grammar::layout::argument_count;
@@ -17,26 +17,22 @@ use priority::RIGHT;
 use priority::declared_pairs;
 use priority::joined;
 use priority::priorities;
+use tables::ROOT_SLOT;
+use tables::put_class;
+use tables::put_counts;
 ghost use mathlib.Core.Path.{_≡_};
 ghost use mathlib.Core.Bool.{false, not, _&&_, _||_};
-ghost use Prim.Native.Nat.{ℕ, _+_, _*_, _-_, _<_, _≤_};
+ghost use Prim.Native.Nat.{ℕ, _+_, _-_, _<_};
 ghost use lib.Dec.{eqb, leb};
 ghost use lib.ListN.{length, getD};
 ghost use Rattle.charset.specs.Set.{characters, has};
 ghost use Rattle.grammar.specs.Classes.{isClass, classHas};
 ghost use Rattle.grammar.specs.Limits.{productionLimit, classBase};
-ghost use Rattle.grammar.specs.Layout.{productions, classes, argumentCount, productionAt};
+ghost use Rattle.grammar.specs.Layout.{productions, classes, productionAt};
 ghost use Rattle.grammar.specs.Formed.{WellFormed};
-ghost use Rattle.common.specs.Below.{bitOf};
-ghost use Rattle.common.specs.Region.{Region};
-ghost use Rattle.ccg.specs.Tables.{slotHas, Results, BarringRows, ArgumentsWritten, ZeroTables, FlatTables, slotWords, charWords, subBytes};
+ghost use Rattle.tables.specs.Layout.{slot, tableWords};
+ghost use Rattle.ccg.specs.Tables.{Results, BarringRows, WrittenBelow, FlatTables};
 
-// How many slots there are: an argument of a production is one.
-pub const SLOTS: usize = PRODUCTION_LIMIT * ARGUMENT_LIMIT;
-// The lengths of the tables.
-pub const CHAR_WORDS: usize = SLOTS * SET_WORDS;
-
-pub const SUB_BYTES: usize = SLOTS * PRODUCTION_LIMIT;
 // Stands for the result of a production that isn't there; no argument byte is as large.
 const NO_SORT: u8 = 255;
 
@@ -69,13 +65,6 @@ fn argument_set(book: &[u8], x: usize) -> CharSet
     class_set(book, x - CLASS_BASE)
 }
 
-// 1 if a production with this result may stand at argument byte x and is not barred there.
-fn may_stand(result: u8, x: u8, barred: bool) -> u8
-    ensures { λ r. ⌜ r ≡ bitOf (eqb result x && not barred) ⌝ }
-{
-    both(result == x, !barred) as u8
-}
-
 // The productions barred at argument i of a production with `count` arguments: the three lines of 01 in order.
 fn barred_at(
     above: [bool; PRODUCTION_LIMIT],
@@ -91,38 +80,41 @@ fn barred_at(
     joined(inner, both(i + 1 == count, 2 <= count), lasts)
 }
 
-// Writes which productions may stand at a slot with argument byte x.
-fn write_subs(
-    subs: &mut [u8],
-    base: usize,
+// The productions that may stand at byte x: those with this result that are not barred.
+fn standing(
     x: u8,
     barred: [bool; PRODUCTION_LIMIT],
     results: [u8; PRODUCTION_LIMIT],
-)
-    requires { ⌜ base + productionLimit ≤ length (now subs) ⌝ }
-    ensures { λ _. ⌜ Region (λ (q : ℕ) (v : ℕ). v ≡ bitOf (eqb (getD results q 0) x && not (getD barred q false))) 0 base productionLimit (now (subs .entry)) (now (subs .exit)) ⌝ }
+) -> [bool; PRODUCTION_LIMIT]
+    ensures { λ r. ⌜ ((q : ℕ) → q < productionLimit → getD r q false ≡ (eqb (getD results q 0) x && not (getD barred q false))) ⌝ }
 {
+    let mut out = [false; PRODUCTION_LIMIT];
     let mut q = 0;
     while q < PRODUCTION_LIMIT {
-        subs[base + q] = may_stand(results[q], x, barred[q]);
+        out[q] = both(results[q] == x, !barred[q]);
         q += 1;
     }
+    out
 }
 
-// Copies the words of a set to a slot.
-fn write_chars(chars: &mut [u64], base: usize, set: CharSet)
-    requires { ⌜ base + slotWords ≤ length (now chars) ⌝ }
-    ensures { λ _. ⌜ Region (λ (k : ℕ) (v : ℕ). v ≡ getD (set .words) k 0) 0 base slotWords (now (chars .entry)) (now (chars .exit)) ⌝ }
+// Writes the argument counts, and the class of the root: the productions of the start sort, which is byte 4.
+fn write_counts_and_root(book: &[u8], results: [u8; PRODUCTION_LIMIT], tables: &mut [u64])
+    requires { ⌜ WellFormed (now book) ⌝ }
+    requires { ⌜ Results (now book) results ⌝ }
+    requires { ⌜ length (now tables) ≡ tableWords ⌝ }
+    ensures { λ _. ⌜ WrittenBelow (now (book .entry)) (slot 0 0) (now (tables .exit)) ⌝ }
 {
-    let words = set.words;
-    let mut k = 0;
-    while k < SET_WORDS {
-        chars[base + k] = words[k];
-        k += 1;
-    }
+    let count = production_count(book);
+    put_counts(tables, &book[HEADER_LENGTH..HEADER_LENGTH + count]);
+    put_class(
+        tables,
+        ROOT_SLOT,
+        CharSet::empty(),
+        standing(book[4], [false; PRODUCTION_LIMIT], results),
+    );
 }
 
-// Writes the slots of production p, which stands at `at`.
+// Writes the classes of the arguments of production p, which stands at `at`.
 fn write_production(
     book: &[u8],
     p: usize,
@@ -131,72 +123,47 @@ fn write_production(
     firsts: [bool; PRODUCTION_LIMIT],
     lasts: [bool; PRODUCTION_LIMIT],
     results: [u8; PRODUCTION_LIMIT],
-    chars: &mut [u64],
-    subs: &mut [u8],
+    tables: &mut [u64],
 )
     requires { ⌜ WellFormed (now book) ⌝ }
     requires { ⌜ (p < productions (now book)) × (at ≡ productionAt (now book) p) ⌝ }
-    requires { ⌜ (length (now chars) ≡ charWords) × (length (now subs) ≡ subBytes) ⌝ }
     requires { ⌜ BarringRows (now book) p above firsts lasts ⌝ }
     requires { ⌜ Results (now book) results ⌝ }
-    ensures { λ _. ⌜ ArgumentsWritten (now (book .entry)) p (argumentCount (now (book .entry)) p) (now (chars .entry)) (now (subs .entry)) (now (chars .exit)) (now (subs .exit)) ⌝ }
+    requires { ⌜ WrittenBelow (now book) (slot p 0) (now tables) ⌝ }
+    ensures { λ _. ⌜ WrittenBelow (now (book .entry)) (slot (p + 1) 0) (now (tables .exit)) ⌝ }
 {
     let count = argument_count(book, p);
     let mut i = 0;
     while i < count {
         let x = book[at + 1 + i];
         let barred = barred_at(above, firsts, lasts, count, i);
-        write_subs(
-            subs,
-            (p * ARGUMENT_LIMIT + i) * PRODUCTION_LIMIT,
-            x,
-            barred,
-            results,
-        );
-        write_chars(
-            chars,
-            (p * ARGUMENT_LIMIT + i) * SET_WORDS,
+        put_class(
+            tables,
+            p * ARGUMENT_LIMIT + i,
             argument_set(book, wide(x)),
+            standing(x, barred, results),
         );
         i += 1;
     }
 }
 
-// Fills the three tables, which hold zeros before.
-pub fn flatten(book: &[u8], counts: &mut [u8], chars: &mut [u64], subs: &mut [u8])
+// Fills the tables, whatever they held before.
+pub fn flatten(book: &[u8], tables: &mut [u64])
     requires { ⌜ WellFormed (now book) ⌝ }
-    requires { ⌜ ZeroTables (now counts) (now chars) (now subs) ⌝ }
-    ensures { λ _. ⌜ FlatTables (now (book .entry)) (now (counts .exit)) (now (chars .exit)) (now (subs .exit)) ⌝ }
+    requires { ⌜ length (now tables) ≡ tableWords ⌝ }
+    ensures { λ _. ⌜ FlatTables (now (book .entry)) (now (tables .exit)) ⌝ }
 {
     let above = priorities(book);
     let firsts = declared_pairs(book, RIGHT, NONASSOC);
     let lasts = declared_pairs(book, LEFT, NONASSOC);
     let sorts = results(book);
+    write_counts_and_root(book, sorts, tables);
     let count = production_count(book);
     let mut at = bodies_at(book);
     let mut p = 0;
     while p < count {
-        write_production(
-            book,
-            p,
-            at,
-            above[p],
-            firsts[p],
-            lasts[p],
-            sorts,
-            chars,
-            subs,
-        );
-        counts[p] = book[HEADER_LENGTH + p];
+        write_production(book, p, at, above[p], firsts[p], lasts[p], sorts, tables);
         at += 1 + argument_count(book, p);
         p += 1;
     }
-}
-
-// Whether character c may stand at slot s.
-pub fn slot_has(chars: &[u64], s: usize, c: u8) -> bool
-    requires { ⌜ (s + 1) * slotWords ≤ length (now chars) ⌝ }
-    ensures { λ r. ⌜ r ≡ slotHas (now (chars .entry)) s c ⌝ }
-{
-    (chars[s * SET_WORDS + wide(c / 64)] >> (c % 64)) % 2 == 1
 }

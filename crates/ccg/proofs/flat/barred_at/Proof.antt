@@ -1,8 +1,8 @@
 -- `barred_at` meets its contract: two rows are joined to the first.
 use mathlib.Core.Path.{refl, _∙_}
 use borrow.Author.Needs.{needs}
-use Rattle.ccg.proofs.tables.barred_at.Statement.{statement}
-use Rattle.ccg.proofs.tables.barred_at.Tie as tie
+use Rattle.ccg.proofs.flat.barred_at.Statement.{statement}
+use Rattle.ccg.proofs.flat.barred_at.Tie as tie
 
 both-requires : tie.Need-both-requires
 both-requires c κs = search needs
