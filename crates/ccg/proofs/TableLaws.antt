@@ -83,10 +83,10 @@ module _ (b : List ℕ) (w : WellFormed b) (results : List ℕ) (rs : Results b 
 
 module _ (b : List ℕ) (w : WellFormed b) where
   -- there is one for each production
-  pub count-bytes-long : length (countBytes b) ≡ productions b
+  count-bytes-long : length (countBytes b) ≡ productions b
   count-bytes-long = length-take-le (productions b) (drop headerLength b) (simp length-drop (omega (arith, bodies-in b (w .framed))))
 
-  pub few-count-bytes : length (countBytes b) ≤ productionLimit
+  few-count-bytes : length (countBytes b) ≤ productionLimit
   few-count-bytes = omega (arith, count-bytes-long, w .framed .fewProductions)
 
   count-byte : (p : ℕ) → p < productions b → arityIn (countBytes b) p ≡ argumentCount b p

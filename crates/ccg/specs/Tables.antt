@@ -32,7 +32,7 @@ pub record FlatTables (b t : List ℕ) : Type 0 where
 
 -- ---- the character class grammar that tables hold
 
--- n is the number of a production that may stand at slot s, if it is the number of a production
+-- the production with number n may stand at slot s
 unfoldable pub takesNumber : List ℕ → ℕ → ℕ → Bool
 takesNumber t s n = takesProduction t s (n - productionNumber 0)
 

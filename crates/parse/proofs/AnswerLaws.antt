@@ -7,13 +7,13 @@ use native.Mathlib.Omega.{arith}
 use lib.ListN.{length}
 use Rattle.chart.specs.Layout.{textLimit}
 use Rattle.engine.proofs.AnswerLaws.{one-exactly, refused-is-long}
-use Rattle.engine.specs.Outcome.{Answered, Parsed}
+use Rattle.engine.specs.Outcome.{Answered, Parsed, UnlessRefused}
 use Rattle.engine.specs.declared.Answer.{Answer}
 use Rattle.engine.specs.declared.Answer.the-variants.{One, Refused}
 use Rattle.grammar.specs.declared.Verdict.{Verdict}
 use Rattle.grammar.specs.declared.Verdict.the-variants.{Accepted, Refused as Rejected}
 use Rattle.parse.proofs.RefusalLaws.{refusal-grammar, refusal-ten, refusal-twenty, Readable, readable-accepted}
-use Rattle.parse.specs.Outcome.{needed, refusal, AfterVerdict, Outcome, readingBy}
+use Rattle.parse.specs.Outcome.{needed, refusal, Outcome, readingBy}
 use Rattle.ccg.specs.Reading.{Reading}
 use Rattle.priority.specs.Check.{checked}
 
@@ -28,13 +28,13 @@ module _ (b w c₀ l₀ : List ℕ) (r : Answer) (c l : List ℕ) (o : Outcome b
 
   -- a refusal is the answer, and nothing is changed
   pub refused-outcome : (n k : ℕ) → refusal b w c₀ ≡ Rejected n k → (r ≡ Refused n k) × (c ≡ c₀) × (l ≡ l₀)
-  unfolding Outcome AfterVerdict
-  refused-outcome n k e = subst (AfterVerdict b w c₀ l₀ r c l) e o
+  unfolding Outcome UnlessRefused
+  refused-outcome n k e = subst (λ (v : Verdict). UnlessRefused v (readingBy b w) c₀ l₀ r c l) e o
 
   -- otherwise chart and answer are those of the grammar's own trees
   pub accepted-outcome : refusal b w c₀ ≡ Accepted → Parsed (readingBy b w) c₀ l₀ r c l
-  unfolding Outcome AfterVerdict
-  accepted-outcome e = subst (AfterVerdict b w c₀ l₀ r c l) e o
+  unfolding Outcome UnlessRefused
+  accepted-outcome e = subst (λ (v : Verdict). UnlessRefused v (readingBy b w) c₀ l₀ r c l) e o
 
   pub parsed-outcome : Readable b w c₀ → Parsed (readingBy b w) c₀ l₀ r c l
   parsed-outcome h = accepted-outcome (readable-accepted b w c₀ h)

@@ -1,3 +1,2 @@
 -- What the contracts of parsing cite.
 pub mod Outcome
-pub mod Roots

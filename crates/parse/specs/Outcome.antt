@@ -1,20 +1,16 @@
 -- The promise of the operation "reading a text" (01; demand 3), stated once, for every grammar, text, chart and buffer.
 use Prim.Native.Nat.{ℕ}
-use mathlib.Core.Path.{_≡_}
 use mathlib.Core.List.{List, [], _∷_}
 use lib.ListN.{length}
 use Rattle.chart.specs.Layout.{chartBytes}
-use Rattle.engine.specs.Outcome.{Parsing, Parsed}
+use Rattle.engine.specs.Outcome.{Parsing, UnlessRefused}
 use Rattle.engine.specs.Refusals.{tooLong, chartTooShort}
 use Rattle.engine.specs.declared.Answer.{Answer}
-use Rattle.engine.specs.declared.Answer.the-variants.{Refused}
 use Rattle.grammar.specs.Layout.{productions, argumentCount}
 use Rattle.grammar.specs.Verdict.{inOrder}
 use Rattle.grammar.specs.declared.Verdict.{Verdict}
-use Rattle.grammar.specs.declared.Verdict.the-variants.{Accepted}
 use Rattle.ccg.specs.Reading.{Reading, EntryList}
 use Rattle.priority.specs.Check.{checked}
-use Rattle.grammar.specs.declared.Verdict.the-variants.{Refused as Rejected}
 
 -- how many bytes the chart of a text of n characters needs: 01's A × (n + 1) × (n + 2) / 2
 unfoldable pub needed : List ℕ → ℕ → ℕ
@@ -34,9 +30,5 @@ refusal b w chart = inOrder (checked b ∷ tooLong w ∷ tooShort b w chart ∷ 
 
 -- By one of them nothing is changed. Otherwise the answer and every lent byte afterwards are those of the grammar's own trees: chart and buffer held c₀ and l₀
 -- before, and hold c and l afterwards.
-unfoldable pub AfterVerdict : (b w c₀ l₀ : List ℕ) → Answer → (c l : List ℕ) → Verdict → Type 0
-AfterVerdict b w c₀ l₀ r c l Accepted = Parsed (readingBy b w) c₀ l₀ r c l
-AfterVerdict b w c₀ l₀ r c l (Rejected number place) = (r ≡ Refused number place) × (c ≡ c₀) × (l ≡ l₀)
-
 unfoldable pub Outcome : (b w c₀ l₀ : List ℕ) → Answer → (c l : List ℕ) → Type 0
-Outcome b w c₀ l₀ r c l = AfterVerdict b w c₀ l₀ r c l (refusal b w c₀)
+Outcome b w c₀ l₀ r c l = UnlessRefused (refusal b w c₀) (readingBy b w) c₀ l₀ r c l

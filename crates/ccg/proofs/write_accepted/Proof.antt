@@ -1,5 +1,12 @@
 -- `write_accepted` meets its contract: the length first, and then, if it fits, the text.
 use Prim.Native.Nat.{ℕ, _≤_, _<_}
+use mathlib.Core.Path.{_≡_, _∙_, ap, subst}
+use mathlib.Core.List.{List, [], _++_}
+use native.Mathlib.Omega.{arith}
+use native.Mathlib.Nat.{zero-add}
+use lib.ListN.{length, getD}
+use borrow.Author.Tests.{le-leb, lt-leb}
+use borrow.Author.Needs.{needs}
 use Rattle.ccg.proofs.PutLaws.{put-same, put-nowhere, put-start}
 use Rattle.ccg.proofs.TableTextLaws.{table-grammar}
 use Rattle.ccg.specs.Flat.{flatGrammar}
@@ -7,13 +14,6 @@ use Rattle.ccg.specs.Put.{Put}
 use Rattle.ccg.specs.Text.{grammarText, writeAnswer}
 use Rattle.ccg.specs.declared.FlatAnswer.the-variants.{Written, Refused}
 use Rattle.charset.specs.Set.{characters}
-use borrow.Author.Tests.{le-leb, lt-leb}
-use lib.ListN.{length, getD}
-use mathlib.Core.List.{List, [], _++_}
-use mathlib.Core.Path.{_≡_, _∙_, ap, subst}
-use native.Mathlib.Nat.{zero-add}
-use borrow.Author.Needs.{needs}
-use native.Mathlib.Omega.{arith}
 use Rattle.ccg.proofs.write_accepted.Statement.{statement}
 use Rattle.ccg.proofs.write_accepted.Tie as tie
 

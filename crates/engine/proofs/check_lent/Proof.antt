@@ -1,7 +1,7 @@
 -- `check_lent` meets its contract: the text first, then the chart.
-use Rattle.engine.proofs.RefusalsLaws.{text-short, refused-text, refused-chart, refused-not}
 use mathlib.Core.Path.{sym, _∙_}
 use borrow.Author.Needs.{needs}
+use Rattle.engine.proofs.RefusalsLaws.{text-short, refused-text, refused-chart, refused-not}
 use Rattle.engine.proofs.check_lent.Statement.{statement}
 use Rattle.engine.proofs.check_lent.Tie as tie
 

@@ -1,6 +1,6 @@
 -- `check_text` meets its contract.
-use Rattle.engine.proofs.RefusalsLaws.{long-text, short-text}
 use mathlib.Core.Path.{sym}
+use Rattle.engine.proofs.RefusalsLaws.{long-text, short-text}
 use Rattle.engine.proofs.check_text.Statement.{statement}
 use Rattle.engine.proofs.check_text.Tie as tie
 

@@ -1,9 +1,9 @@
 -- `count_parses` meets its contract: the chart is filled, and its cells at the root count the parses.
+use mathlib.Core.Path.{_∙_, ap}
+use lib.ListN.{length}
+use borrow.Author.Needs.{needs}
 use Rattle.engine.proofs.EngineLaws.{fits-kept, filled-all, parses-counted, chart-after}
 use Rattle.theory.specs.Steps.{cap}
-use lib.ListN.{length}
-use mathlib.Core.Path.{_∙_, ap}
-use borrow.Author.Needs.{needs}
 use Rattle.engine.proofs.count_parses.Statement.{statement}
 use Rattle.engine.proofs.count_parses.Tie as tie
 

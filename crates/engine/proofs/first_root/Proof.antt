@@ -1,14 +1,14 @@
 -- `first_root` meets its contract: the productions below p have none, so there is one from p on.
 use Prim.Native.Nat.{_+_, _-_, _<_}
+use mathlib.Core.Path.{_≡_}
+use native.Mathlib.Omega.{arith}
+use lib.ListN.{length}
 use Rattle.common.proofs.BelowLaws.{sum-none}
 use Rattle.common.specs.Below.{sumBelow}
 use Rattle.engine.proofs.RootLaws.{sum-on, sum-still}
 use Rattle.engine.specs.Roots.{rootTerm}
 use Rattle.tables.proofs.LayoutLaws.{counts-few}
 use Rattle.tables.specs.Layout.{countsOf}
-use lib.ListN.{length}
-use mathlib.Core.Path.{_≡_}
-use native.Mathlib.Omega.{arith}
 use Rattle.engine.proofs.first_root.Statement.{statement}
 use Rattle.engine.proofs.first_root.Tie as tie
 

@@ -1,10 +1,10 @@
 -- `parse_lent` meets its contract: none, several, or the only one is written.
+use mathlib.Core.Path.{_≡_, subst}
+use native.Mathlib.Omega.{arith}
+use borrow.Author.Needs.{needs}
 use Rattle.engine.proofs.EngineLaws.{answered-none, answered-several}
 use Rattle.engine.specs.Roots.{ParseBy}
 use Rattle.theory.specs.Counts.{Counts}
-use mathlib.Core.Path.{_≡_, subst}
-use borrow.Author.Needs.{needs}
-use native.Mathlib.Omega.{arith}
 use Rattle.engine.proofs.parse_lent.Statement.{statement}
 use Rattle.engine.proofs.parse_lent.Tie as tie
 

@@ -1,10 +1,10 @@
 -- `parse_tables` meets its contract: refused, or parsed.
+use mathlib.Core.Path.{sym, _∙_}
+use borrow.Author.Needs.{needs}
 use Rattle.engine.proofs.OutcomeLaws.{outcome-refused, outcome-accepted}
 use Rattle.engine.proofs.RefusalsLaws.{accepted-fits}
 use Rattle.engine.specs.Refusals.{textRefusal}
 use Rattle.engine.specs.Roots.{parsingBy}
-use mathlib.Core.Path.{sym, _∙_}
-use borrow.Author.Needs.{needs}
 use Rattle.engine.proofs.parse_tables.Statement.{statement}
 use Rattle.engine.proofs.parse_tables.Tie as tie
 

@@ -1,17 +1,16 @@
 -- `root_at` meets its contract: the bit of the root's class, and the entry of the production with all its arguments, for the whole text.
-use Prim.Native.Nat.{ℕ, _*_, _<_}
-use Rattle.common.specs.Below.{bitOf}
+use Prim.Native.Nat.{ℕ}
+use mathlib.Core.Bool.{false, true}
+use mathlib.Core.Path.{_≡_, sym, _∙_, ap}
+use native.Mathlib.Nat.{le-refl, one-mul, zero-mul}
+use native.Mathlib.Omega.{arith}
+use lib.ListN.{length}
+use borrow.Author.Tests.{not-true, not-false}
+use borrow.Author.Needs.{needs}
 use Rattle.engine.specs.Roots.{rootTerm}
 use Rattle.extract.specs.Places.{cellOf}
 use Rattle.tables.proofs.LayoutLaws.{counts-few}
 use Rattle.tables.specs.Layout.{rootSlot, countsOf, arityIn, takesProduction}
-use borrow.Author.Tests.{not-true, not-false}
-use lib.ListN.{length}
-use mathlib.Core.Bool.{false, true}
-use mathlib.Core.Path.{_≡_, refl, sym, _∙_, ap}
-use native.Mathlib.Nat.{le-refl, one-mul, zero-mul}
-use borrow.Author.Needs.{needs}
-use native.Mathlib.Omega.{arith}
 use Rattle.engine.proofs.root_at.Statement.{statement}
 use Rattle.engine.proofs.root_at.Tie as tie
 

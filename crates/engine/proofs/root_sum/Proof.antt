@@ -1,14 +1,14 @@
 -- `root_sum` meets its contract: the productions below p are summed up.
 use Prim.Native.Nat.{ℕ, _-_, _*_, _≤_}
+use mathlib.Core.Path.{_≡_, sym, _∙_, ap}
+use native.Mathlib.Omega.{arith}
+use lib.ListN.{length}
 use Rattle.common.proofs.BelowLaws.{sum-none, sum-more}
 use Rattle.common.specs.Below.{sumBelow}
 use Rattle.common.specs.Bytes.{byteValues}
 use Rattle.engine.specs.Roots.{rootTerm}
 use Rattle.tables.proofs.LayoutLaws.{counts-few}
 use Rattle.tables.specs.Layout.{countsOf}
-use lib.ListN.{length}
-use mathlib.Core.Path.{_≡_, sym, _∙_, ap}
-use native.Mathlib.Omega.{arith}
 use Rattle.engine.proofs.root_sum.Statement.{statement}
 use Rattle.engine.proofs.root_sum.Tie as tie
 

@@ -1,11 +1,11 @@
 -- `write_parse` meets its contract: the first production that counts at the root has the only tree.
 use Prim.Native.Nat.{ℕ, _/_}
+use mathlib.Core.Path.{_≡_, ap}
+use native.Mathlib.Omega.{arith}
+use lib.ListN.{length}
+use borrow.Author.Needs.{needs}
 use Rattle.engine.proofs.EngineLaws.{total-one, root-cell, answered-one, answered-long}
 use Rattle.extract.specs.Written.{room}
-use lib.ListN.{length}
-use mathlib.Core.Path.{_≡_, ap}
-use borrow.Author.Needs.{needs}
-use native.Mathlib.Omega.{arith}
 use Rattle.engine.proofs.write_parse.Statement.{statement}
 use Rattle.engine.proofs.write_parse.Tie as tie
 

@@ -1,7 +1,7 @@
 -- `parse` meets its contract: the grammar's refusals first.
 use mathlib.Core.Path.{sym, _∙_}
 use borrow.Author.Needs.{needs}
-use Rattle.parse.proofs.OutcomeLaws.{outcome-refused, outcome-accepted}
+use Rattle.parse.proofs.OutcomeLaws.{grammar-refused, grammar-accepted}
 use Rattle.priority.proofs.CheckLaws.{accepted-formed}
 use Rattle.parse.proofs.parse.Statement.{statement}
 use Rattle.parse.proofs.parse.Tie as tie
@@ -19,7 +19,9 @@ parse-accepted-requires : tie.Need-parse-accepted-requires
 parse-accepted-requires c κs = accepted-formed (c .before .before .before .before .before .before .before .before .before .args .book .now) (sym (c .before .before .before .before .check-grammar .ensures) ∙ c .before .before .enum-told .given .1)
 
 returns : tie.Need-returns
-returns c = outcome-refused (c .before .before .before .before .before .before .before .before .args .book .now) (c .before .before .before .before .before .before .before .before .args .text .now) (c .before .before .before .before .before .before .before .before .args .chart .now) (c .before .before .before .before .before .before .before .before .args .listing .now) _ _ (sym (c .before .before .before .check-grammar .ensures) ∙ c .before .verdict .given .1)
+returns c =
+    let start = c .before .before .before .before .before .before .before .before in
+    grammar-refused (start .args .book .now) (start .args .text .now) (start .args .chart .now) (start .args .listing .now) _ _ (sym (c .before .before .before .check-grammar .ensures) ∙ c .before .verdict .given .1)
 
 same-length : tie.Need-same-length
 same-length c = search needs
@@ -28,7 +30,10 @@ same-length-2 : tie.Need-same-length-2
 same-length-2 c = search needs
 
 returns-2 : tie.Need-returns-2
-returns-2 c = outcome-accepted (c .before .before .before .before .before .before .before .before .before .before .before .before .before .before .args .book .now) (c .before .before .before .before .before .before .before .before .before .before .before .before .before .before .args .text .now) (c .before .before .before .before .before .before .before .before .before .before .before .before .before .before .args .chart .now) (c .before .before .before .before .before .before .before .before .before .before .before .before .before .before .args .listing .now) (c .before .before .before .before .parse-accepted .result) (c .before .before .before .before .parse-accepted .last .1 .1 .0) (c .before .before .before .before .parse-accepted .last .1 .1 .1 .0) (sym (c .before .before .before .before .before .before .before .before .before .check-grammar .ensures) ∙ c .before .before .before .before .before .before .before .enum-told .given .1) (c .before .before .before .before .parse-accepted .ensures)
+returns-2 c =
+    let start = c .before .before .before .before .before .before .before .before .before .before .before .before .before .before in
+    let parse-accepted = c .before .before .before .before .parse-accepted in
+    grammar-accepted (start .args .book .now) (start .args .text .now) (start .args .chart .now) (start .args .listing .now) (parse-accepted .result) (parse-accepted .last .1 .1 .0) (parse-accepted .last .1 .1 .1 .0) (sym (c .before .before .before .before .before .before .before .before .before .check-grammar .ensures) ∙ c .before .before .before .before .before .before .before .enum-told .given .1) (parse-accepted .ensures)
 
 pub parse-spec : {M : Type 1} → statement M
 parse-spec =

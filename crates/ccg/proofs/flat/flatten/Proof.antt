@@ -1,5 +1,7 @@
 -- `flatten` meets its contract: the classes of the productions passed are written.
 use Prim.Native.Nat.{ℕ, _-_, _≤_, _<_}
+use mathlib.Core.Path.{_≡_, sym, _∙_, subst}
+use native.Mathlib.Omega.{arith}
 use Rattle.ccg.proofs.TableLaws.{barring-rows, written-all}
 use Rattle.ccg.specs.Tables.{WrittenBelow}
 use Rattle.grammar.proofs.FormedLaws.{production-in, bodies-in}
@@ -7,8 +9,6 @@ use Rattle.grammar.proofs.LayoutLaws.{production-first, production-next}
 use Rattle.grammar.specs.Layout.{productions, productionAt}
 use Rattle.priority.specs.Priorities.{kindNumber}
 use Rattle.tables.specs.Layout.{slot}
-use mathlib.Core.Path.{_≡_, sym, _∙_, subst}
-use native.Mathlib.Omega.{arith}
 use Rattle.ccg.proofs.flat.flatten.Statement.{statement}
 use Rattle.ccg.proofs.flat.flatten.Tie as tie
 

@@ -1,13 +1,13 @@
 -- `standing` meets its contract: the places below q say whether a production may stand.
 use Prim.Native.Nat.{ℕ, _-_, _≤_}
-use Rattle.common.proofs.FillLaws.{Filled, filled-none, filled-more}
-use Rattle.grammar.specs.Limits.{productionLimit}
-use lib.Dec.{eqb}
-use lib.ListN.{length, getD, replicate}
+use mathlib.Core.Path.{_≡_, refl}
 use mathlib.Core.Bool.{Bool, false, not, _&&_}
 use mathlib.Core.List.{List}
-use mathlib.Core.Path.{_≡_, refl}
 use native.Mathlib.Omega.{arith}
+use lib.Dec.{eqb}
+use lib.ListN.{length, getD, replicate}
+use Rattle.common.proofs.FillLaws.{Filled, filled-none, filled-more}
+use Rattle.grammar.specs.Limits.{productionLimit}
 use Rattle.ccg.proofs.flat.standing.Statement.{statement}
 use Rattle.ccg.proofs.flat.standing.Tie as tie
 

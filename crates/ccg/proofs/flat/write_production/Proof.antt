@@ -1,5 +1,11 @@
 -- `write_production` meets its contract: the classes of the arguments passed are written.
 use Prim.Native.Nat.{ℕ, _+_, _-_, _≤_, _<_}
+use mathlib.Core.Path.{_≡_, sym, _∙_, ap, subst}
+use mathlib.Core.Bool.{false, _&&_}
+use mathlib.Core.List.{List}
+use native.Mathlib.Omega.{arith}
+use lib.ListN.{getD}
+use borrow.Author.Needs.{needs}
 use Rattle.ccg.proofs.TableLaws.{barred-row, stands-at-argument, written-more, written-next}
 use Rattle.ccg.specs.Tables.{WrittenBelow}
 use Rattle.grammar.proofs.ClassesLaws.{argument-below}
@@ -9,12 +15,6 @@ use Rattle.grammar.specs.Layout.{argumentCount, productionAt, argument}
 use Rattle.grammar.specs.Limits.{classBase}
 use Rattle.priority.specs.Conflict.{barred}
 use Rattle.tables.specs.Layout.{slot}
-use lib.ListN.{getD}
-use mathlib.Core.Bool.{false, _&&_}
-use mathlib.Core.List.{List}
-use mathlib.Core.Path.{_≡_, sym, _∙_, ap, subst}
-use native.Mathlib.Omega.{arith}
-use borrow.Author.Needs.{needs}
 use Rattle.ccg.proofs.flat.write_production.Statement.{statement}
 use Rattle.ccg.proofs.flat.write_production.Tie as tie
 

@@ -1,8 +1,8 @@
 -- `next_production_run` meets its contract: the first member, and the end of its run.
+use borrow.Author.Needs.{needs}
 use Rattle.ccg.specs.Tables.{takesNumber}
 use Rattle.ccg.specs.Text.{numberLimit}
 use Rattle.charset.proofs.RunLaws.{first-run-end, first-run}
-use borrow.Author.Needs.{needs}
 use Rattle.ccg.proofs.text.next_production_run.Statement.{statement}
 use Rattle.ccg.proofs.text.next_production_run.Tie as tie
 

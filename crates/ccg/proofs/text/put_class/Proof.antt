@@ -1,5 +1,10 @@
 -- `put_class` meets its contract: the characters, then the production numbers.
 use Prim.Native.Nat.{ℕ, _+_, _<_}
+use mathlib.Core.Path.{_≡_, sym, _∙_, ap, ap₂}
+use mathlib.Core.List.{List, [], _∷_, _++_}
+use native.Mathlib.Omega.{arith}
+use lib.ListN.{length, length-append}
+use borrow.Author.Needs.{needs}
 use Rattle.ccg.proofs.PutLaws.{put-append, put-same}
 use Rattle.ccg.proofs.TableTextLaws.{table-of-character, table-of-production, table-between}
 use Rattle.ccg.proofs.TextLaws.{class-text-parts}
@@ -12,11 +17,6 @@ use Rattle.common.specs.Lists.{joined}
 use Rattle.grammar.specs.Limits.{productionLimit}
 use Rattle.tables.specs.Layout.{takesChar}
 use Rattle.theory.specs.Tree.{productionNumber}
-use lib.ListN.{length, length-append}
-use mathlib.Core.List.{List, [], _∷_, _++_}
-use mathlib.Core.Path.{_≡_, sym, _∙_, ap, ap₂}
-use borrow.Author.Needs.{needs}
-use native.Mathlib.Omega.{arith}
 use Rattle.ccg.proofs.text.put_class.Statement.{statement}
 use Rattle.ccg.proofs.text.put_class.Tie as tie
 

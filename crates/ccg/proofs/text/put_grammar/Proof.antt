@@ -1,5 +1,9 @@
 -- `put_grammar` meets its contract: the lines passed are put.
 use Prim.Native.Nat.{ℕ, _-_, _≤_}
+use mathlib.Core.Path.{_≡_, sym, ap}
+use mathlib.Core.List.{List}
+use native.Mathlib.Omega.{arith}
+use lib.ListN.{length}
 use Rattle.ccg.proofs.LineLaws.{lines-text-none, lines-text-next}
 use Rattle.ccg.proofs.PutLaws.{put-none, put-append, put-long, put-same}
 use Rattle.ccg.proofs.TextLaws.{line-text-short, tabulate-text-short, lineTextLimit, grammarTextLimit}
@@ -11,10 +15,6 @@ use Rattle.common.specs.Lists.{tabulate}
 use Rattle.grammar.specs.Limits.{productionLimit, argumentLimit}
 use Rattle.tables.proofs.LayoutLaws.{counts-long}
 use Rattle.tables.specs.Layout.{slot, countsOf, arityIn, ParserTables}
-use lib.ListN.{length}
-use mathlib.Core.List.{List}
-use mathlib.Core.Path.{_≡_, sym, ap}
-use native.Mathlib.Omega.{arith}
 use Rattle.ccg.proofs.text.put_grammar.Statement.{statement}
 use Rattle.ccg.proofs.text.put_grammar.Tie as tie
 

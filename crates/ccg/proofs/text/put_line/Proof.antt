@@ -1,5 +1,9 @@
 -- `put_line` meets its contract: the arguments passed are put, each with a space behind it.
 use Prim.Native.Nat.{ℕ, _+_, _-_, _≤_, _<_}
+use mathlib.Core.Path.{_≡_, refl, sym, _∙_, ap}
+use mathlib.Core.List.{List, _++_}
+use native.Mathlib.Omega.{arith}
+use lib.ListN.{length, length-append}
 use Rattle.ccg.proofs.LineLaws.{arguments-text-none, arguments-text-next, arguments-text-room}
 use Rattle.ccg.proofs.PutLaws.{put-none, put-append, put-long, put-same}
 use Rattle.ccg.specs.Ccg.{Class}
@@ -11,10 +15,6 @@ use Rattle.grammar.specs.Limits.{productionLimit}
 use Rattle.tables.proofs.LayoutLaws.{counts-long}
 use Rattle.tables.specs.Layout.{slot, countsOf, arityIn, ParserTables}
 use Rattle.theory.specs.Tree.{productionNumber}
-use lib.ListN.{length, length-append}
-use mathlib.Core.List.{List, _++_}
-use mathlib.Core.Path.{_≡_, refl, sym, _∙_, ap}
-use native.Mathlib.Omega.{arith}
 use Rattle.ccg.proofs.text.put_line.Statement.{statement}
 use Rattle.ccg.proofs.text.put_line.Tie as tie
 

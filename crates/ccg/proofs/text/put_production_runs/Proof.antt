@@ -1,14 +1,14 @@
 -- `put_production_runs` meets its contract: the ranges up to `from` are put.
 use Prim.Native.Nat.{_-_}
+use mathlib.Core.Path.{sym, _∙_}
+use native.Mathlib.Omega.{arith}
+use borrow.Author.Needs.{needs}
 use Rattle.ccg.proofs.PutLaws.{put-long}
 use Rattle.ccg.proofs.RunPutLaws.{RunsPut, runs-put-none, runs-put-end, runs-put-past, run-low, run-rises, run-below, run-room, runs-put-more}
 use Rattle.ccg.specs.Put.{farthest}
 use Rattle.ccg.specs.Tables.{takesNumber}
 use Rattle.ccg.specs.Text.{numberLimit}
 use Rattle.theory.specs.Tree.{productionNumber}
-use mathlib.Core.Path.{sym, _∙_}
-use borrow.Author.Needs.{needs}
-use native.Mathlib.Omega.{arith}
 use Rattle.ccg.proofs.text.put_production_runs.Statement.{statement}
 use Rattle.ccg.proofs.text.put_production_runs.Tie as tie
 

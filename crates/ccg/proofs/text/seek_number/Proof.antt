@@ -1,12 +1,12 @@
 -- `seek_number` meets its contract: no number passed is as wanted.
 use Prim.Native.Nat.{_-_}
+use mathlib.Core.Path.{sym, _∙_}
+use native.Mathlib.Omega.{arith}
+use borrow.Author.Needs.{needs}
 use Rattle.ccg.specs.Tables.{takesNumber}
 use Rattle.ccg.specs.Text.{numberLimit}
 use Rattle.charset.proofs.SeekLaws.{Passed, seek-none, seek-more, seek-found, seek-end}
 use Rattle.common.proofs.BoolLaws.{beq-true, beq-false}
-use mathlib.Core.Path.{sym, _∙_}
-use borrow.Author.Needs.{needs}
-use native.Mathlib.Omega.{arith}
 use Rattle.ccg.proofs.text.seek_number.Statement.{statement}
 use Rattle.ccg.proofs.text.seek_number.Tie as tie
 
