@@ -7,7 +7,7 @@ use native.Mathlib.Omega.{arith}
 use native.Mathlib.Decide.{decLt}
 use lib.ListN.{length, take, drop, length-take, drop-of-length-le}
 use lib.Seq.{take-all}
-use Rattle.engine.specs.Outcome.{Answered}
+use Rattle.engine.specs.Outcome.{Answered, UnlessRefused}
 use Rattle.engine.specs.declared.Answer.{Answer}
 use Rattle.engine.specs.declared.Answer.the-variants.{Refused, None, One, Several}
 use Rattle.grammar.specs.declared.Verdict.{Verdict}
@@ -19,7 +19,7 @@ use Rattle.meadowsink.specs.declared.reply.Reply.{Reply}
 use Rattle.meadowsink.specs.Viewer.{listingLimit, UsedOutcome, CallOutcome}
 use Rattle.parse.proofs.NumberLaws.{Numbered, refusal-numbered}
 use Rattle.parse.proofs.OutcomeLaws.{outcome-unique}
-use Rattle.parse.specs.Outcome.{refusal, AfterVerdict, Outcome}
+use Rattle.parse.specs.Outcome.{refusal, readingBy, Outcome}
 use Rattle.ccg.specs.Reading.{Reading}
 use Rattle.theory.specs.Tree.{Tree}
 use Rattle.grammar.specs.declared.Verdict.the-variants.{Refused as Rejected}
@@ -31,8 +31,8 @@ own-fits P l₀ (One n) l h a = answered-fits 1 n (omega arith) (omega (arith, a
 own-fits P l₀ Several l h a = answered-fits 2 0 (omega arith) (omega arith)
 own-fits P l₀ (Refused number place) l h a = refused-fits number place (omega (arith, a .2))
 
-after-fits : (b w c₀ l₀ : List ℕ) (r : Answer) (c l : List ℕ) (v : Verdict) → length l₀ ≤ listingLimit → Numbered v → AfterVerdict b w c₀ l₀ r c l v → Fits (readReply r)
-unfolding AfterVerdict readReply
+after-fits : (b w c₀ l₀ : List ℕ) (r : Answer) (c l : List ℕ) (v : Verdict) → length l₀ ≤ listingLimit → Numbered v → UnlessRefused v (readingBy b w) c₀ l₀ r c l → Fits (readReply r)
+unfolding UnlessRefused readReply
 after-fits b w c₀ l₀ r c l Accepted h n a = own-fits (Reading b w) l₀ r l h (a .answer)
 after-fits b w c₀ l₀ r c l (Rejected number place) h n a = subst⁻¹ (λ (x : Answer). Fits (readReply x)) (a .0) (refused-fits number place (n .small number place refl))
 

@@ -5,7 +5,7 @@ use mathlib.Core.List.{List}
 use native.Mathlib.Omega.{arith}
 use lib.ListN.{getD, take}
 use Rattle.charset.specs.Set.{characters}
-use Rattle.engine.specs.Outcome.{Answered}
+use Rattle.engine.specs.Outcome.{Answered, UnlessRefused}
 use Rattle.engine.specs.declared.Answer.the-variants.{One}
 use Rattle.grammar.proofs.VerdictLaws.{and-first, and-second}
 use Rattle.grammar.specs.Verdict.{andThen}
@@ -14,7 +14,7 @@ use Rattle.grammar.specs.declared.Verdict.the-variants.{Accepted}
 use Rattle.listing.specs.Answer.{byteLimit, listingAnswer}
 use Rattle.listing.specs.declared.ListingAnswer.the-variants.{Right}
 use Rattle.engine.specs.Refusals.{tooLong}
-use Rattle.parse.specs.Outcome.{tooShort, refusal, AfterVerdict, Outcome}
+use Rattle.parse.specs.Outcome.{tooShort, refusal, readingBy, Outcome}
 use Rattle.ccg.specs.Reading.{Reading}
 use Rattle.priority.specs.Check.{checked}
 use Rattle.grammar.specs.declared.Verdict.the-variants.{Refused as Rejected}
@@ -22,8 +22,8 @@ use Rattle.listing.proofs.ReadingLaws.{reading-written}
 
 module _ (b w c₀ l₀ : List ℕ) (n : ℕ) (c l : List ℕ) where
   -- one is no refusal
-  one-accepted : (v : Verdict) → AfterVerdict b w c₀ l₀ (One n) c l v → (v ≡ Accepted) × Answered (Reading b w) l₀ (One n) l
-  unfolding AfterVerdict
+  one-accepted : (v : Verdict) → UnlessRefused v (readingBy b w) c₀ l₀ (One n) c l → (v ≡ Accepted) × Answered (Reading b w) l₀ (One n) l
+  unfolding UnlessRefused
   one-accepted Accepted h = (refl, h .answer)
   one-accepted (Rejected number place) h = let e = h .0 in let z : _≡_ {A = ℕ} 0 1 = cc in absurd (omega arith)
 
