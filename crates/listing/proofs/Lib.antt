@@ -4,6 +4,6 @@ pub mod TerminalLaws
 pub mod TreeLaws
 pub mod WalkLaws
 pub mod EndLaws
-pub mod AnswerLaws
+pub mod BadListingLaws
 pub mod ReadingLaws
 pub mod RefusedLaws

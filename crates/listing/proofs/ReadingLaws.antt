@@ -7,7 +7,6 @@ use mathlib.Core.Logic.{_↔_}
 use native.Mathlib.Omega.{arith}
 use lib.ListN.{length, getD, take, drop}
 use lib.Seq.{take-at}
-use borrow.Author.Tests.{le-ltb, ne-eqb}
 use Rattle.ccg.proofs.FlatLaws.{flat-length, flat-result, flat-trees}
 use Rattle.ccg.specs.Flat.{flatGrammar, plainClass}
 use Rattle.charset.specs.Set.{characters}
@@ -20,9 +19,10 @@ use Rattle.grammar.specs.Layout.{startSort}
 use Rattle.grammar.specs.Verdict.{andThen, inOrder}
 use Rattle.grammar.specs.declared.Verdict.{Verdict}
 use Rattle.grammar.specs.declared.Verdict.the-variants.{Accepted}
+use Rattle.listing.proofs.BadListingLaws.{listing-accepted}
 use Rattle.listing.proofs.TerminalLaws.{OwnNumbers}
 use Rattle.listing.proofs.TreeLaws.{judge-right}
-use Rattle.listing.specs.Answer.{byteLimit, badListing, judged, afterVerdict, listingAnswer}
+use Rattle.listing.specs.Answer.{byteLimit, badListing, judged, listingAnswer}
 use Rattle.listing.specs.Numbers.{numbersOf}
 use Rattle.listing.specs.declared.ListingAnswer.the-variants.{Right, Refused}
 use Rattle.engine.specs.Refusals.{tooLong}
@@ -76,7 +76,7 @@ module _ (b w l : List ℕ) where
 
   -- "right" is no refusal: then the numbers decide
   right-parts : (listingAnswer b w l ≡ Right) ↔ ((refusals ≡ Accepted) × (judged b w l ≡ Right))
-  unfolding listingAnswer afterVerdict
+  unfolding listingAnswer
   right-parts = unless-answer Refused refusals (judged b w l) Right refused-right
 
   refusals-formed : refusals ≡ Accepted → WellFormed b
@@ -91,11 +91,6 @@ listing-right b bytes w l = (
 )
 
 -- ---- a listing that was written
-
--- an even byte count within the limit is not refused
-pub listing-accepted : (l : List ℕ) → length l % 2 ≡ 0 → length l ≤ byteLimit → badListing l ≡ Accepted
-unfolding badListing
-listing-accepted l even short = rw (ne-eqb (length l % 2) 1 (λ e. omega arith), le-ltb byteLimit (length l) short) refl
 
 -- the listing of a parse, written at the start of a buffer, is found right
 pub reading-written : (b : List ℕ) → ((k : ℕ) → getD b k 0 < characters) → (w l₀ l : List ℕ) (t : Tree) → checked b ≡ Accepted → tooLong w ≡ Accepted → Reading b w t

@@ -1,24 +1,21 @@
 -- The answers of checking a listing, each exactly under its condition: 10, 11, and right.
 use Prim.Native.Nat.{ℕ, _+_, _%_, _≤_, _<_}
 use mathlib.Core.Path.{_≡_, refl, sym, _∙_, ap}
-use mathlib.Core.Bool.{_||_}
 use mathlib.Core.List.{List, [], _∷_, _++_}
-use mathlib.Core.Logic.{_↔_, _⊎_, inl, inr, ⊎-elim}
+use mathlib.Core.Logic.{_↔_, _⊎_, ⊎-elim}
 use native.Mathlib.Omega.{arith}
-use lib.Dec.{ltb, eqb}
 use lib.ListN.{length, getD}
-use borrow.Author.Tests.{ltb-true, eqb-true, ltb-false, eqb-false, lt-ltb, eq-eqb}
 use Rattle.ccg.specs.Ccg.{Class, Line}
 use Rattle.ccg.specs.Flat.{flatGrammar, plainClass}
 use Rattle.charset.specs.Set.{characters}
 use Rattle.chart.specs.Layout.{textLimit}
-use Rattle.common.proofs.BoolLaws.{or-cases, true-or-false, or-first, or-second, or-first-false, or-second-false}
-use Rattle.grammar.proofs.VerdictLaws.{and-first, and-second, refuse-case, FirstIn, here, there, order-first, refuse-accepted, unless-refused}
+use Rattle.common.proofs.BoolLaws.{true-or-false}
+use Rattle.grammar.proofs.VerdictLaws.{and-first, and-second, FirstIn, here, there, order-first, unless-refused}
 use Rattle.grammar.specs.Layout.{startSort}
 use Rattle.grammar.specs.Verdict.{andThen, inOrder}
 use Rattle.grammar.specs.declared.Verdict.{Verdict}
-use Rattle.grammar.specs.declared.Verdict.the-variants.{Accepted}
-use Rattle.listing.specs.Answer.{byteLimit, badListing, judged, afterVerdict, listingAnswer}
+use Rattle.grammar.specs.declared.Verdict.the-variants.{Accepted, Refused as Rejected}
+use Rattle.listing.specs.Answer.{byteLimit, badListing, judged, listingAnswer}
 use Rattle.listing.specs.Judge.{isRight, dueAfter, textAfter, judge}
 use Rattle.listing.specs.Numbers.{numbersOf}
 use Rattle.listing.specs.declared.ListingAnswer.the-variants.{Right, Wrong, Refused}
@@ -28,8 +25,8 @@ use Rattle.engine.proofs.RefusalsLaws.{long-text, short-text, text-short, text-
 use Rattle.priority.proofs.RefusalLaws.{checked-number}
 use Rattle.priority.specs.Check.{checked}
 use Rattle.theory.specs.Tree.{Tree, listing}
-use Rattle.grammar.specs.declared.Verdict.the-variants.{Refused as Rejected}
-use Rattle.listing.proofs.ReadingLaws.{refusals, listing-right, listing-accepted}
+use Rattle.listing.proofs.BadListingLaws.{odd-listing, long-listing, listing-accepted, listing-refused, listing-good}
+use Rattle.listing.proofs.ReadingLaws.{refusals, listing-right}
 
 -- ---- where a refusal comes from
 
@@ -55,20 +52,12 @@ rejected n k m j e = cc
 -- A refusal is the first of the grammar's, 10 and 11.
 pub refused-if : (b w l : List ℕ) (number place : ℕ) → listingAnswer b w l ≡ Refused number place
     → inOrder (checked b ∷ tooLong w ∷ badListing l ∷ []) ≡ Rejected number place
-unfolding listingAnswer afterVerdict judged
+unfolding listingAnswer judged
 refused-if b w l number place e =
     ⊎-elim
     (λ h. h)
     (λ h. absurd (judge-no-refusal (flatGrammar b) (numbersOf l) (plainClass b (startSort b) ∷ []) w 0 number place (h .1)))
     (unless-refused Refused rejected (refusals b w l) (judged b w l) number place .0 e)
-
-listing-refused : (l : List ℕ) {k p : ℕ} → badListing l ≡ Rejected k p → (k ≡ 11) × ((length l % 2 ≡ 1) ⊎ (byteLimit < length l)) × (p ≡ length l)
-unfolding badListing
-listing-refused l e =
-    let odd = eqb (length l % 2) 1 in
-    let tooMany = ltb byteLimit (length l) in
-    refuse-case (λ k p. (k ≡ 11) × ((length l % 2 ≡ 1) ⊎ (byteLimit < length l)) × (p ≡ length l)) (odd || tooMany) 11 (length l) e
-    (λ t. (refl, ⊎-elim (λ o. inl (eqb-true (length l % 2) 1 o)) (λ o. inr (ltb-true byteLimit (length l) o)) (or-cases odd tooMany t), refl))
 
 module _ (b w l : List ℕ) where
   -- ---- the refusals, each under its condition
@@ -81,23 +70,11 @@ module _ (b w l : List ℕ) where
   BadListing = (length l % 2 ≡ 1) ⊎ (byteLimit < length l)
 
   bad-listing : BadListing → badListing l ≡ Rejected 11 (length l)
-  unfolding badListing
-  bad-listing h =
-      let odd = eqb (length l % 2) 1 in
-      let many = ltb byteLimit (length l) in
-      rw (⊎-elim (λ o. or-first odd many (eq-eqb (length l % 2) 1 o)) (λ o. or-second odd many (lt-ltb byteLimit (length l) o)) h) refl
-
-  listing-good : badListing l ≡ Accepted → (length l % 2 ≡ 0) × (length l ≤ byteLimit)
-  unfolding badListing
-  listing-good e =
-      let odd = eqb (length l % 2) 1 in
-      let many = ltb byteLimit (length l) in
-      let free = refuse-accepted (odd || many) 11 (length l) e in
-      (omega (arith, eqb-false (length l % 2) 1 (or-first-false odd many free)), ltb-false byteLimit (length l) (or-second-false odd many free))
+  bad-listing = ⊎-elim (odd-listing l) (long-listing l)
 
   -- a refusal of the verdict is the answer
   refused-answer : (n k : ℕ) → refusals b w l ≡ Rejected n k → listingAnswer b w l ≡ Refused n k
-  unfolding listingAnswer afterVerdict
+  unfolding listingAnswer
   refused-answer n k e = rw e refl
 
   by-ten : {n k : ℕ} → FirstIn lines n k → n ≡ 10 → (checked b ≡ Accepted) × (textLimit < length w) × (k ≡ length w)
@@ -140,7 +117,7 @@ module _ (b w l : List ℕ) where
   right-exactly bytes = (
     (λ e. let (free, found) = listing-right b bytes w l .0 e in
         let later = and-second (checked b) (andThen (tooLong w) (badListing l)) free in
-        let good = listing-good (and-second (tooLong w) (badListing l) later) in
+        let good = listing-good l (and-second (tooLong w) (badListing l) later) in
         (and-first (checked b) (andThen (tooLong w) (badListing l)) free, text-short w (and-first (tooLong w) (badListing l) later), good .0, good .1, found)),
     (λ (e, short, even, few, found). listing-right b bytes w l .1 (rw (e, short-text w short) (listing-accepted l even few), found)),
   )

@@ -9,9 +9,10 @@ use lib.Dec.{eqb}
 use lib.ListN.{length, getD}
 use borrow.Author.Tests.{eqb-true, eq-eqb}
 use Rattle.ccg.specs.Ccg.{Line, noLine, isTerminal}
-use Rattle.ccg.specs.Tables.{slotLine, tableLine, tableGrammar}
+use Rattle.ccg.specs.Tables.{tableLine, tableGrammar}
 use Rattle.common.proofs.BoolLaws.{true-or-false}
 use Rattle.common.proofs.ListLaws.{length-tabulate, getD-tabulate}
+use Rattle.tables.specs.Layout.{countsOf}
 use Rattle.theory.specs.Tree.{productionNumber}
 
 -- every line has its own number as its result
@@ -48,27 +49,28 @@ module _ (g : List Line) (numbered : OwnNumbers g) where
 
 -- ---- the character class grammar that tables hold is one
 
-module _ (counts chars subs : List ℕ) (m : ℕ) where
-  abbrev table : List Line
-  table = tableGrammar m counts chars subs
+module _ (t : List ℕ) where
+  abbrev count : ℕ
+  count = length (countsOf t)
 
-  table-length : length table ≡ m
+  table-length : length (tableGrammar t) ≡ count
   unfolding tableGrammar
-  table-length = length-tabulate m (tableLine counts chars subs)
+  table-length = length-tabulate count (tableLine t)
 
-  table-numbered : OwnNumbers table
-  unfolding tableGrammar tableLine slotLine
-  table-numbered = record { own = λ p l. ap (λ (x : Line). x .result) (getD-tabulate m (tableLine counts chars subs) p noLine (omega (arith, table-length))) }
+  table-numbered : OwnNumbers (tableGrammar t)
+  unfolding tableGrammar tableLine
+  table-numbered = record { own = λ p l. ap (λ (x : Line). x .result) (getD-tabulate count (tableLine t) p noLine (omega (arith, table-length))) }
 
-  pub table-production : (n : ℕ) → productionNumber 0 ≤ n → n < productionNumber m → isTerminal table n ≡ false
+  pub table-production : (n : ℕ) → productionNumber 0 ≤ n → n < productionNumber count → isTerminal (tableGrammar t) n ≡ false
   table-production n l h =
       let e : productionNumber (n - productionNumber 0) ≡ n = omega arith in
-      subst (λ (k : ℕ). isTerminal table k ≡ false) e (production-no-terminal table table-numbered (n - productionNumber 0) (omega (arith, table-length)))
+      subst (λ (k : ℕ). isTerminal (tableGrammar t) k ≡ false) e
+      (production-no-terminal (tableGrammar t) table-numbered (n - productionNumber 0) (omega (arith, table-length)))
 
   -- every other number is a terminal
-  pub table-terminal : (n : ℕ) → (productionNumber 0 ≤ n → n < productionNumber m → ⊥) → isTerminal table n ≡ true
+  pub table-terminal : (n : ℕ) → (productionNumber 0 ≤ n → n < productionNumber count → ⊥) → isTerminal (tableGrammar t) n ≡ true
   table-terminal n none-of =
       ⊎-elim
       (λ e. e)
-      (λ e. let (same, l) = no-terminal-production table table-numbered n e in absurd (none-of (omega arith) (omega (arith, table-length))))
-      (true-or-false (isTerminal table n))
+      (λ e. let (same, l) = no-terminal-production (tableGrammar t) table-numbered n e in absurd (none-of (omega arith) (omega (arith, table-length))))
+      (true-or-false (isTerminal (tableGrammar t) n))

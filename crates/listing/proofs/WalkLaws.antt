@@ -1,6 +1,6 @@
 -- One step of the walk over a listing, by the flat tables.
 use Prim.Native.Nat.{ℕ, suc, _+_, _-_, _≤_, _<_}
-use mathlib.Core.Path.{_≡_, refl, sym, _∙_, ap, ap₂}
+use mathlib.Core.Path.{_≡_, refl, sym, _∙_, ap, ap₂, fun-ext}
 use mathlib.Core.Bool.{Bool, false, true, _&&_, and-true, and-false}
 use mathlib.Core.List.{List, [], _∷_, _++_}
 use mathlib.Core.Logic.{by-cases}
@@ -11,24 +11,24 @@ use lib.Dec.{leb, ltb, eqb}
 use lib.ListN.{length, getD, drop, drop-of-length-le}
 use lib.Seq.{drop-cons, drop-drop}
 use borrow.Author.Tests.{ltb-true, leb-true, lt-ltb, le-ltb, le-leb, lt-leb, ne-eqb}
-use Rattle.ccg.proofs.TableTextLaws.{table-of-character, table-between, table-of-production}
+use Rattle.ccg.proofs.TableTextLaws.{table-of-character, table-between, table-of-production, table-root, table-grammar}
 use Rattle.ccg.specs.Ccg.{Class, Line, noLine, noClass}
-use Rattle.ccg.specs.Flat.{isProduction, plainClass}
-use Rattle.ccg.specs.Tables.{slot, subAt, slotHas, tableClass, slotLine, tableLine, tableGrammar}
-use Rattle.ccg.specs.Theory.{ParserTables}
+use Rattle.ccg.specs.Tables.{FlatTables, tableClass, tableLine, tableGrammar}
 use Rattle.charset.specs.Set.{characters}
 use Rattle.common.proofs.BoolLaws.{and-first-true, and-second-true, not-both}
 use Rattle.common.proofs.ListLaws.{length-tabulate, getD-tabulate}
 use Rattle.common.specs.Lists.{tabulate}
-use Rattle.grammar.proofs.ClassesLaws.{sort-no-class}
 use Rattle.grammar.specs.Formed.{WellFormed}
-use Rattle.grammar.specs.Layout.{productions, startSort, result}
 use Rattle.listing.proofs.TerminalLaws.{table-production, table-terminal}
 use Rattle.listing.specs.Judge.{isNext, isRight, dueAfter, textAfter, judge}
 use Rattle.listing.specs.Parts.{afterPart, EndsBeyond, Walked, duesFrom}
 use Rattle.listing.specs.declared.ListingAnswer.the-variants.{Wrong}
 use Rattle.listing.specs.declared.Part.{Part}
 use Rattle.listing.specs.declared.Part.the-variants.{Complete, Fault}
+use Rattle.listing.specs.Answer.{judged}
+use Rattle.listing.specs.Numbers.{numbersOf}
+use Rattle.tables.proofs.LayoutLaws.{counts-few}
+use Rattle.tables.specs.Layout.{slot, rootSlot, countsOf, arityIn, takesChar, takesProduction, ParserTables}
 use Rattle.theory.specs.Tree.{productionNumber}
 
 -- ---- the next byte of a text
@@ -60,47 +60,41 @@ unfolding EndsBeyond
 ends-weaker numbers w (Complete next place) m k h e = (omega (arith, e .0), e .1, e .2)
 ends-weaker numbers w (Fault index) m k h e = tt
 
--- the number of one of the first m productions
-pub production-within : (n m : ℕ) → (leb (productionNumber 0) n && ltb n (productionNumber m)) ≡ true → (productionNumber 0 ≤ n) × (n < productionNumber m)
-production-within n m e = (
-  leb-true (productionNumber 0) n (and-first-true (leb (productionNumber 0) n) (ltb n (productionNumber m)) e),
-  ltb-true n (productionNumber m) (and-second-true (leb (productionNumber 0) n) (ltb n (productionNumber m)) e),
-)
-
-pub tested-within : (n m : ℕ) (v : Bool) → ((leb (productionNumber 0) n && ltb n (productionNumber m)) && v) ≡ true → (productionNumber 0 ≤ n) × (n < productionNumber m)
-tested-within n m v e = production-within n m (and-first-true (leb (productionNumber 0) n && ltb n (productionNumber m)) v e)
-
--- only numbers of productions are due at the root
-module _ (b : List ℕ) (formed : WellFormed b) (n : ℕ) where
-  pub roots-are : plainClass b (startSort b) n ≡ (isProduction b n && eqb (result b (n - productionNumber 0)) (startSort b))
-  unfolding plainClass
-  roots-are = rw (sort-no-class b formed (startSort b) (formed .framed .startNamed)) refl
-
-  pub root-within : plainClass b (startSort b) n ≡ true → (productionNumber 0 ≤ n) × (n < productionNumber (productions b))
-  unfolding isProduction
-  root-within e = production-within n (productions b) (and-first-true (isProduction b n) (eqb (result b (n - productionNumber 0)) (startSort b)) (sym roots-are ∙ e))
-
-module _ (counts chars subs : List ℕ) (tables : ParserTables counts chars subs) where
+module _ (t : List ℕ) where
   abbrev g : List Line
-  g = tableGrammar (length counts) counts chars subs
+  g = tableGrammar t
+
+  abbrev count : ℕ
+  count = length (countsOf t)
+
+  -- n is the number of a production that is there and may stand at slot s
+  abbrev isStanding : ℕ → ℕ → Bool
+  isStanding s n = (leb (productionNumber 0) n && ltb n (productionNumber count)) && takesProduction t s (n - productionNumber 0)
+
+  -- so it is there
+  pub production-there : (s n : ℕ) → isStanding s n ≡ true → (productionNumber 0 ≤ n) × (n < productionNumber count)
+  production-there s n e =
+      let first = leb (productionNumber 0) n in
+      let last = ltb n (productionNumber count) in
+      let both = and-first-true (first && last) (takesProduction t s (n - productionNumber 0)) e in
+      (leb-true (productionNumber 0) n (and-first-true first last both), ltb-true n (productionNumber count) (and-second-true first last both))
 
   module _ (s n : ℕ) (w : List ℕ) where
-    -- a character is right if the slot has it and it is the next byte
-    right-character : n < characters → isRight g (tableClass chars subs s) w n ≡ (slotHas chars s n && isNext w n)
+    -- a character is right if it may stand at the slot and is the next byte
+    right-character : n < characters → isRight g (tableClass t s) w n ≡ (takesChar t s n && isNext w n)
     unfolding isRight
-    right-character l =
-        rw (table-of-character chars subs s n l, table-terminal counts chars subs (length counts) n (λ m h. omega arith)) refl
+    right-character l = rw (table-of-character t s n l, table-terminal t n (λ m h. omega arith)) refl
 
-    -- any other number if the slot has the production
-    right-production : characters ≤ n → isNext w n ≡ false
-        → isRight g (tableClass chars subs s) w n ≡ ((leb (productionNumber 0) n && ltb n (productionNumber (length counts))) && eqb (getD subs (subAt s (n - productionNumber 0)) 0) 1)
+    -- any other number if it is a production's that may stand at the slot
+    right-production : ParserTables t → characters ≤ n → isNext w n ≡ false
+        → isRight g (tableClass t s) w n ≡ isStanding s n
     unfolding isRight
-    right-production l e =
+    right-production tables l e =
         by-cases (decLt n (productionNumber 0))
-        (λ h. rw (table-between chars subs s n l h, lt-leb (productionNumber 0) n h) refl)
-        (λ h. by-cases (decLt n (productionNumber (length counts)))
-        (λ k. rw (table-of-production chars subs s n (omega arith) (omega (arith, tables .fewProductions)), table-production counts chars subs (length counts) n (omega arith) k, le-leb (productionNumber 0) n (omega arith), lt-ltb n (productionNumber (length counts)) k) (and-true (eqb (getD subs (subAt s (n - productionNumber 0)) 0) 1)))
-        (λ k. rw (e, table-terminal counts chars subs (length counts) n (λ m f. k f), le-ltb n (productionNumber (length counts)) (omega arith), and-false (leb (productionNumber 0) n)) (and-false (tableClass chars subs s n))))
+        (λ h. rw (table-between t s n l h, lt-leb (productionNumber 0) n h) refl)
+        (λ h. by-cases (decLt n (productionNumber count))
+        (λ k. rw (table-of-production t s n (omega arith) (omega (arith, counts-few t tables)), table-production t n (omega arith) k, le-leb (productionNumber 0) n (omega arith), lt-ltb n (productionNumber count) k) (and-true (takesProduction t s (n - productionNumber 0))))
+        (λ k. rw (e, table-terminal t n (λ m f. k f), le-ltb n (productionNumber count) (omega arith), and-false (leb (productionNumber 0) n)) (and-false (tableClass t s n))))
 
   -- what a right number brings
   module _ (n : ℕ) (ns : List ℕ) (due : Class) (dues : List Class) (w : List ℕ) (k : ℕ) where
@@ -110,35 +104,37 @@ module _ (counts chars subs : List ℕ) (tables : ParserTables counts chars subs
 
     judge-character : n < characters → isRight g due w n ≡ true → judge g (n ∷ ns) (due ∷ dues) w k ≡ judge g ns dues (drop 1 w) (k + 1)
     unfolding judge dueAfter textAfter
-    judge-character l e = rw (e, table-terminal counts chars subs (length counts) n (λ m h. omega arith)) refl
+    judge-character l e = rw (e, table-terminal t n (λ m h. omega arith)) refl
 
-    judge-production : productionNumber 0 ≤ n → n < productionNumber (length counts) → isRight g due w n ≡ true
-        → judge g (n ∷ ns) (due ∷ dues) w k ≡ judge g ns (duesFrom counts chars subs (n - productionNumber 0) 0 ++ dues) w (k + 1)
-    unfolding judge dueAfter textAfter duesFrom tableGrammar tableLine
-    judge-production l h e =
-        rw (e, table-production counts chars subs (length counts) n l h, getD-tabulate (length counts) (tableLine counts chars subs) (n - productionNumber 0) noLine (omega arith)) refl
+    judge-production : productionNumber 0 ≤ n → n < productionNumber count → isRight g due w n ≡ true
+        → judge g (n ∷ ns) (due ∷ dues) w k ≡ judge g ns (duesFrom t (n - productionNumber 0) 0 ++ dues) w (k + 1)
+    unfolding judge dueAfter textAfter duesFrom tableGrammar
+    judge-production l h e = rw (e, table-production t n l h, getD-tabulate count (tableLine t) (n - productionNumber 0) noLine (omega arith)) refl
 
   -- ---- what is due at the arguments of a production
 
-  arguments-length : (q : ℕ) → length (slotLine chars subs q (getD counts q 0) .arguments) ≡ getD counts q 0
-  unfolding slotLine
-  arguments-length q = length-tabulate (getD counts q 0) (λ i. tableClass chars subs (slot q i))
+  module _ (q d : ℕ) where
+    abbrev arity : ℕ
+    arity = arityIn (countsOf t) q
 
-  pub dues-none : (q d : ℕ) → getD counts q 0 ≤ d → duesFrom counts chars subs q d ≡ []
-  unfolding duesFrom
-  dues-none q d h = drop-of-length-le (slotLine chars subs q (getD counts q 0) .arguments) {i = d} (omega (arith, arguments-length q))
+    abbrev classes : List Class
+    classes = tabulate arity (λ i. tableClass t (slot q i))
 
-  pub dues-next : (q d : ℕ) → d < getD counts q 0 → duesFrom counts chars subs q d ≡ tableClass chars subs (slot q d) ∷ duesFrom counts chars subs q (d + 1)
-  unfolding duesFrom slotLine
-  dues-next q d h =
-      drop-cons (tabulate (getD counts q 0) (λ i. tableClass chars subs (slot q i))) d noClass (omega (arith, length-tabulate (getD counts q 0) (λ i. tableClass chars subs (slot q i))))
-      ∙ ap₂ (λ (cc : Class) (m : ℕ). cc ∷ drop m (tabulate (getD counts q 0) (λ i. tableClass chars subs (slot q i)))) (getD-tabulate (getD counts q 0) (λ i. tableClass chars subs (slot q i)) d noClass h) (sym (add-one d))
+    dues-none : arity ≤ d → duesFrom t q d ≡ []
+    unfolding duesFrom tableLine
+    dues-none h = drop-of-length-le classes {i = d} (omega (arith, length-tabulate arity (λ i. tableClass t (slot q i))))
+
+    dues-next : d < arity → duesFrom t q d ≡ tableClass t (slot q d) ∷ duesFrom t q (d + 1)
+    unfolding duesFrom tableLine
+    dues-next h =
+        drop-cons classes d noClass (omega (arith, length-tabulate arity (λ i. tableClass t (slot q i))))
+        ∙ ap₂ (λ (cc : Class) (m : ℕ). cc ∷ drop m classes) (getD-tabulate arity (λ i. tableClass t (slot q i)) d noClass h) (sym (add-one d))
 
   -- ---- the walk over a tree that is due at slot s, from number `at` and from `place` in the text on
 
   module _ (numbers w : List ℕ) (s at place : ℕ) where
     -- the listing ends early
-    pub walked-missing : length numbers ≤ at → Walked g numbers w (tableClass chars subs s ∷ []) at place (Fault at)
+    pub walked-missing : length numbers ≤ at → Walked g numbers w (tableClass t s ∷ []) at place (Fault at)
     unfolding judge afterPart EndsBeyond
     walked-missing h = record { decides = λ others. rw (drop-of-length-le numbers {i = at} h) refl; ends = tt }
 
@@ -146,108 +142,81 @@ module _ (counts chars subs : List ℕ) (tables : ParserTables counts chars subs
       first-number : drop at numbers ≡ n ∷ drop (at + 1) numbers
       first-number = drop-cons numbers at 0 l ∙ ap₂ (λ (x m : ℕ). x ∷ drop m numbers) (sym e) (sym (add-one at))
 
-      walked-fault : isRight g (tableClass chars subs s) (drop place w) n ≡ false → Walked g numbers w (tableClass chars subs s ∷ []) at place (Fault at)
+      walked-fault : isRight g (tableClass t s) (drop place w) n ≡ false → Walked g numbers w (tableClass t s ∷ []) at place (Fault at)
       unfolding afterPart EndsBeyond
       walked-fault h =
           record {
-            decides = λ others. rw first-number (judge-fault n (drop (at + 1) numbers) (tableClass chars subs s) others (drop place w) at h);
+            decides = λ others. rw first-number (judge-fault n (drop (at + 1) numbers) (tableClass t s) others (drop place w) at h);
             ends = tt;
           }
 
-      pub walked-no-character : n < characters → (slotHas chars s n && isNext (drop place w) n) ≡ false → Walked g numbers w (tableClass chars subs s ∷ []) at place (Fault at)
+      pub walked-no-character : n < characters → (takesChar t s n && isNext (drop place w) n) ≡ false → Walked g numbers w (tableClass t s ∷ []) at place (Fault at)
       walked-no-character h test = walked-fault (right-character s n (drop place w) h ∙ test)
 
-      pub walked-character : n < characters → (slotHas chars s n && isNext (drop place w) n) ≡ true
-          → Walked g numbers w (tableClass chars subs s ∷ []) at place (Complete (at + 1) (place + 1))
+      pub walked-character : n < characters → (takesChar t s n && isNext (drop place w) n) ≡ true
+          → Walked g numbers w (tableClass t s ∷ []) at place (Complete (at + 1) (place + 1))
       unfolding afterPart EndsBeyond
       walked-character h test =
-          let m = next-within w place n (and-second-true (slotHas chars s n) (isNext (drop place w) n) test) in
+          let m = next-within w place n (and-second-true (takesChar t s n) (isNext (drop place w) n) test) in
           record {
             decides = λ others. rw first-number
-                (judge-character n (drop (at + 1) numbers) (tableClass chars subs s) others (drop place w) at h (right-character s n (drop place w) h ∙ test)
+                (judge-character n (drop (at + 1) numbers) (tableClass t s) others (drop place w) at h (right-character s n (drop place w) h ∙ test)
                 ∙ ap (λ (v : List ℕ). judge g (drop (at + 1) numbers) others v (at + 1)) (drop-drop 1 place w));
             ends = (omega arith, omega arith, omega arith);
           }
 
-      module _ (bytes : (k : ℕ) → getD w k 0 < characters) (h : characters ≤ n) where
-        abbrev test : Bool
-        test = (leb (productionNumber 0) n && ltb n (productionNumber (length counts))) && eqb (getD subs (subAt s (n - productionNumber 0)) 0) 1
+      module _ (tables : ParserTables t) (bytes : (k : ℕ) → getD w k 0 < characters) (h : characters ≤ n) where
+        right-standing : isRight g (tableClass t s) (drop place w) n ≡ isStanding s n
+        right-standing = right-production s n (drop place w) tables h (next-small w bytes place n h)
 
-        is-test : isRight g (tableClass chars subs s) (drop place w) n ≡ test
-        is-test = right-production s n (drop place w) h (next-small w bytes place n h)
+        pub walked-no-production : isStanding s n ≡ false → Walked g numbers w (tableClass t s ∷ []) at place (Fault at)
+        walked-no-production v = walked-fault (right-standing ∙ v)
 
-        pub walked-no-production : test ≡ false → Walked g numbers w (tableClass chars subs s ∷ []) at place (Fault at)
-        walked-no-production v = walked-fault (is-test ∙ v)
-
-        pub walked-production : (r : Part) → test ≡ true → Walked g numbers w (duesFrom counts chars subs (n - productionNumber 0) 0) (at + 1) place r
-            → Walked g numbers w (tableClass chars subs s ∷ []) at place r
+        pub walked-production : (r : Part) → isStanding s n ≡ true → Walked g numbers w (duesFrom t (n - productionNumber 0) 0) (at + 1) place r
+            → Walked g numbers w (tableClass t s ∷ []) at place r
         walked-production r v walked =
-            let within = tested-within n (length counts) (eqb (getD subs (subAt s (n - productionNumber 0)) 0) 1) v in
+            let there = production-there s n v in
             record {
               decides = λ others. rw first-number
-                  (judge-production n (drop (at + 1) numbers) (tableClass chars subs s) others (drop place w) at (within .0) (within .1) (is-test ∙ v) ∙ walked .decides others);
-              ends = ends-weaker numbers w r (at + 1 + length (duesFrom counts chars subs (n - productionNumber 0) 0)) (at + 1) (omega arith) (walked .ends);
+                  (judge-production n (drop (at + 1) numbers) (tableClass t s) others (drop place w) at (there .0) (there .1) (right-standing ∙ v) ∙ walked .decides others);
+              ends = ends-weaker numbers w r (at + 1 + length (duesFrom t (n - productionNumber 0) 0)) (at + 1) (omega arith) (walked .ends);
             }
 
   -- ---- the walk over the trees of arguments
 
   module _ (numbers w : List ℕ) (q d at place : ℕ) where
     -- no argument is left
-    pub walked-none : getD counts q 0 ≤ d → at ≤ length numbers → place ≤ length w
-        → Walked g numbers w (duesFrom counts chars subs q d) at place (Complete at place)
+    pub walked-none : arityIn (countsOf t) q ≤ d → at ≤ length numbers → place ≤ length w → Walked g numbers w (duesFrom t q d) at place (Complete at place)
     unfolding afterPart EndsBeyond
     walked-none h l m = rw (dues-none q d h) (record { decides = λ others. refl; ends = (omega arith, l, m) })
 
-    module _ (h : d < getD counts q 0) where
+    module _ (h : d < arityIn (countsOf t) q) where
       -- the first tree is wrong
-      pub walked-first-fault : (index : ℕ) → Walked g numbers w (tableClass chars subs (slot q d) ∷ []) at place (Fault index)
-          → Walked g numbers w (duesFrom counts chars subs q d) at place (Fault index)
+      pub walked-first-fault : (index : ℕ) → Walked g numbers w (tableClass t (slot q d) ∷ []) at place (Fault index)
+          → Walked g numbers w (duesFrom t q d) at place (Fault index)
       unfolding afterPart EndsBeyond
-      walked-first-fault index walked =
-          rw (dues-next q d h) (record { decides = λ others. walked .decides (duesFrom counts chars subs q (d + 1) ++ others); ends = tt })
+      walked-first-fault index walked = rw (dues-next q d h) (record { decides = λ others. walked .decides (duesFrom t q (d + 1) ++ others); ends = tt })
 
       -- or complete, and the others follow
-      pub walked-more : (next after : ℕ) (r : Part) → Walked g numbers w (tableClass chars subs (slot q d) ∷ []) at place (Complete next after)
-          → Walked g numbers w (duesFrom counts chars subs q (d + 1)) next after r
-          → Walked g numbers w (duesFrom counts chars subs q d) at place r
+      pub walked-more : (next after : ℕ) (r : Part) → Walked g numbers w (tableClass t (slot q d) ∷ []) at place (Complete next after)
+          → Walked g numbers w (duesFrom t q (d + 1)) next after r → Walked g numbers w (duesFrom t q d) at place r
       unfolding afterPart EndsBeyond
       walked-more next after r tree others =
+          let more = duesFrom t q (d + 1) in
           rw (dues-next q d h)
           (record {
-            decides = λ rest. tree .decides (duesFrom counts chars subs q (d + 1) ++ rest) ∙ others .decides rest;
-            ends = ends-weaker numbers w r (next + length (duesFrom counts chars subs q (d + 1))) (at + suc (length (duesFrom counts chars subs q (d + 1)))) (let e = tree .ends .0 in omega arith) (others .ends);
+            decides = λ rest. tree .decides (more ++ rest) ∙ others .decides rest;
+            ends = ends-weaker numbers w r (next + length more) (at + suc (length more)) (let e = tree .ends .0 in omega arith) (others .ends);
           })
 
-  -- ---- the root of a tree of grammar b
+-- ---- the walk over the whole tree, by the tables of grammar b
 
-  module _ (b : List ℕ) (formed : WellFormed b) (same : length counts ≡ productions b) (numbers w : List ℕ) where
-    abbrev roots : Class
-    roots = plainClass b (startSort b)
-
-    pub root-missing : length numbers ≤ 0 → Walked g numbers w (roots ∷ []) 0 0 (Fault 0)
-    unfolding judge afterPart EndsBeyond
-    root-missing h = record { decides = λ others. rw (drop-of-length-le numbers {i = 0} h) refl; ends = tt }
-
-    module _ (n : ℕ) (l : 0 < length numbers) (e : n ≡ getD numbers 0 0) where
-      root-number : numbers ≡ n ∷ drop 1 numbers
-      root-number = drop-cons numbers 0 0 l ∙ ap (λ (x : ℕ). x ∷ drop 1 numbers) (sym e)
-
-      pub root-fault : roots n ≡ false → Walked g numbers w (roots ∷ []) 0 0 (Fault 0)
-      unfolding isRight afterPart EndsBeyond
-      root-fault h =
-          record {
-            decides = λ others. ap (λ (v : List ℕ). judge g v (roots ∷ others) w 0) root-number ∙ judge-fault n (drop 1 numbers) roots others w 0 (rw h refl);
-            ends = tt;
-          }
-
-      pub root-walked : (r : Part) → roots n ≡ true → Walked g numbers w (duesFrom counts chars subs (n - productionNumber 0) 0) 1 0 r → Walked g numbers w (roots ∷ []) 0 0 r
-      unfolding isRight
-      root-walked r h walked =
-          let within = root-within b formed n h in
-          let below : n < productionNumber (length counts) = omega arith in
-          record {
-            decides = λ others. ap (λ (v : List ℕ). judge g v (roots ∷ others) w 0) root-number
-                ∙ judge-production n (drop 1 numbers) roots others w 0 (within .0) below (rw (h, table-production counts chars subs (length counts) n (within .0) below) refl)
-                ∙ walked .decides others;
-            ends = ends-weaker numbers w r (1 + length (duesFrom counts chars subs (n - productionNumber 0) 0)) 1 (omega arith) (walked .ends);
-          }
+module _ (b : List ℕ) (formed : WellFormed b) (bytes : (k : ℕ) → getD b k 0 < characters) (t : List ℕ) (tables : FlatTables b t) where
+  -- it goes by the grammar's own lines, and at the root a production of the start sort is due
+  pub walk-judged : (w l : List ℕ) (r : Part) → Walked (tableGrammar t) (numbersOf l) w (tableClass t rootSlot ∷ []) 0 0 r
+      → afterPart (tableGrammar t) (numbersOf l) [] w r ≡ judged b w l
+  unfolding judged
+  walk-judged w l r walked =
+      sym (walked .decides [])
+      ∙ ap₂ (λ (lines : List Line) (roots : Class). judge lines (numbersOf l) (roots ∷ []) w 0)
+      (table-grammar b t formed bytes tables) (fun-ext (table-root b formed bytes t tables))

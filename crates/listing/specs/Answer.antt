@@ -27,10 +27,6 @@ badListing l = refuseIf (eqb (length l % 2) 1 || ltb byteLimit (length l)) 11 (l
 unfoldable pub judged : (b w l : List ℕ) → ListingAnswer
 judged b w l = judge (flatGrammar b) (numbersOf l) (plainClass b (startSort b) ∷ []) w 0
 
--- A refusal stands; without one the numbers are gone through.
-unfoldable pub afterVerdict : Verdict → (b w l : List ℕ) → ListingAnswer
-afterVerdict v b w l = unlessRefused Refused v (judged b w l)
-
--- The refusals in order: the grammar's, 10, 11.
+-- A refusal stands, in order: the grammar's, 10, 11. Without one the numbers are gone through.
 unfoldable pub listingAnswer : (b w l : List ℕ) → ListingAnswer
-listingAnswer b w l = afterVerdict (inOrder (checked b ∷ tooLong w ∷ badListing l ∷ [])) b w l
+listingAnswer b w l = unlessRefused Refused (inOrder (checked b ∷ tooLong w ∷ badListing l ∷ [])) (judged b w l)

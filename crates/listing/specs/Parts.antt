@@ -2,9 +2,9 @@
 use Prim.Native.Nat.{ℕ, _+_, _≤_}
 use mathlib.Core.Path.{_≡_}
 use mathlib.Core.List.{List, _++_}
-use lib.ListN.{length, getD, drop}
+use lib.ListN.{length, drop}
 use Rattle.ccg.specs.Ccg.{Class, Line}
-use Rattle.ccg.specs.Tables.{slotLine}
+use Rattle.ccg.specs.Tables.{tableLine}
 use Rattle.listing.specs.Judge.{judge}
 use Rattle.listing.specs.declared.ListingAnswer.{ListingAnswer}
 use Rattle.listing.specs.declared.Part.{Part}
@@ -29,5 +29,5 @@ pub record Walked (g : List Line) (numbers w : List ℕ) (dues : List Class) (at
   pub ends : EndsBeyond (at + length dues) numbers w r
 
 -- the classes due at the arguments of production q from argument d on
-unfoldable pub duesFrom : (counts chars subs : List ℕ) → (q d : ℕ) → List Class
-duesFrom counts chars subs q d = drop d (slotLine chars subs q (getD counts q 0) .arguments)
+unfoldable pub duesFrom : (t : List ℕ) (q d : ℕ) → List Class
+duesFrom t q d = drop d (tableLine t q .arguments)

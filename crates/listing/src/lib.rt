@@ -1,40 +1,36 @@
 // The operation "checking a listing": whether numbers are the listing of a parse of a text, and if not, where they go wrong.
-use ccg::tables::flatten;
-use ccg::tables::slot_has;
-use ccg::text::FIRST_PRODUCTION;
-use ccg::zero_chars;
-use ccg::zero_counts;
-use ccg::zero_subs;
+use ccg::flat::flatten;
 use charset::CHARACTERS;
-use chart::layout::TEXT_LIMIT;
+use engine::check_text;
 use grammar::Verdict;
-use grammar::layout::production_count;
-use grammar::layout::result;
-use grammar::layout::start_sort;
 use grammar::layout::wide;
 use grammar::limits::ARGUMENT_LIMIT;
-use grammar::limits::PRODUCTION_LIMIT;
 use priority::check_grammar;
+use tables::FIRST_PRODUCTION;
+use tables::ROOT_SLOT;
+use tables::argument_count;
+use tables::production_count;
+use tables::takes_char;
+use tables::takes_production;
+use tables::zero_tables;
 ghost use mathlib.Core.Path.{_≡_};
 ghost use mathlib.Core.Bool.{_&&_};
 ghost use mathlib.Core.List.{List, [], _∷_};
 ghost use Prim.Native.Nat.{_-_, _<_, _≤_};
-ghost use lib.Dec.{eqb, ltb, leb};
+ghost use lib.Dec.{ltb, leb};
 ghost use lib.ListN.{length, getD, drop};
 ghost use Rattle.grammar.specs.Formed.{WellFormed};
-ghost use Rattle.grammar.specs.Layout.{productions, startSort};
-ghost use Rattle.grammar.specs.Limits.{productionLimit};
-ghost use Rattle.grammar.specs.Verdict.{inOrder};
-ghost use Rattle.ccg.specs.Ccg.{Line};
-ghost use Rattle.ccg.specs.Flat.{plainClass};
-ghost use Rattle.ccg.specs.Tables.{slot, slots, slotHas, charWords, subBytes, subAt, tableClass, tableGrammar};
-ghost use Rattle.ccg.specs.Theory.{ParserTables};
+ghost use Rattle.grammar.specs.Verdict.{inOrder, unlessRefused};
 ghost use Rattle.theory.specs.Tree.{productionNumber};
+ghost use Rattle.tables.specs.Layout.{slots, countsOf, tableWords, takesChar, takesProduction, ParserTables};
+ghost use Rattle.ccg.specs.Ccg.{Line};
+ghost use Rattle.ccg.specs.Tables.{tableClass, tableGrammar};
 ghost use Rattle.engine.specs.Refusals.{tooLong};
 ghost use Rattle.listing.specs.Numbers.{numbersOf};
 ghost use Rattle.listing.specs.Judge.{isNext};
-ghost use Rattle.listing.specs.Answer.{badListing, afterVerdict, listingAnswer};
+ghost use Rattle.listing.specs.Answer.{badListing, judged, listingAnswer};
 ghost use Rattle.listing.specs.Parts.{afterPart, Walked, duesFrom};
+ghost use Rattle.listing.specs.declared.ListingAnswer.the-variants.{Refused};
 
 // Most bytes of a listing that is checked.
 pub const BYTE_LIMIT: usize = 8192;
@@ -68,27 +64,48 @@ pub fn check_listing(book: &[u8], text: &[u8], listing: &[u8]) -> ListingAnswer
     }
 }
 
-// The same for an accepted grammar.
-fn check_accepted(book: &[u8], text: &[u8], listing: &[u8]) -> ListingAnswer
-    requires { ⌜ WellFormed (now book) ⌝ }
-    ensures { λ r. ⌜ r ≡ afterVerdict (inOrder (tooLong (now (text .entry)) ∷ badListing (now (listing .entry)) ∷ [])) (now (book .entry)) (now (text .entry)) (now (listing .entry)) ⌝ }
+// 11: an odd byte count, or one over the limit.
+fn check_bytes(listing: &[u8]) -> Verdict
+    ensures { λ r. ⌜ r ≡ badListing (now (listing .entry)) ⌝ }
 {
-    if TEXT_LIMIT < text.len() {
-        return ListingAnswer::Refused(10, text.len());
-    }
     if listing.len() % 2 == 1 {
-        return ListingAnswer::Refused(11, listing.len());
+        return Verdict::Refused(11, listing.len());
     }
     if BYTE_LIMIT < listing.len() {
-        return ListingAnswer::Refused(11, listing.len());
+        return Verdict::Refused(11, listing.len());
     }
-    let mut counts = zero_counts();
-    let mut chars = zero_chars();
-    let mut subs = zero_subs();
-    flatten(book, &mut counts, &mut chars, &mut subs);
-    let count = production_count(book);
-    let whole = check_root(book, &counts[..count], &chars, &subs, text, listing);
-    answer(whole, text, listing)
+    Verdict::Accepted
+}
+
+// 10, and then 11.
+fn check_lent(text: &[u8], listing: &[u8]) -> Verdict
+    ensures { λ r. ⌜ r ≡ inOrder (tooLong (now (text .entry)) ∷ badListing (now (listing .entry)) ∷ []) ⌝ }
+{
+    let verdict = check_text(text);
+    match verdict {
+        Verdict::Refused(number, place) => Verdict::Refused(number, place),
+        Verdict::Accepted => check_bytes(listing),
+    }
+}
+
+// The same for an accepted grammar. At the root a production of the start sort is due.
+fn check_accepted(book: &[u8], text: &[u8], listing: &[u8]) -> ListingAnswer
+    requires { ⌜ WellFormed (now book) ⌝ }
+    ensures { λ r. ⌜ r ≡ unlessRefused Refused (inOrder (tooLong (now (text .entry)) ∷ badListing (now (listing .entry)) ∷ [])) (judged (now (book .entry)) (now (text .entry)) (now (listing .entry))) ⌝ }
+{
+    let verdict = check_lent(text, listing);
+    match verdict {
+        Verdict::Refused(number, place) => ListingAnswer::Refused(number, place),
+        Verdict::Accepted => {
+            let mut tables = zero_tables();
+            flatten(book, &mut tables);
+            answer(
+                check_tree(&tables, text, listing, ROOT_SLOT, 0, 0),
+                text,
+                listing,
+            )
+        }
+    }
 }
 
 // A complete tree is right if the listing and the text end with it.
@@ -109,55 +126,6 @@ fn answer(whole: Part, text: &[u8], listing: &[u8]) -> ListingAnswer
     }
 }
 
-// The walk over the whole tree. At the root a production of the start sort is due.
-fn check_root(
-    book: &[u8],
-    counts: &[u8],
-    chars: &[u64],
-    subs: &[u8],
-    text: &[u8],
-    listing: &[u8],
-) -> Part
-    requires { ⌜ WellFormed (now book) ⌝ }
-    requires { ⌜ ParserTables (now counts) (now chars) (now subs) ⌝ }
-    requires { ⌜ length (now counts) ≡ productions (now book) ⌝ }
-    ensures { λ r. ⌜ Walked (tableGrammar (length (now (counts .entry))) (now (counts .entry)) (now (chars .entry)) (now (subs .entry))) (numbersOf (now (listing .entry))) (now (text .entry)) (plainClass (now (book .entry)) (startSort (now (book .entry))) ∷ []) 0 0 r ⌝ }
-{
-    if listing.len() < 2 {
-        return Part::Fault(0);
-    }
-    let n = number_at(listing, 0);
-    if !starts(book, n) {
-        return Part::Fault(0);
-    }
-    let next = 1;
-    check_arguments(
-        counts,
-        chars,
-        subs,
-        text,
-        listing,
-        n - FIRST_PRODUCTION,
-        0,
-        next,
-        0,
-    )
-}
-
-// n is the number of a production of the start sort.
-fn starts(book: &[u8], n: usize) -> bool
-    requires { ⌜ WellFormed (now book) ⌝ }
-    ensures { λ r. ⌜ r ≡ plainClass (now (book .entry)) (startSort (now (book .entry))) n ⌝ }
-{
-    if n < FIRST_PRODUCTION {
-        return false;
-    }
-    if production_count(book) <= n - FIRST_PRODUCTION {
-        return false;
-    }
-    result(book, n - FIRST_PRODUCTION) == start_sort(book)
-}
-
 // Number `at` of the listing: two bytes, the low one first.
 fn number_at(listing: &[u8], at: usize) -> usize
     requires { ⌜ at < length (numbersOf (now listing)) ⌝ }
@@ -167,9 +135,9 @@ fn number_at(listing: &[u8], at: usize) -> usize
 }
 
 // Character n may stand at slot s, and is the next byte of the text.
-fn char_right(text: &[u8], chars: &[u64], s: usize, place: usize, n: usize) -> bool
-    requires { ⌜ (s < slots) × (length (now chars) ≡ charWords) ⌝ }
-    ensures { λ r. ⌜ r ≡ (slotHas (now (chars .entry)) s n && isNext (drop place (now (text .entry))) n) ⌝ }
+fn char_right(text: &[u8], tables: &[u64], s: usize, place: usize, n: usize) -> bool
+    requires { ⌜ (length (now tables) ≡ tableWords) × (s ≤ slots) ⌝ }
+    ensures { λ r. ⌜ r ≡ (takesChar (now (tables .entry)) s n && isNext (drop place (now (text .entry))) n) ⌝ }
 {
     if text.len() <= place {
         return false;
@@ -177,56 +145,51 @@ fn char_right(text: &[u8], chars: &[u64], s: usize, place: usize, n: usize) -> b
     if wide(text[place]) != n {
         return false;
     }
-    slot_has(chars, s, text[place])
+    takes_char(tables, s, text[place])
 }
 
-// n is the number of one of the first `count` productions, which may stand at slot s.
-fn production_right(count: usize, subs: &[u8], s: usize, n: usize) -> bool
-    requires { ⌜ (s < slots) × (length (now subs) ≡ subBytes) × (count ≤ productionLimit) ⌝ }
-    ensures { λ r. ⌜ r ≡ ((leb (productionNumber 0) n && ltb n (productionNumber count)) && eqb (getD (now (subs .entry)) (subAt s (n - productionNumber 0)) 0) 1) ⌝ }
+// n is the number of a production that is there and may stand at slot s.
+fn production_right(tables: &[u64], s: usize, n: usize) -> bool
+    requires { ⌜ ParserTables (now tables) × (s ≤ slots) ⌝ }
+    ensures { λ r. ⌜ r ≡ ((leb (productionNumber 0) n && ltb n (productionNumber (length (countsOf (now (tables .entry)))))) && takesProduction (now (tables .entry)) s (n - productionNumber 0)) ⌝ }
 {
     if n < FIRST_PRODUCTION {
         return false;
     }
-    if count <= n - FIRST_PRODUCTION {
+    if production_count(tables) <= n - FIRST_PRODUCTION {
         return false;
     }
-    subs[s * PRODUCTION_LIMIT + (n - FIRST_PRODUCTION)] == 1
+    takes_production(tables, s, n - FIRST_PRODUCTION)
 }
 
-// The walk over the tree that stands as argument d of production p, from number `at` and from `place` in the text on.
+// The walk over the tree that stands at slot s, from number `at` and from `place` in the text on.
 fn check_tree(
-    counts: &[u8],
-    chars: &[u64],
-    subs: &[u8],
+    tables: &[u64],
     text: &[u8],
     listing: &[u8],
-    p: usize,
-    d: usize,
+    s: usize,
     at: usize,
     place: usize,
 ) -> Part
-    requires { ⌜ ParserTables (now counts) (now chars) (now subs) ⌝ }
-    requires { ⌜ (p < length (now counts)) × (d < getD (now counts) p 0) × (at ≤ length (numbersOf (now listing))) × (place ≤ length (now text)) ⌝ }
-    ensures { λ r. ⌜ Walked (tableGrammar (length (now (counts .entry))) (now (counts .entry)) (now (chars .entry)) (now (subs .entry))) (numbersOf (now (listing .entry))) (now (text .entry)) (tableClass (now (chars .entry)) (now (subs .entry)) (slot p d) ∷ []) at place r ⌝ }
+    requires { ⌜ ParserTables (now tables) ⌝ }
+    requires { ⌜ (s ≤ slots) × (place ≤ length (now text)) ⌝ }
+    ensures { λ r. ⌜ Walked (tableGrammar (now (tables .entry))) (numbersOf (now (listing .entry))) (now (text .entry)) (tableClass (now (tables .entry)) s ∷ []) at place r ⌝ }
 {
     if listing.len() / 2 <= at {
         return Part::Fault(at);
     }
     let n = number_at(listing, at);
     if n < CHARACTERS {
-        if char_right(text, chars, p * ARGUMENT_LIMIT + d, place, n) {
+        if char_right(text, tables, s, place, n) {
             return Part::Complete(at + 1, place + 1);
         }
         return Part::Fault(at);
     }
-    if !production_right(counts.len(), subs, p * ARGUMENT_LIMIT + d, n) {
+    if !production_right(tables, s, n) {
         return Part::Fault(at);
     }
     check_arguments(
-        counts,
-        chars,
-        subs,
+        tables,
         text,
         listing,
         n - FIRST_PRODUCTION,
@@ -238,9 +201,7 @@ fn check_tree(
 
 // The walk over the trees of production q from argument d on.
 fn check_arguments(
-    counts: &[u8],
-    chars: &[u64],
-    subs: &[u8],
+    tables: &[u64],
     text: &[u8],
     listing: &[u8],
     q: usize,
@@ -248,19 +209,17 @@ fn check_arguments(
     at: usize,
     place: usize,
 ) -> Part
-    requires { ⌜ ParserTables (now counts) (now chars) (now subs) ⌝ }
-    requires { ⌜ (q < length (now counts)) × (d ≤ getD (now counts) q 0) × (at ≤ length (numbersOf (now listing))) × (place ≤ length (now text)) ⌝ }
-    ensures { λ r. ⌜ Walked (tableGrammar (length (now (counts .entry))) (now (counts .entry)) (now (chars .entry)) (now (subs .entry))) (numbersOf (now (listing .entry))) (now (text .entry)) (duesFrom (now (counts .entry)) (now (chars .entry)) (now (subs .entry)) q d) at place r ⌝ }
+    requires { ⌜ ParserTables (now tables) ⌝ }
+    requires { ⌜ (q < length (countsOf (now tables))) × (at ≤ length (numbersOf (now listing))) × (place ≤ length (now text)) ⌝ }
+    ensures { λ r. ⌜ Walked (tableGrammar (now (tables .entry))) (numbersOf (now (listing .entry))) (now (text .entry)) (duesFrom (now (tables .entry)) q d) at place r ⌝ }
 {
-    if wide(counts[q]) <= d {
+    if argument_count(tables, q) <= d {
         return Part::Complete(at, place);
     }
-    match check_tree(counts, chars, subs, text, listing, q, d, at, place) {
+    match check_tree(tables, text, listing, q * ARGUMENT_LIMIT + d, at, place) {
         Part::Fault(index) => Part::Fault(index),
         Part::Complete(next, after) => check_arguments(
-            counts,
-            chars,
-            subs,
+            tables,
             text,
             listing,
             q,

@@ -11,7 +11,7 @@ use Rattle.ccg.proofs.TextLaws.{tabulate-text-short}
 use Rattle.ccg.specs.Ccg.{Class, Line}
 use Rattle.ccg.specs.Flat.{flatClass, flatLine, flatGrammar, plainClass}
 use Rattle.ccg.specs.Text.{grammarText, writeAnswer, flatAnswer}
-use Rattle.ccg.specs.declared.FlatAnswer.the-variants.{Written}
+use Rattle.ccg.specs.declared.FlatAnswer.the-variants.{Written, Refused as NotWritten}
 use Rattle.chart.specs.Layout.{textLimit}
 use Rattle.common.proofs.BoolLaws.{or-second-false}
 use Rattle.common.proofs.ListLaws.{length-tabulate}
@@ -20,12 +20,12 @@ use Rattle.grammar.specs.Formed.{WellFormed}
 use Rattle.grammar.specs.Layout.{productions, startSort, argumentCount}
 use Rattle.grammar.specs.Verdict.{andThen, inOrder, unlessRefused}
 use Rattle.grammar.specs.declared.Verdict.{Verdict}
-use Rattle.grammar.specs.declared.Verdict.the-variants.{Accepted}
+use Rattle.grammar.specs.declared.Verdict.the-variants.{Accepted, Refused as Rejected}
 use Rattle.listing.proofs.NumberLaws.{numbers-length}
-use Rattle.listing.specs.Answer.{byteLimit, badListing, judged, afterVerdict, listingAnswer}
+use Rattle.listing.specs.Answer.{byteLimit, badListing, judged, listingAnswer}
 use Rattle.listing.specs.Judge.{isRight, dueAfter, textAfter, judge}
 use Rattle.listing.specs.Numbers.{numbersOf}
-use Rattle.listing.specs.declared.ListingAnswer.the-variants.{Wrong}
+use Rattle.listing.specs.declared.ListingAnswer.the-variants.{Wrong, Refused as NotChecked}
 use Rattle.meadowsink.specs.Calls.{checkReply, conflictReply, flatReply, listingReply}
 use Rattle.meadowsink.specs.Reply.{answered, refused, kindLimit, valueLimit, Fits}
 use Rattle.meadowsink.specs.declared.reply.Reply.{Reply}
@@ -34,10 +34,7 @@ use Rattle.engine.specs.Refusals.{tooLong}
 use Rattle.priority.proofs.CheckLaws.{accepted-formed}
 use Rattle.priority.specs.Check.{checked}
 use Rattle.priority.specs.Conflict.{conflicts, isThere, yesOrNo, conflictAnswer}
-use Rattle.grammar.specs.declared.Verdict.the-variants.{Refused as Rejected}
-use Rattle.ccg.specs.declared.FlatAnswer.the-variants.{Refused as NotWritten}
 use Rattle.priority.specs.declared.ConflictAnswer.the-variants.{Refused as NotAsked}
-use Rattle.listing.specs.declared.ListingAnswer.the-variants.{Refused as NotChecked}
 
 -- ---- what fits
 
@@ -145,5 +142,5 @@ module _ (b w l : List ℕ) where
   judged-fits h = judge-fits (flatGrammar b) (numbersOf l) (plainClass b (startSort b) ∷ []) w 0 (omega (arith, numbers-length l))
 
   pub listing-fits : Fits (listingReply (listingAnswer b w l))
-  unfolding listingAnswer afterVerdict listingReply
+  unfolding listingAnswer listingReply
   listing-fits = unless-fits listingReply NotChecked refusals (judged b w l) (λ k place. refl) refusals-numbered (λ e. judged-fits (listing-short e))

@@ -11,7 +11,7 @@ use Rattle.engine.specs.Outcome.{Answered, UnlessRefused}
 use Rattle.engine.specs.declared.Answer.{Answer}
 use Rattle.engine.specs.declared.Answer.the-variants.{Refused, None, One, Several}
 use Rattle.grammar.specs.declared.Verdict.{Verdict}
-use Rattle.grammar.specs.declared.Verdict.the-variants.{Accepted}
+use Rattle.grammar.specs.declared.Verdict.the-variants.{Accepted, Refused as Rejected}
 use Rattle.meadowsink.proofs.FitLaws.{answered-fits, refused-fits}
 use Rattle.meadowsink.specs.Calls.{readReply}
 use Rattle.meadowsink.specs.Reply.{Fits}
@@ -22,7 +22,6 @@ use Rattle.parse.proofs.OutcomeLaws.{outcome-unique}
 use Rattle.parse.specs.Outcome.{refusal, readingBy, Outcome}
 use Rattle.ccg.specs.Reading.{Reading}
 use Rattle.theory.specs.Tree.{Tree}
-use Rattle.grammar.specs.declared.Verdict.the-variants.{Refused as Rejected}
 
 own-fits : (P : Tree → Type 0) (l₀ : List ℕ) (r : Answer) (l : List ℕ) → length l₀ ≤ listingLimit → Answered P l₀ r l → Fits (readReply r)
 unfolding Answered readReply

@@ -10,14 +10,13 @@ use Rattle.engine.specs.declared.Answer.the-variants.{One}
 use Rattle.grammar.proofs.VerdictLaws.{and-first, and-second}
 use Rattle.grammar.specs.Verdict.{andThen}
 use Rattle.grammar.specs.declared.Verdict.{Verdict}
-use Rattle.grammar.specs.declared.Verdict.the-variants.{Accepted}
+use Rattle.grammar.specs.declared.Verdict.the-variants.{Accepted, Refused as Rejected}
 use Rattle.listing.specs.Answer.{byteLimit, listingAnswer}
 use Rattle.listing.specs.declared.ListingAnswer.the-variants.{Right}
 use Rattle.engine.specs.Refusals.{tooLong}
 use Rattle.parse.specs.Outcome.{tooShort, refusal, readingBy, Outcome}
 use Rattle.ccg.specs.Reading.{Reading}
 use Rattle.priority.specs.Check.{checked}
-use Rattle.grammar.specs.declared.Verdict.the-variants.{Refused as Rejected}
 use Rattle.listing.proofs.ReadingLaws.{reading-written}
 
 module _ (b w c₀ l₀ : List ℕ) (n : ℕ) (c l : List ℕ) where

@@ -1,7 +1,7 @@
 -- The theorems of the page, each from the law that proves it.
+use Prim.Native.Nat.{ℕ}
 use mathlib.Core.Path.{_≡_, refl, sym, subst, subst⁻¹, fun-ext}
 use mathlib.Core.Logic.{⊎-elim}
-use Prim.Native.Nat.{ℕ}
 use mathlib.Core.List.{List}
 use lib.ListN.{length}
 use Rattle.ccg.proofs.FlatAnswerLaws.{flat-fits, flat-too-long, flat-grammar}

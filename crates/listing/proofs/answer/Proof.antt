@@ -17,11 +17,19 @@ enum-known-whole-2 c = search needs
 
 returns : tie.Need-returns
 unfolding afterPart
-returns c = λ g. rw (c .before .before .whole2 .given .1) (sym (numbers-left g (numbersOf (c .before .before .before .before .args .listing .now)) (c .before .before .before .before .args .text .now) (c .before .before .whole2 .given .0 .0) (c .before .before .whole2 .given .0 .1 .0) (let e = numbers-length (c .before .before .before .before .args .listing .now) in omega arith)))
+returns c =
+    let a = c .before .before .before .before .args in
+    let part = c .before .before .whole2 .given in
+    let e = numbers-length (a .listing .now) in
+    λ g. rw (part .1) (sym (numbers-left g (numbersOf (a .listing .now)) (a .text .now) (part .0 .0) (part .0 .1 .0) (omega arith)))
 
 returns-2 : tie.Need-returns-2
 unfolding afterPart
-returns-2 c = λ g. rw (c .before .before .before .whole2 .given .1) (sym (text-left g (numbersOf (c .before .before .before .before .before .args .listing .now)) (c .before .before .before .before .before .args .text .now) (c .before .before .before .whole2 .given .0 .0) (c .before .before .before .whole2 .given .0 .1 .0) (let e = numbers-length (c .before .before .before .before .before .args .listing .now) in omega arith) (c .if2 .taken)))
+returns-2 c =
+    let a = c .before .before .before .before .before .args in
+    let part = c .before .before .before .whole2 .given in
+    let e = numbers-length (a .listing .now) in
+    λ g. rw (part .1) (sym (text-left g (numbersOf (a .listing .now)) (a .text .now) (part .0 .0) (part .0 .1 .0) (omega arith) (c .if2 .taken)))
 
 returns-3 : tie.Need-returns-3
 unfolding afterPart
@@ -29,7 +37,11 @@ returns-3 c = λ g. rw (c .before .whole .given .1) refl
 
 returns-4 : tie.Need-returns-4
 unfolding afterPart
-returns-4 c = λ g. rw (c .before .before .before .whole2 .given .1) (sym (nothing-left g (numbersOf (c .before .before .before .before .before .args .listing .now)) (c .before .before .before .before .before .args .text .now) (c .before .before .before .whole2 .given .0 .0) (c .before .before .before .whole2 .given .0 .1 .0) (let e = numbers-length (c .before .before .before .before .before .args .listing .now) in omega arith) (omega arith)))
+returns-4 c =
+    let a = c .before .before .before .before .before .args in
+    let part = c .before .before .before .whole2 .given in
+    let e = numbers-length (a .listing .now) in
+    λ g. rw (part .1) (sym (nothing-left g (numbersOf (a .listing .now)) (a .text .now) (part .0 .0) (part .0 .1 .0) (omega arith) (omega arith)))
 
 pub answer-spec : {M : Type 1} → statement M
 answer-spec =

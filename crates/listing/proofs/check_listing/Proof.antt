@@ -1,7 +1,7 @@
 -- `check_listing` meets its contract: the grammar's refusals first.
 use mathlib.Core.Path.{refl, sym, _∙_}
 use borrow.Author.Needs.{needs}
-use Rattle.listing.specs.Answer.{afterVerdict, listingAnswer}
+use Rattle.listing.specs.Answer.{listingAnswer}
 use Rattle.priority.proofs.CheckLaws.{accepted-formed}
 use Rattle.listing.proofs.check_listing.Statement.{statement}
 use Rattle.listing.proofs.check_listing.Tie as tie
@@ -19,7 +19,7 @@ check-accepted-requires : tie.Need-check-accepted-requires
 check-accepted-requires c κs = accepted-formed (c .before .before .before .before .before .before .args .book .now) (sym (c .before .before .check-grammar .ensures) ∙ c .enum-told .given .1)
 
 returns : tie.Need-returns
-unfolding listingAnswer afterVerdict
+unfolding listingAnswer
 returns c = rw (← (c .before .before .before .check-grammar .ensures), c .before .verdict .given .1) refl
 
 returns-2 : tie.Need-returns-2
