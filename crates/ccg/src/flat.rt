@@ -2,11 +2,11 @@
 // the start sort.
 use charset::CharSet;
 use common::both;
+use common::wide;
 use grammar::classes::class_set;
 use grammar::layout::argument_count;
 use grammar::layout::bodies_at;
 use grammar::layout::production_count;
-use grammar::layout::wide;
 use grammar::limits::ARGUMENT_LIMIT;
 use grammar::limits::CLASS_BASE;
 use grammar::limits::HEADER_LENGTH;
@@ -15,7 +15,7 @@ use priority::LEFT;
 use priority::NONASSOC;
 use priority::RIGHT;
 use priority::declared_pairs;
-use priority::joined;
+use priority::merged;
 use priority::priorities;
 use tables::ROOT_SLOT;
 use tables::put_class;
@@ -76,8 +76,8 @@ fn barred_at(
     requires { ⌜ i < count ⌝ }
     ensures { λ r. ⌜ ((q : ℕ) → getD r q false ≡ (getD above q false || (eqb i 0 && leb 2 count) && getD firsts q false || (eqb (i + 1) count && leb 2 count) && getD lasts q false)) ⌝ }
 {
-    let inner = joined(above, both(i == 0, 2 <= count), firsts);
-    joined(inner, both(i + 1 == count, 2 <= count), lasts)
+    let inner = merged(above, both(i == 0, 2 <= count), firsts);
+    merged(inner, both(i + 1 == count, 2 <= count), lasts)
 }
 
 // The productions that may stand at byte x: those with this result that are not barred.

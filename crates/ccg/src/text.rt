@@ -12,7 +12,7 @@ use tables::production_count;
 use tables::takes_production;
 ghost use mathlib.Core.Path.{_≡_};
 ghost use mathlib.Core.List.{[], _∷_};
-ghost use Prim.Native.Nat.{_+_, _*_, _-_, _<_, _≤_};
+ghost use Prim.Native.Nat.{_+_, _-_, _<_, _≤_};
 ghost use lib.ListN.{length};
 ghost use Rattle.grammar.specs.Limits.{productionLimit};
 ghost use Rattle.theory.specs.Tree.{productionNumber};

@@ -150,6 +150,10 @@ pub rows-few : (arity : ℕ → ℕ) (n : ℕ) → n ≤ productionLimit → ((p
 unfolding rowCount
 rows-few arity n l h = omega (arith, sum-bound (argumentLimit + 1) (λ q. arity q + 1) (λ q. omega (arith, h q)) n)
 
+-- so no row stands far back
+pub row-below : (counts : List ℕ) (p d : ℕ) → length counts ≤ productionLimit → ((k : ℕ) → arityIn counts k ≤ argumentLimit) → p < length counts → d ≤ arityIn counts p → rowOf (arityIn counts) p d < rowLimit
+row-below counts p d few short l h = omega (arith, row-in (arityIn counts) p d (length counts) l h, rows-few (arityIn counts) (length counts) few short)
+
 -- those of tables that a parser can read
 pub table-rows-few : (t : List ℕ) → ParserTables t → rowCount (arityIn (countsOf t)) (length (countsOf t)) ≤ rowLimit
 table-rows-few t h = rows-few (arityIn (countsOf t)) (length (countsOf t)) (counts-few t h) (h .fewArguments)

@@ -2,6 +2,7 @@
 use crate::layout::PLACES;
 use crate::layout::put;
 use crate::layout::span_count;
+use crate::sums::capped_byte;
 use crate::sums::larger;
 ghost use mathlib.Core.Path.{_≡_};
 ghost use Prim.Native.Nat.{ℕ, _+_, _-_, _*_, _<_, _≤_, max};
@@ -60,16 +61,6 @@ pub fn clear_row(chart: &mut [u8], n: usize, row: usize, j: usize)
     clear(chart, place_at(n, row, 0, j), j);
 }
 
-// 0, 1, or 2 for more.
-fn at_most_two(x: u8) -> u8
-    ensures { λ r. ⌜ r ≡ cap x ⌝ }
-{
-    if x < 2 {
-        return x;
-    }
-    2
-}
-
 // Adds the splits of a row at m to its sums, which begin at `at`, for each start before m: the cell from there to m, times what may stand behind it.
 // This is the inner loop of filling.
 pub fn add_row(
@@ -91,7 +82,7 @@ pub fn add_row(
     let from = place_at(n, row, 0, m);
     let mut k = 0;
     while k < m {
-        let sum = at_most_two(sums[at + k] + chart[from + k] * argument);
+        let sum = capped_byte(sums[at + k] + chart[from + k] * argument);
         sums[at + k] = sum;
         live[k] = larger(live[k], sum);
         k += 1;

@@ -19,6 +19,16 @@ pub fn capped(n: usize) -> u8
     2
 }
 
+// The same for a byte; the inner loop does many at a step.
+pub fn capped_byte(x: u8) -> u8
+    ensures { λ r. ⌜ r ≡ cap x ⌝ }
+{
+    if x < 2 {
+        return x;
+    }
+    2
+}
+
 // The larger of two bytes.
 pub fn larger(a: u8, b: u8) -> u8
     ensures { λ r. ⌜ r ≡ max a b ⌝ }

@@ -5,7 +5,7 @@ use chart::by_ends::store;
 use chart::layout::PLACES;
 use chart::layout::ROW_LIMIT;
 use chart::sums::capped;
-use grammar::layout::wide;
+use common::wide;
 use grammar::limits::ARGUMENT_LIMIT;
 use tables::takes_char;
 ghost use mathlib.Core.Path.{_≡_};

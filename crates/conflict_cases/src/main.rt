@@ -1,11 +1,11 @@
 // Asks the conflict question for each grammar of its input and prints the answers, a line each.
 // A case is two fields: the grammar, and three bytes for production p, argument i and production q.
+use common::wide;
 use libc::STDIN_FILENO;
 use libc::STDOUT_FILENO;
 use priority::ConflictAnswer;
 use priority::conflict::conflict;
 use records::field_at;
-use records::wide;
 use report::print_refusal;
 ghost use Prim.Native.Nat.{_≤_};
 ghost use lib.ListN.{length};

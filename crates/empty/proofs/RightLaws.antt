@@ -3,9 +3,9 @@ use Prim.Native.Nat.{ℕ, zero, suc, _+_, _*_, max, _≤_, _<_}
 use mathlib.Core.Path.{_≡_, refl, _∙_, ap}
 use mathlib.Core.Bool.{Bool}
 use mathlib.Core.List.{List}
-use mathlib.Core.Logic.{_≢_, by-cases}
+use mathlib.Core.Logic.{_≢_}
 use native.Mathlib.Omega.{arith}
-use native.Mathlib.Decide.{ℕ-discrete, decLt}
+use native.Mathlib.Decide.{ℕ-discrete}
 use native.Mathlib.Nat.{le-refl}
 use native.Mathlib.Numerals.{add-one}
 use lib.ListN.{length, getD, set, length-set}
@@ -20,7 +20,7 @@ use Rattle.empty.proofs.RowLaws.{row-room}
 use Rattle.empty.specs.Turns.{emptySpan, firstRow, Begun}
 use Rattle.span.specs.Span.{whole, usedSum}
 use Rattle.span.specs.Tables.{userAt, spanOf, Links, UsersAre}
-use Rattle.theory.proofs.SoundLaws.{shown-less, argument-shown, splits-shown}
+use Rattle.theory.proofs.SoundLaws.{shown-less, shown-max, argument-shown, splits-shown}
 use Rattle.theory.proofs.SplitLaws.{split-empty}
 use Rattle.theory.specs.Counts.{Shown}
 use Rattle.theory.specs.Grammar.{Grammar, Spells, Stands}
@@ -38,9 +38,6 @@ pub record Right (counts users x : List ℕ) : Type 0 where
 
 shown-zero : {A : Type 0} (P : A → Type 0) (v : ℕ) → v ≡ 0 → Shown P v
 shown-zero P v e = record { one = λ h. absurd (omega arith); two = λ h. absurd (omega arith) }
-
-shown-larger : {A : Type 0} (P : A → Type 0) (u v : ℕ) → Shown P u → Shown P v → Shown P (max u v)
-shown-larger P u v s t = by-cases (decLt u v) (λ l. shown-less P (max u v) v (omega arith) t) (λ l. shown-less P (max u v) u (omega arith) s)
 
 -- with no argument, the empty list
 none-shown : (g : Grammar) (w : List ℕ) (p i v : ℕ) → i ≤ length w → v ≡ 1 → Shown (λ (f : Forest). Spells g w p f 0 i i) v
@@ -138,7 +135,7 @@ module _ {counts users uses x : List ℕ} (links : Links counts users uses) (rig
           elim (ℕ-discrete (rowOf (arityIn counts) q e) (rowOf (arityIn counts) p d + 1)) [
             | yes o ↦ let (f, h) = row-same (arityIn counts) q p e (d + 1) m (omega arith) (o ∙ row-shift (arityIn counts) p d) in
                 rw (o, raised-here, f, h, add-one d)
-                (shown-larger _ _ _
+                (shown-max _ _ _
                 (rw (row-shift (arityIn counts) p d, add-one d) (right .shown chars subs are w p (suc d) i among (omega arith) k))
                 (shown-less _ _ _ few (product-there chars subs are w i k)))
             | no o ↦ rw (raised-other (rowOf (arityIn counts) q e) o) (right .shown chars subs are w q e i l m k)

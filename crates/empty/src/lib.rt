@@ -3,7 +3,7 @@
 use chart::layout::ROW_LIMIT;
 use chart::sums::zero_row;
 use common::either;
-use grammar::layout::wide;
+use common::wide;
 use span::settle;
 use span::spread;
 ghost use mathlib.Core.Path.{_≡_};

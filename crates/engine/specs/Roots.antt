@@ -5,7 +5,9 @@ use mathlib.Core.Bool.{true}
 use mathlib.Core.List.{List}
 use lib.ListN.{length}
 use Rattle.common.specs.Below.{bitOf}
-use Rattle.engine.specs.Outcome.{Parsing}
+use Rattle.engine.specs.Outcome.{Parsing, UnlessRefused}
+use Rattle.engine.specs.Refusals.{textRefusal}
+use Rattle.engine.specs.declared.Answer.{Answer}
 use Rattle.extract.specs.Places.{Walkable, cellOf}
 use Rattle.tables.specs.Layout.{rootSlot, countsOf, arityIn, takesProduction}
 use Rattle.tables.specs.Theory.{theoryOf}
@@ -35,3 +37,7 @@ parsingBy tables w =
 pub record Filled (tables w chart : List ℕ) : Type 0 where
   pub walkable : Walkable tables w chart
   pub rootsWanted : (p : ℕ) → p < length (countsOf tables) → takesProduction tables rootSlot p ≡ true → walkable .wanted p 0 ≡ true
+
+-- What parsing a text by flat tables promises: refused by 10 or 20, or parsed.
+unfoldable pub TablesOutcome : (tables w c₀ l₀ : List ℕ) → Answer → (c l : List ℕ) → Type 0
+TablesOutcome tables w c₀ l₀ r c l = UnlessRefused (textRefusal tables w c₀) (parsingBy tables w) c₀ l₀ r c l

@@ -3,10 +3,10 @@ use chart::layout::TEXT_LIMIT;
 use chart::layout::chart_need;
 use chart::layout::entry_of;
 use chart::sums::capped;
+use common::wide;
 use extract::write_only;
 use fill::fill;
 use grammar::Verdict;
-use grammar::layout::wide;
 use tables::ROOT_SLOT;
 use tables::argument_count;
 use tables::production_count;
@@ -19,9 +19,9 @@ ghost use Rattle.common.specs.Bytes.{byteValues};
 ghost use Rattle.chart.specs.Layout.{ChartFits};
 ghost use Rattle.tables.specs.Layout.{countsOf, ParserTables};
 ghost use Rattle.theory.specs.Counts.{Counts};
-ghost use Rattle.engine.specs.Outcome.{Answered, ChartAfter, Parsed, UnlessRefused};
+ghost use Rattle.engine.specs.Outcome.{Answered, ChartAfter, Parsed};
 ghost use Rattle.engine.specs.Refusals.{tooLong, textRefusal};
-ghost use Rattle.engine.specs.Roots.{ParseBy, rootTerm, parsingBy, Filled};
+ghost use Rattle.engine.specs.Roots.{ParseBy, rootTerm, parsingBy, Filled, TablesOutcome};
 
 // What parsing a text gives.
 pub enum Answer {
@@ -48,7 +48,7 @@ pub fn check_text(text: &[u8]) -> Verdict
 }
 
 // 10, and then 20: the chart is too short.
-fn check_lent(tables: &[u64], text: &[u8], chart: &[u8]) -> Verdict
+fn check_input(tables: &[u64], text: &[u8], chart: &[u8]) -> Verdict
     requires { ⌜ ParserTables (now tables) ⌝ }
     ensures { λ r. ⌜ r ≡ textRefusal (now (tables .entry)) (now (text .entry)) (now (chart .entry)) ⌝ }
 {
@@ -139,7 +139,7 @@ pub fn write_parse(tables: &[u64], text: &[u8], chart: &[u8], listing: &mut [u8]
 }
 
 // The chart is filled; a text with one parse has its listing written, as far as there is room.
-fn parse_lent(tables: &[u64], text: &[u8], chart: &mut [u8], listing: &mut [u8]) -> Answer
+fn parse_short(tables: &[u64], text: &[u8], chart: &mut [u8], listing: &mut [u8]) -> Answer
     requires { ⌜ ChartFits (now tables) (length (now text)) (now chart) ⌝ }
     ensures { λ r. ⌜ Parsed (parsingBy (now (tables .entry)) (now (text .entry))) (now (chart .entry)) (now (listing .entry)) r (now (chart .exit)) (now (listing .exit)) ⌝ }
 {
@@ -156,11 +156,11 @@ fn parse_lent(tables: &[u64], text: &[u8], chart: &mut [u8], listing: &mut [u8])
 // Parses a text by tables: 10, 20, and then the answer.
 pub fn parse_tables(tables: &[u64], text: &[u8], chart: &mut [u8], listing: &mut [u8]) -> Answer
     requires { ⌜ ParserTables (now tables) ⌝ }
-    ensures { λ r. ⌜ UnlessRefused (textRefusal (now (tables .entry)) (now (text .entry)) (now (chart .entry))) (parsingBy (now (tables .entry)) (now (text .entry))) (now (chart .entry)) (now (listing .entry)) r (now (chart .exit)) (now (listing .exit)) ⌝ }
+    ensures { λ r. ⌜ TablesOutcome (now (tables .entry)) (now (text .entry)) (now (chart .entry)) (now (listing .entry)) r (now (chart .exit)) (now (listing .exit)) ⌝ }
 {
-    let verdict = check_lent(tables, text, chart);
+    let verdict = check_input(tables, text, chart);
     match verdict {
         Verdict::Refused(number, place) => Answer::Refused(number, place),
-        Verdict::Accepted => parse_lent(tables, text, chart, listing),
+        Verdict::Accepted => parse_short(tables, text, chart, listing),
     }
 }

@@ -1,7 +1,7 @@
 // The stack of levels while a tree is written: a level for each production whose arguments are not all written.
 // Its bytes are its production, how many of its arguments are written, and the places where they begin and end.
 use chart::layout::PLACES;
-use grammar::layout::wide;
+use common::wide;
 use grammar::limits::ARGUMENT_LIMIT;
 use grammar::limits::PRODUCTION_LIMIT;
 ghost use mathlib.Core.Path.{_≡_};

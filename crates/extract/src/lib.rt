@@ -3,7 +3,8 @@
 pub mod levels;
 
 use chart::layout::entry_of;
-use grammar::layout::wide;
+use common::BYTE_VALUES;
+use common::wide;
 use grammar::limits::ARGUMENT_LIMIT;
 use levels::Due;
 use levels::ENDS;
@@ -22,12 +23,11 @@ ghost use mathlib.Core.Path.{_≡_};
 ghost use mathlib.Core.Bool.{true, _&&_};
 ghost use mathlib.Core.List.{[], _∷_};
 ghost use mathlib.Core.Logic.{_↔_};
-ghost use Prim.Native.Nat.{ℕ, _+_, _-_, _*_, _<_, _≤_};
+ghost use Prim.Native.Nat.{_+_, _-_, _*_, _<_, _≤_};
 ghost use lib.Dec.{eqb, leb};
 ghost use lib.ListN.{length, getD};
 ghost use Rattle.theory.specs.Tree.{Tree};
 ghost use Rattle.theory.specs.Grammar.{Stands};
-ghost use Rattle.grammar.specs.Limits.{productionLimit, argumentLimit};
 ghost use Rattle.tables.specs.Layout.{slot, slots, countsOf, arityIn, tableWords, takesChar, takesProduction};
 ghost use Rattle.tables.specs.Theory.{theoryOf};
 ghost use Rattle.extract.specs.Written.{room, Written};
@@ -181,8 +181,8 @@ pub fn put_number(out: &mut [u8], at: usize, number: usize) -> usize
     if out.len() / 2 <= at {
         return out.len() / 2 + 1;
     }
-    out[2 * at] = (number % 256) as u8;
-    out[2 * at + 1] = (number / 256) as u8;
+    out[2 * at] = (number % BYTE_VALUES) as u8;
+    out[2 * at + 1] = (number / BYTE_VALUES) as u8;
     at + 1
 }
 

@@ -2,9 +2,9 @@
 // A case is two fields: the grammar, and two bytes with the length of the buffer, low byte first.
 use ccg::FlatAnswer;
 use ccg::write_flat;
+use common::two_bytes;
 use libc::STDIN_FILENO;
 use records::field_at;
-use records::two_bytes;
 use report::print_refusal;
 use report::print_start;
 ghost use Prim.Native.Nat.{_≤_};

@@ -1,5 +1,6 @@
 // Where each part of a grammar stands among its bytes, and what it says.
 use crate::limits::HEADER_LENGTH;
+use common::wide;
 ghost use mathlib.Core.Path.{_≡_};
 ghost use Prim.Native.Nat.{_<_, _≤_};
 ghost use lib.ListN.{length};
@@ -13,13 +14,6 @@ pub fn byte_at(book: &[u8], k: usize) -> usize
     ensures { λ r. ⌜ r ≡ byteAt (now (book .entry)) k ⌝ }
 {
     wide(book[k])
-}
-
-// A byte as a number.
-pub fn wide(x: u8) -> usize
-    ensures { λ r. ⌜ r ≡ x ⌝ }
-{
-    x as usize
 }
 
 pub fn sort_count(book: &[u8]) -> usize

@@ -7,17 +7,13 @@ use native.Mathlib.Omega.{arith}
 use native.Mathlib.Decide.{decLt}
 use lib.ListN.{length, getD}
 use Rattle.tables.specs.Layout.{slot, takesProduction, arityIn, rowCount}
-use Rattle.chart.proofs.LayoutLaws.{row-in, row-next, row-same, row-shift, rows-few}
+use Rattle.chart.proofs.LayoutLaws.{row-in, row-below, row-next, row-same, row-shift}
 use Rattle.chart.specs.Layout.{rowLimit, rowOf}
 use Rattle.common.specs.Below.{sumBelow, bitOf}
 use Rattle.common.specs.Zeros.{AllZero}
 use Rattle.grammar.specs.Limits.{productionLimit, argumentLimit}
 use Rattle.links.specs.Linked.{RowLinked, LinkedTo}
 use Rattle.span.specs.Tables.{userAt, useAt, userBytes, useBytes, Links, UsersAre}
-
--- no row stands too far back
-pub row-below : (counts : List ℕ) (p d : ℕ) → length counts ≤ productionLimit → ((k : ℕ) → arityIn counts k ≤ argumentLimit) → p < length counts → d ≤ arityIn counts p → rowOf (arityIn counts) p d < rowLimit
-row-below counts p d few short l h = omega (arith, row-in (arityIn counts) p d (length counts) l h, rows-few (arityIn counts) (length counts) few short)
 
 module _ (counts tables : List ℕ) where
   -- before the first row

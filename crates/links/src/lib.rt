@@ -1,7 +1,7 @@
 // Turns the flat table of productions round: for each production, the rows that take it as their next argument, and the productions that have such a row.
 use chart::layout::ROW_LIMIT;
 use chart::sums::larger;
-use grammar::layout::wide;
+use common::wide;
 use grammar::limits::ARGUMENT_LIMIT;
 use grammar::limits::PRODUCTION_LIMIT;
 use tables::takes_production;

@@ -4,7 +4,7 @@ use mathlib.Core.Path.{_≡_, refl, sym, _∙_, ap₂}
 use mathlib.Core.List.{List, [], _∷_}
 use native.Mathlib.Omega.{arith}
 use lib.ListN.{length, getD}
-use Rattle.charset.specs.Set.{characters}
+use Rattle.common.specs.Bytes.{byteValues, numberAt}
 use Rattle.listing.specs.Numbers.{numbersOf}
 
 pub numbers-length : (l : List ℕ) → length (numbersOf l) ≡ length l / 2
@@ -13,14 +13,14 @@ numbers-length [] = refl
 numbers-length (x ∷ []) = refl
 numbers-length (x ∷ y ∷ l) = let e = numbers-length l in omega arith
 
-pub numbers-at : (l : List ℕ) (k : ℕ) → k < length (numbersOf l) → getD (numbersOf l) k 0 ≡ getD l (2 * k) 0 + characters * getD l (2 * k + 1) 0
-unfolding numbersOf
+pub numbers-at : (l : List ℕ) (k : ℕ) → k < length (numbersOf l) → getD (numbersOf l) k 0 ≡ numberAt l (2 * k)
+unfolding numbersOf numberAt
 numbers-at [] k h = absurd (omega arith)
 numbers-at (x ∷ []) k h = absurd (omega arith)
 numbers-at (x ∷ y ∷ l) zero h = refl
 numbers-at (x ∷ y ∷ l) (suc k) h =
     numbers-at l k (omega arith)
-    ∙ sym (ap₂ (λ (i j : ℕ). getD (x ∷ y ∷ l) i 0 + characters * getD (x ∷ y ∷ l) j 0) (two-more k) (one-further k))
+    ∙ sym (ap₂ (λ (i j : ℕ). getD (x ∷ y ∷ l) i 0 + byteValues * getD (x ∷ y ∷ l) j 0) (two-more k) (one-further k))
   where
     two-more : (k : ℕ) → 2 * suc k ≡ suc (suc (2 * k))
     two-more k = omega arith

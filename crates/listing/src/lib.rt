@@ -1,9 +1,10 @@
 // The operation "checking a listing": whether numbers are the listing of a parse of a text, and if not, where they go wrong.
 use ccg::flat::flatten;
 use charset::CHARACTERS;
+use common::two_bytes;
+use common::wide;
 use engine::check_text;
 use grammar::Verdict;
-use grammar::layout::wide;
 use grammar::limits::ARGUMENT_LIMIT;
 use priority::check_grammar;
 use tables::FIRST_PRODUCTION;
@@ -64,6 +65,34 @@ pub fn check_listing(book: &[u8], text: &[u8], listing: &[u8]) -> ListingAnswer
     }
 }
 
+// The same for an accepted grammar. At the root a production of the start sort is due.
+fn check_accepted(book: &[u8], text: &[u8], listing: &[u8]) -> ListingAnswer
+    requires { ⌜ WellFormed (now book) ⌝ }
+    ensures { λ r. ⌜ r ≡ unlessRefused Refused (inOrder (tooLong (now (text .entry)) ∷ badListing (now (listing .entry)) ∷ [])) (judged (now (book .entry)) (now (text .entry)) (now (listing .entry))) ⌝ }
+{
+    let verdict = check_input(text, listing);
+    match verdict {
+        Verdict::Refused(number, place) => ListingAnswer::Refused(number, place),
+        Verdict::Accepted => {
+            let mut tables = zero_tables();
+            flatten(book, &mut tables);
+            let whole = check_tree(&tables, text, listing, ROOT_SLOT, 0, 0);
+            answer(whole, text, listing)
+        }
+    }
+}
+
+// 10, and then 11.
+fn check_input(text: &[u8], listing: &[u8]) -> Verdict
+    ensures { λ r. ⌜ r ≡ inOrder (tooLong (now (text .entry)) ∷ badListing (now (listing .entry)) ∷ []) ⌝ }
+{
+    let verdict = check_text(text);
+    match verdict {
+        Verdict::Refused(number, place) => Verdict::Refused(number, place),
+        Verdict::Accepted => check_bytes(listing),
+    }
+}
+
 // 11: an odd byte count, or one over the limit.
 fn check_bytes(listing: &[u8]) -> Verdict
     ensures { λ r. ⌜ r ≡ badListing (now (listing .entry)) ⌝ }
@@ -75,37 +104,6 @@ fn check_bytes(listing: &[u8]) -> Verdict
         return Verdict::Refused(11, listing.len());
     }
     Verdict::Accepted
-}
-
-// 10, and then 11.
-fn check_lent(text: &[u8], listing: &[u8]) -> Verdict
-    ensures { λ r. ⌜ r ≡ inOrder (tooLong (now (text .entry)) ∷ badListing (now (listing .entry)) ∷ []) ⌝ }
-{
-    let verdict = check_text(text);
-    match verdict {
-        Verdict::Refused(number, place) => Verdict::Refused(number, place),
-        Verdict::Accepted => check_bytes(listing),
-    }
-}
-
-// The same for an accepted grammar. At the root a production of the start sort is due.
-fn check_accepted(book: &[u8], text: &[u8], listing: &[u8]) -> ListingAnswer
-    requires { ⌜ WellFormed (now book) ⌝ }
-    ensures { λ r. ⌜ r ≡ unlessRefused Refused (inOrder (tooLong (now (text .entry)) ∷ badListing (now (listing .entry)) ∷ [])) (judged (now (book .entry)) (now (text .entry)) (now (listing .entry))) ⌝ }
-{
-    let verdict = check_lent(text, listing);
-    match verdict {
-        Verdict::Refused(number, place) => ListingAnswer::Refused(number, place),
-        Verdict::Accepted => {
-            let mut tables = zero_tables();
-            flatten(book, &mut tables);
-            answer(
-                check_tree(&tables, text, listing, ROOT_SLOT, 0, 0),
-                text,
-                listing,
-            )
-        }
-    }
 }
 
 // A complete tree is right if the listing and the text end with it.
@@ -131,7 +129,7 @@ fn number_at(listing: &[u8], at: usize) -> usize
     requires { ⌜ at < length (numbersOf (now listing)) ⌝ }
     ensures { λ r. ⌜ r ≡ getD (numbersOf (now (listing .entry))) at 0 ⌝ }
 {
-    wide(listing[2 * at]) + CHARACTERS * wide(listing[2 * at + 1])
+    two_bytes(listing, 2 * at)
 }
 
 // Character n may stand at slot s, and is the next byte of the text.
@@ -188,15 +186,8 @@ fn check_tree(
     if !production_right(tables, s, n) {
         return Part::Fault(at);
     }
-    check_arguments(
-        tables,
-        text,
-        listing,
-        n - FIRST_PRODUCTION,
-        0,
-        at + 1,
-        place,
-    )
+    let next = at + 1;
+    check_arguments(tables, text, listing, n - FIRST_PRODUCTION, 0, next, place)
 }
 
 // The walk over the trees of production q from argument d on.

@@ -198,7 +198,7 @@ tests-true b w chart (refused number place) given (e, _) = refuses-true number p
 case-true : (s : Shown) → caseTest s ≡ true → Statement (caseOf s)
 unfolding caseTest Statement
 case-true (c, given) e =
-    let chart : List ℕ = replicate (c .room) 0 in
+    let chart : List ℕ = replicate (c .lent) 0 in
     tests-true (c .book) (c .text) chart (c .expected) given (every-true (tests (c .book) (c .text) chart (c .expected) given) e)
 
 -- a table whose test is true holds

@@ -150,7 +150,7 @@ abbrev pub caseOf : Shown → Case
 caseOf s = s .0
 
 unfoldable pub caseTest : Shown → Bool
-caseTest (c, given) = every (tests (c .book) (c .text) (replicate (c .room) 0) (c .expected) given)
+caseTest (c, given) = every (tests (c .book) (c .text) (replicate (c .lent) 0) (c .expected) given)
 
 -- the one test of a table
 unfoldable pub tableTest : List Shown → Bool

@@ -51,7 +51,7 @@ case-promised : (c : Case) → Statement c → Promised c
 unfolding Statement Promised
 case-promised c h chart₀ l₀ r chart l long o =
     says-answers (c .book) (c .text) chart₀ l₀ r chart l o (c .expected)
-    (says-moved (c .book) (c .text) (replicate (c .room) 0) chart₀ (length-replicate (c .room) 0 ∙ sym long) (c .expected) h)
+    (says-moved (c .book) (c .text) (replicate (c .lent) 0) chart₀ (length-replicate (c .lent) 0 ∙ sym long) (c .expected) h)
 
 -- a table of cases
 pub all-promised : (l : List Case) → All Statement l → All Promised l

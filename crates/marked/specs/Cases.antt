@@ -38,11 +38,11 @@ pub record Case : Type 0 where
   pub book : List ℕ
   pub text : List ℕ
   -- how many bytes the chart has
-  pub room : ℕ
+  pub lent : ℕ
   pub expected : Expected
 
 unfoldable pub Statement : Case → Type 0
-Statement c = Says (c .book) (c .text) (replicate (c .room) 0) (c .expected)
+Statement c = Says (c .book) (c .text) (replicate (c .lent) 0) (c .expected)
 
 -- The same of the operation's promise: what its answer is, and what the buffer of the listing, which held l₀, holds afterwards.
 unfoldable pub Answers : Expected → (l₀ : List ℕ) → Answer → (l : List ℕ) → Type 0
@@ -55,7 +55,7 @@ Answers (refused number place) l₀ r l = (r ≡ NotRead number place) × (l ≡
 -- any outcome, for every chart of the case's length and every buffer, whatever they hold
 unfoldable pub Promised : Case → Type 0
 Promised c =
-    (chart₀ l₀ : List ℕ) (r : Answer) (chart l : List ℕ) → length chart₀ ≡ c .room → Outcome (c .book) (c .text) chart₀ l₀ r chart l → Answers (c .expected) l₀ r l
+    (chart₀ l₀ : List ℕ) (r : Answer) (chart l : List ℕ) → length chart₀ ≡ c .lent → Outcome (c .book) (c .text) chart₀ l₀ r chart l → Answers (c .expected) l₀ r l
 
 -- P holds of each member of a list.
 abbrev pub All : {A : Type 0} → (A → Type 0) → List A → Type 0
@@ -102,25 +102,25 @@ digit = 56 ∷ []
 -- ---- the cases, with charts that are just long enough, but for (h), which needs none, and (k)
 
 abbrev pub caseA : Case
-caseA = record { book = bookT; text = mixed; room = 210; expected = oneReading (259 ∷ 260 ∷ 258 ∷ 56 ∷ 47 ∷ 258 ∷ 52 ∷ 42 ∷ 258 ∷ 50 ∷ []) }
+caseA = record { book = bookT; text = mixed; lent = 210; expected = oneReading (259 ∷ 260 ∷ 258 ∷ 56 ∷ 47 ∷ 258 ∷ 52 ∷ 42 ∷ 258 ∷ 50 ∷ []) }
 
 abbrev pub caseB : Case
-caseB = record { book = bookT; text = []; room = 10; expected = noReading }
+caseB = record { book = bookT; text = []; lent = 10; expected = noReading }
 
 abbrev pub caseC : Case
-caseC = record { book = bookT; text = digit; room = 30; expected = oneReading (258 ∷ 56 ∷ []) }
+caseC = record { book = bookT; text = digit; lent = 30; expected = oneReading (258 ∷ 56 ∷ []) }
 
 -- no declarations
 abbrev pub caseD : Case
-caseD = record { book = bookWith 0 []; text = mixed; room = 210; expected = severalReadings }
+caseD = record { book = bookWith 0 []; text = mixed; lent = 210; expected = severalReadings }
 
 -- "not together" for "left"
 abbrev pub caseE : Case
-caseE = record { book = bookOf 4; text = quotients; room = 210; expected = noReading }
+caseE = record { book = bookOf 4; text = quotients; lent = 210; expected = noReading }
 
 -- "right" for "left"
 abbrev pub caseF : Case
-caseF = record { book = bookOf 3; text = quotients; room = 210; expected = oneReading (260 ∷ 258 ∷ 56 ∷ 47 ∷ 260 ∷ 258 ∷ 52 ∷ 47 ∷ 258 ∷ 50 ∷ []) }
+caseF = record { book = bookOf 3; text = quotients; lent = 210; expected = oneReading (260 ∷ 258 ∷ 56 ∷ 47 ∷ 260 ∷ 258 ∷ 52 ∷ 47 ∷ 258 ∷ 50 ∷ []) }
 
 -- products higher than quotients
 abbrev pub caseG : Case
@@ -128,17 +128,17 @@ caseG =
     record {
       book = bookWith 1 (1 ∷ 1 ∷ 2 ∷ []);
       text = mixed;
-      room = 210;
+      lent = 210;
       expected = oneReading (260 ∷ 258 ∷ 56 ∷ 47 ∷ 259 ∷ 258 ∷ 52 ∷ 42 ∷ 258 ∷ 50 ∷ []);
     }
 
 -- and quotients higher than products: a circle
 abbrev pub caseH : Case
-caseH = record { book = bookWith 2 ((1 ∷ 1 ∷ 2 ∷ []) ++ (1 ∷ 2 ∷ 1 ∷ [])); text = []; room = 0; expected = badGrammar 9 1 }
+caseH = record { book = bookWith 2 ((1 ∷ 1 ∷ 2 ∷ []) ++ (1 ∷ 2 ∷ 1 ∷ [])); text = []; lent = 0; expected = badGrammar 9 1 }
 
 -- one production, without arguments
 abbrev pub caseI : Case
-caseI = record { book = (1 ∷ 1 ∷ 0 ∷ 0 ∷ 0 ∷ 0 ∷ []) ++ (0 ∷ []) ++ (0 ∷ []); text = []; room = 1; expected = oneReading (258 ∷ []) }
+caseI = record { book = (1 ∷ 1 ∷ 0 ∷ 0 ∷ 0 ∷ 0 ∷ []) ++ (0 ∷ []) ++ (0 ∷ []); text = []; lent = 1; expected = oneReading (258 ∷ []) }
 
 -- a production whose argument is its own result
 abbrev pub caseJ : Case
@@ -146,13 +146,13 @@ caseJ =
     record {
       book = (1 ∷ 2 ∷ 1 ∷ 0 ∷ 0 ∷ 0 ∷ []) ++ (1 ∷ 1 ∷ []) ++ (1 ∷ []) ++ (0 ∷ 64 ∷ []) ++ (0 ∷ 0 ∷ []) ++ (56 ∷ 56 ∷ []);
       text = digit;
-      room = 12;
+      lent = 12;
       expected = severalReadings;
     }
 
 -- a byte less of chart than in (a)
 abbrev pub caseK : Case
-caseK = record { book = bookT; text = mixed; room = 209; expected = refused 20 210 }
+caseK = record { book = bookT; text = mixed; lent = 209; expected = refused 20 210 }
 
 abbrev pub table : List Case
 table = caseA ∷ caseB ∷ caseC ∷ caseD ∷ caseE ∷ caseF ∷ caseG ∷ caseH ∷ caseI ∷ caseJ ∷ caseK ∷ []

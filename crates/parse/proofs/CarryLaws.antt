@@ -15,7 +15,7 @@ use Rattle.chart.specs.Layout.{rowOf, spanCount, cellAt, chartNeed, entryAt}
 use Rattle.common.proofs.BelowLaws.{sum-same}
 use Rattle.engine.specs.Outcome.{Answered, Parsed, UnlessRefused}
 use Rattle.engine.specs.Refusals.{tooLong, chartTooShort, textRefusal}
-use Rattle.engine.specs.Roots.{ParseBy, parsingBy}
+use Rattle.engine.specs.Roots.{ParseBy, parsingBy, TablesOutcome}
 use Rattle.engine.specs.declared.Answer.{Answer}
 use Rattle.engine.specs.declared.Answer.the-variants.{Refused, None, One, Several}
 use Rattle.grammar.specs.Formed.{WellFormed}
@@ -23,7 +23,7 @@ use Rattle.grammar.specs.Layout.{productions, argumentCount}
 use Rattle.grammar.specs.Verdict.{inOrder}
 use Rattle.grammar.specs.declared.Verdict.{Verdict}
 use Rattle.grammar.specs.declared.Verdict.the-variants.{Accepted, Refused as Rejected}
-use Rattle.parse.specs.Outcome.{needed, tooShort, readingBy}
+use Rattle.parse.specs.Outcome.{needed, readingBy, AcceptedOutcome}
 use Rattle.tables.specs.Layout.{countsOf, arityIn, rowCount}
 use Rattle.tables.specs.Theory.{theoryOf}
 use Rattle.theory.proofs.CountLaws.{counts-same}
@@ -93,8 +93,7 @@ module _ (b : List ℕ) (formed : WellFormed b) (bytes : (k : ℕ) → getD b k 
     unless-carried (Rejected number place) c₀ l₀ r c l h = h
 
     -- the whole promise
-    pub outcome-carried : (c₀ l₀ : List ℕ) (r : Answer) (c l : List ℕ) → UnlessRefused (textRefusal t w c₀) (parsingBy t w) c₀ l₀ r c l
-        → UnlessRefused (inOrder (tooLong w ∷ tooShort b w c₀ ∷ [])) (readingBy b w) c₀ l₀ r c l
-    unfolding textRefusal
+    pub outcome-carried : (c₀ l₀ : List ℕ) (r : Answer) (c l : List ℕ) → TablesOutcome t w c₀ l₀ r c l → AcceptedOutcome b w c₀ l₀ r c l
+    unfolding TablesOutcome AcceptedOutcome textRefusal
     outcome-carried c₀ l₀ r c l h =
         subst (λ (n : ℕ). UnlessRefused (inOrder (tooLong w ∷ chartTooShort n c₀ ∷ [])) (readingBy b w) c₀ l₀ r c l) (same-needed (length w)) (unless-carried (textRefusal t w c₀) c₀ l₀ r c l h)

@@ -1,15 +1,13 @@
 -- The promise of parsing, by the grammar's verdict; and that it determines the outcome.
 use Prim.Native.Nat.{ℕ}
 use mathlib.Core.Path.{_≡_, refl}
-use mathlib.Core.List.{List, [], _∷_}
+use mathlib.Core.List.{List}
 use Rattle.engine.proofs.OutcomeLaws.{unless-unique}
 use Rattle.engine.specs.Outcome.{UnlessRefused}
-use Rattle.engine.specs.Refusals.{tooLong}
 use Rattle.engine.specs.declared.Answer.{Answer}
 use Rattle.engine.specs.declared.Answer.the-variants.{Refused}
-use Rattle.grammar.specs.Verdict.{inOrder}
 use Rattle.grammar.specs.declared.Verdict.the-variants.{Accepted, Refused as Rejected}
-use Rattle.parse.specs.Outcome.{tooShort, readingBy, refusal, Outcome}
+use Rattle.parse.specs.Outcome.{readingBy, refusal, Outcome, AcceptedOutcome}
 use Rattle.priority.specs.Check.{checked}
 
 module _ (b w c₀ l₀ : List ℕ) where
@@ -18,8 +16,8 @@ module _ (b w c₀ l₀ : List ℕ) where
   grammar-refused number place e = rw e (refl, refl, refl)
 
   pub grammar-accepted : (r : Answer) (c l : List ℕ) → checked b ≡ Accepted
-      → UnlessRefused (inOrder (tooLong w ∷ tooShort b w c₀ ∷ [])) (readingBy b w) c₀ l₀ r c l → Outcome b w c₀ l₀ r c l
-  unfolding Outcome refusal
+      → AcceptedOutcome b w c₀ l₀ r c l → Outcome b w c₀ l₀ r c l
+  unfolding Outcome AcceptedOutcome refusal
   grammar-accepted r c l e h = rw e h
 
   -- For one input, two outcomes that meet the promise have the same answer and the same bytes.

@@ -32,3 +32,7 @@ refusal b w chart = inOrder (checked b ∷ tooLong w ∷ tooShort b w chart ∷ 
 -- before, and hold c and l afterwards.
 unfoldable pub Outcome : (b w c₀ l₀ : List ℕ) → Answer → (c l : List ℕ) → Type 0
 Outcome b w c₀ l₀ r c l = UnlessRefused (refusal b w c₀) (readingBy b w) c₀ l₀ r c l
+
+-- For a grammar that is accepted, 10 and 20 are left.
+unfoldable pub AcceptedOutcome : (b w c₀ l₀ : List ℕ) → Answer → (c l : List ℕ) → Type 0
+AcceptedOutcome b w c₀ l₀ r c l = UnlessRefused (inOrder (tooLong w ∷ tooShort b w c₀ ∷ [])) (readingBy b w) c₀ l₀ r c l

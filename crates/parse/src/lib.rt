@@ -5,12 +5,8 @@ use engine::parse_tables;
 use grammar::Verdict;
 use priority::check_grammar;
 use tables::zero_tables;
-ghost use mathlib.Core.List.{[], _∷_};
 ghost use Rattle.grammar.specs.Formed.{WellFormed};
-ghost use Rattle.grammar.specs.Verdict.{inOrder};
-ghost use Rattle.engine.specs.Outcome.{UnlessRefused};
-ghost use Rattle.engine.specs.Refusals.{tooLong};
-ghost use Rattle.parse.specs.Outcome.{Outcome, readingBy, tooShort};
+ghost use Rattle.parse.specs.Outcome.{Outcome, AcceptedOutcome};
 
 // Parses a text. The chart and the listing are lent; what they held before is never read.
 pub fn parse(book: &[u8], text: &[u8], chart: &mut [u8], listing: &mut [u8]) -> Answer
@@ -26,7 +22,7 @@ pub fn parse(book: &[u8], text: &[u8], chart: &mut [u8], listing: &mut [u8]) -> 
 // The same for an accepted grammar.
 fn parse_accepted(book: &[u8], text: &[u8], chart: &mut [u8], listing: &mut [u8]) -> Answer
     requires { ⌜ WellFormed (now book) ⌝ }
-    ensures { λ r. ⌜ UnlessRefused (inOrder (tooLong (now (text .entry)) ∷ tooShort (now (book .entry)) (now (text .entry)) (now (chart .entry)) ∷ [])) (readingBy (now (book .entry)) (now (text .entry))) (now (chart .entry)) (now (listing .entry)) r (now (chart .exit)) (now (listing .exit)) ⌝ }
+    ensures { λ r. ⌜ AcceptedOutcome (now (book .entry)) (now (text .entry)) (now (chart .entry)) (now (listing .entry)) r (now (chart .exit)) (now (listing .exit)) ⌝ }
 {
     let mut tables = zero_tables();
     flatten(book, &mut tables);

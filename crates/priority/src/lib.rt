@@ -148,14 +148,14 @@ fn with_middle(
     let beyond = table[middle];
     let mut x = 0;
     while x < PRODUCTION_LIMIT {
-        wider[x] = joined(table[x], table[x][middle], beyond);
+        wider[x] = merged(table[x], table[x][middle], beyond);
         x += 1;
     }
     wider
 }
 
 // A row, and where `on` is set the other row with it.
-pub fn joined(
+pub fn merged(
     row: [bool; PRODUCTION_LIMIT],
     on: bool,
     other: [bool; PRODUCTION_LIMIT],

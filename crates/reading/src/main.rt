@@ -1,5 +1,6 @@
 // Reads a grammar (01's book) from the file `book` and a text from standard input, and prints the answer: none, several, one and the numbers of the listing,
 // or why it is refused.
+use common::two_bytes;
 use engine::Answer;
 use libc::STDIN_FILENO;
 use libc::STDOUT_FILENO;
@@ -58,8 +59,5 @@ fn print_number(listing: &[u8], at: usize)
     requires { ⌜ at + 1 < length (now listing) ⌝ }
 {
     print_word(b" ");
-    io::print_decimal(
-        STDOUT_FILENO,
-        (listing[at] as u64) + 256 * (listing[at + 1] as u64),
-    );
+    io::print_decimal(STDOUT_FILENO, two_bytes(listing, at) as u64);
 }

@@ -1,8 +1,9 @@
 // The input of the programs that run stored cases: fields, each two bytes with its length, low byte first, and then its bytes.
+use common::two_bytes;
 ghost use mathlib.Core.Path.{_≡_};
-ghost use Prim.Native.Nat.{_+_, _<_, _≤_};
+ghost use Prim.Native.Nat.{_<_, _≤_};
 ghost use lib.ListN.{length};
-ghost use Rattle.records.specs.Fields.{twoBytes, fieldStart, fieldEnd};
+ghost use Rattle.records.specs.Fields.{fieldStart, fieldEnd};
 
 // Where a field's bytes start and end.
 pub struct Field {
@@ -34,19 +35,4 @@ pub fn field_at(input: &[u8], at: usize) -> Field
         start: at + 2,
         end: at + 2 + size,
     }
-}
-
-// A number of two bytes, low byte first.
-pub fn two_bytes(input: &[u8], at: usize) -> usize
-    requires { ⌜ at + 1 < length (now input) ⌝ }
-    ensures { λ r. ⌜ r ≡ twoBytes (now (input .entry)) at ⌝ }
-{
-    wide(input[at]) + 256 * wide(input[at + 1])
-}
-
-// A byte as a number.
-pub fn wide(x: u8) -> usize
-    ensures { λ r. ⌜ r ≡ x ⌝ }
-{
-    x as usize
 }

@@ -7,7 +7,7 @@ use chart::layout::ROW_LIMIT;
 use chart::sums::capped;
 use chart::sums::larger;
 use common::either;
-use grammar::layout::wide;
+use common::wide;
 use grammar::limits::PRODUCTION_LIMIT;
 ghost use mathlib.Core.Path.{_≡_};
 ghost use Prim.Native.Nat.{ℕ, _+_, _*_, _<_, _≤_, max};

@@ -6,7 +6,7 @@ use native.Mathlib.Omega.{arith}
 use lib.ListN.{length, getD, take, drop, length-drop}
 use lib.Seq.{length-take-le, getD-take, getD-drop, ext-getD}
 use Rattle.grammar.specs.Limits.{productionLimit, argumentLimit}
-use Rattle.tables.specs.Layout.{slot, slots, countsAt, classWords, classAt, tableWords, countOf, countsOf, arityIn, ParserTables}
+use Rattle.tables.specs.Layout.{slot, slots, countsAt, classWords, slotAt, tableWords, countOf, countsOf, arityIn, ParserTables}
 
 -- ---- counts
 
@@ -38,6 +38,6 @@ unfolding slot
 slot-in p i l m = omega arith
 
 -- and its class stands in the tables, as the root's does
-pub class-in : (s : ℕ) → s ≤ slots → classAt s + classWords ≤ tableWords
-unfolding classAt
+pub class-in : (s : ℕ) → s ≤ slots → slotAt s + classWords ≤ tableWords
+unfolding slotAt
 class-in s h = omega arith

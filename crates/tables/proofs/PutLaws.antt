@@ -13,7 +13,7 @@ use Rattle.common.proofs.BelowLaws.{sum-none, sum-more}
 use Rattle.common.specs.Region.{Region}
 use Rattle.grammar.specs.Limits.{productionLimit, argumentLimit}
 use Rattle.tables.proofs.LayoutLaws.{counts-long, count-at}
-use Rattle.tables.specs.Layout.{countsAt, rowsAt, classesAt, productionWords, classWords, classAt, tableWords, countsOf, arityIn, rowCount, takesChar, takesProduction, ParserTables}
+use Rattle.tables.specs.Layout.{countsAt, rowsAt, classesAt, productionWords, classWords, slotAt, tableWords, countsOf, arityIn, rowCount, takesChar, takesProduction, ParserTables}
 use Rattle.tables.specs.Put.{CountsPut, ClassPut}
 
 -- ---- counts
@@ -77,7 +77,7 @@ module _ (counts t : List ℕ) (few : length counts ≤ productionLimit) (c : Co
 
 -- ---- a class
 
-module _ (s at : ℕ) (here : at ≡ classAt s) (words : List ℕ) (productions : List Bool) (t₀ t₁ t : List ℕ)
+module _ (s at : ℕ) (here : at ≡ slotAt s) (words : List ℕ) (productions : List Bool) (t₀ t₁ t : List ℕ)
     (chars : Region (λ (k : ℕ) (v : ℕ). v ≡ getD words k 0) 0 at setWords t₀ t₁)
     (bits : Region (λ (k : ℕ) (v : ℕ). (b : ℕ) → b < wordBits → bit v b ≡ getD productions (k * wordBits + b) false) 0 (at + setWords) productionWords t₁ t) where
   -- the words of the characters and then those of the productions
@@ -94,12 +94,12 @@ module _ (s at : ℕ) (here : at ≡ classAt s) (words : List ℕ) (productions 
 
 module _ (s : ℕ) (chars productions : ℕ → Bool) (t₀ t : List ℕ) (c : ClassPut s chars productions t₀ t) where
   -- words of another slot's class are as they were
-  word-stays : (s′ k : ℕ) → s′ ≢ s → k < classWords → getD t (classAt s′ + k) 0 ≡ getD t₀ (classAt s′ + k) 0
-  unfolding classAt
+  word-stays : (s′ k : ℕ) → s′ ≢ s → k < classWords → getD t (slotAt s′ + k) 0 ≡ getD t₀ (slotAt s′ + k) 0
+  unfolding slotAt
   word-stays s′ k n l =
       by-cases (decLt s′ s)
-      (λ m. c .below (classAt s′ + k) (omega arith))
-      (λ m. let h : s < s′ = by-cases (decLt s s′) (λ o. o) (λ o. absurd (n (omega arith))) in c .above (classAt s′ + k) (omega arith))
+      (λ m. c .below (slotAt s′ + k) (omega arith))
+      (λ m. let h : s < s′ = by-cases (decLt s s′) (λ o. o) (λ o. absurd (n (omega arith))) in c .above (slotAt s′ + k) (omega arith))
 
   -- so is what may stand there
   pub char-stays : (s′ k : ℕ) → s′ ≢ s → k < characters → takesChar t s′ k ≡ takesChar t₀ s′ k
@@ -114,7 +114,7 @@ module _ (s : ℕ) (chars productions : ℕ → Bool) (t₀ t : List ℕ) (c : C
 
   -- and so are the counts and the rows
   head-stays : (k : ℕ) → k < classesAt → getD t k 0 ≡ getD t₀ k 0
-  unfolding classAt
+  unfolding slotAt
   head-stays k l = c .below k (omega arith)
 
   pub counts-stay : (counts : List ℕ) → length counts ≤ productionLimit → CountsPut counts (length counts) t₀ → CountsPut counts (length counts) t

@@ -45,8 +45,8 @@ abbrev pub classWords : ℕ
 classWords = setWords + productionWords
 
 -- the first word of a slot's class
-unfoldable pub classAt : ℕ → ℕ
-classAt s = classesAt + s * classWords
+unfoldable pub slotAt : ℕ → ℕ
+slotAt s = classesAt + s * classWords
 
 abbrev pub tableWords : ℕ
 tableWords = classesAt + (slots + 1) * classWords
@@ -71,11 +71,11 @@ rowCount arity n = sumBelow n (λ q. arity q + 1)
 
 -- character c may stand at slot s
 unfoldable pub takesChar : List ℕ → ℕ → ℕ → Bool
-takesChar t s c = bit (getD t (classAt s + c / wordBits) 0) (c % wordBits)
+takesChar t s c = bit (getD t (slotAt s + c / wordBits) 0) (c % wordBits)
 
 -- production q may stand at slot s
 unfoldable pub takesProduction : List ℕ → ℕ → ℕ → Bool
-takesProduction t s q = bit (getD t (classAt s + setWords + q / wordBits) 0) (q % wordBits)
+takesProduction t s q = bit (getD t (slotAt s + setWords + q / wordBits) 0) (q % wordBits)
 
 -- Tables that a parser can read: of the right length, within the limits, with the right rows.
 pub record ParserTables (t : List ℕ) : Type 0 where

@@ -6,7 +6,7 @@ use mathlib.Core.List.{List}
 use lib.ListN.{length, getD}
 use Rattle.charset.specs.Set.{characters}
 use Rattle.grammar.specs.Limits.{productionLimit}
-use Rattle.tables.specs.Layout.{countsAt, rowsAt, classAt, classWords, tableWords, countOf, arityIn, rowCount, takesChar, takesProduction}
+use Rattle.tables.specs.Layout.{countsAt, rowsAt, slotAt, classWords, tableWords, countOf, arityIn, rowCount, takesChar, takesProduction}
 
 -- The count of productions was written, the first n argument counts, and the rows that follow from these.
 pub record CountsPut (counts : List ℕ) (n : ℕ) (t : List ℕ) : Type 0 where
@@ -20,5 +20,5 @@ pub record ClassPut (s : ℕ) (chars productions : ℕ → Bool) (t₀ t : List 
   pub long : length t ≡ length t₀
   pub charsAre : (c : ℕ) → c < characters → takesChar t s c ≡ chars c
   pub productionsAre : (q : ℕ) → q < productionLimit → takesProduction t s q ≡ productions q
-  pub below : (k : ℕ) → k < classAt s → getD t k 0 ≡ getD t₀ k 0
-  pub above : (k : ℕ) → classAt s + classWords ≤ k → getD t k 0 ≡ getD t₀ k 0
+  pub below : (k : ℕ) → k < slotAt s → getD t k 0 ≡ getD t₀ k 0
+  pub above : (k : ℕ) → slotAt s + classWords ≤ k → getD t k 0 ≡ getD t₀ k 0

@@ -2,7 +2,7 @@
 // First how many productions there are; then for each how many arguments it has; for each its first row; and a class for each slot.
 use charset::CharSet;
 use charset::SET_WORDS;
-use grammar::layout::wide;
+use common::wide;
 use grammar::limits::ARGUMENT_LIMIT;
 use grammar::limits::PRODUCTION_LIMIT;
 ghost use mathlib.Core.Path.{_≡_};
@@ -12,8 +12,8 @@ ghost use lib.ListN.{length, getD};
 ghost use Rattle.charset.specs.Set.{characters, wordBits, setWords, bit, has};
 ghost use Rattle.common.specs.Region.{Region};
 ghost use Rattle.common.specs.Bytes.{byteValues};
-ghost use Rattle.grammar.specs.Limits.{productionLimit, argumentLimit};
-ghost use Rattle.tables.specs.Layout.{slots, countsOf, arityIn, rowCount, classAt, productionWords, tableWords, takesChar, takesProduction, ParserTables};
+ghost use Rattle.grammar.specs.Limits.{productionLimit};
+ghost use Rattle.tables.specs.Layout.{slots, countsOf, arityIn, rowCount, slotAt, productionWords, tableWords, takesChar, takesProduction, ParserTables};
 ghost use Rattle.tables.specs.Put.{CountsPut, ClassPut};
 
 // The number of production 0.
@@ -66,9 +66,9 @@ fn byte(n: usize) -> u8
 }
 
 // The first word of a slot's class.
-fn class_at(s: usize) -> usize
+fn slot_at(s: usize) -> usize
     requires { ⌜ s ≤ slots ⌝ }
-    ensures { λ r. ⌜ r ≡ classAt s ⌝ }
+    ensures { λ r. ⌜ r ≡ slotAt s ⌝ }
 {
     CLASSES_AT + s * CLASS_WORDS
 }
@@ -125,7 +125,7 @@ pub fn takes_char(tables: &[u64], s: usize, c: u8) -> bool
     requires { ⌜ (length (now tables) ≡ tableWords) × (s ≤ slots) ⌝ }
     ensures { λ r. ⌜ r ≡ takesChar (now (tables .entry)) s c ⌝ }
 {
-    (tables[class_at(s) + wide(c / 64)] >> (c % 64)) % 2 == 1
+    (tables[slot_at(s) + wide(c / 64)] >> (c % 64)) % 2 == 1
 }
 
 // Whether production q may stand at slot s.
@@ -133,7 +133,7 @@ pub fn takes_production(tables: &[u64], s: usize, q: usize) -> bool
     requires { ⌜ (length (now tables) ≡ tableWords) × (s ≤ slots) × (q < productionLimit) ⌝ }
     ensures { λ r. ⌜ r ≡ takesProduction (now (tables .entry)) s q ⌝ }
 {
-    (tables[class_at(s) + SET_WORDS + q / 64] >> (q % 64)) % 2 == 1
+    (tables[slot_at(s) + SET_WORDS + q / 64] >> (q % 64)) % 2 == 1
 }
 
 // The characters that may stand at slot s.
@@ -141,7 +141,7 @@ pub fn class_chars(tables: &[u64], s: usize) -> CharSet
     requires { ⌜ (length (now tables) ≡ tableWords) × (s ≤ slots) ⌝ }
     ensures { λ r. ⌜ ((c : ℕ) → c < characters → has (r .words) c ≡ takesChar (now (tables .entry)) s c) ⌝ }
 {
-    let at = class_at(s);
+    let at = slot_at(s);
     CharSet {
         words: [tables[at], tables[at + 1], tables[at + 2], tables[at + 3]],
     }
@@ -176,7 +176,7 @@ pub fn put_class(
     requires { ⌜ (length (now tables) ≡ tableWords) × (s ≤ slots) ⌝ }
     ensures { λ _. ⌜ ClassPut s (has (chars .words)) (λ q. getD productions q false) (now (tables .entry)) (now (tables .exit)) ⌝ }
 {
-    let at = class_at(s);
+    let at = slot_at(s);
     put_chars(tables, at, chars);
     put_productions(tables, at + SET_WORDS, productions);
 }

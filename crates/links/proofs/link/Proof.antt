@@ -3,10 +3,10 @@ use Prim.Native.Nat.{ℕ, _-_, _≤_}
 use mathlib.Core.Path.{_≡_, refl, sym, _∙_, subst}
 use native.Mathlib.Omega.{arith}
 use lib.ListN.{length}
-use Rattle.chart.proofs.LayoutLaws.{row-next, row-of-base}
+use Rattle.chart.proofs.LayoutLaws.{row-next, row-of-base, row-below}
 use Rattle.chart.specs.Layout.{rowOf}
 use Rattle.common.specs.Below.{sumBelow}
-use Rattle.links.proofs.LinkedLaws.{row-below, linked-none, linked-links, linked-users}
+use Rattle.links.proofs.LinkedLaws.{linked-none, linked-links, linked-users}
 use Rattle.links.specs.Linked.{LinkedTo}
 use Rattle.tables.specs.Layout.{arityIn}
 use Rattle.links.proofs.link.Statement.{statement}

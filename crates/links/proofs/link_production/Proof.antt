@@ -3,9 +3,9 @@ use Prim.Native.Nat.{ℕ, _+_, _-_, _≤_}
 use mathlib.Core.Path.{_≡_, sym, _∙_, subst}
 use native.Mathlib.Omega.{arith}
 use lib.ListN.{length}
-use Rattle.chart.proofs.LayoutLaws.{row-of-base}
+use Rattle.chart.proofs.LayoutLaws.{row-of-base, row-below}
 use Rattle.chart.specs.Layout.{rowOf}
-use Rattle.links.proofs.LinkedLaws.{row-below, linked-last, linked-row}
+use Rattle.links.proofs.LinkedLaws.{linked-last, linked-row}
 use Rattle.links.specs.Linked.{RowLinked, LinkedTo}
 use Rattle.tables.specs.Layout.{arityIn, slot}
 use Rattle.links.proofs.link_production.Statement.{statement}

@@ -155,11 +155,11 @@ check-tree-char-right-requires t c κs =
     let start = c .before .before .before .before .before .before in
     (start .pre .1 .0 .long, start .pre .1 .1 .0)
 
-check-tree-add-t12 : (t : ℕ) → check-tree-lts.Need-add-t12 (check-tree-claims t) (check-tree-at t) check-tree.Post
-check-tree-add-t12 t c = omega arith
-
 check-tree-add-t13 : (t : ℕ) → check-tree-lts.Need-add-t13 (check-tree-claims t) (check-tree-at t) check-tree.Post
-check-tree-add-t13 t c =
+check-tree-add-t13 t c = omega arith
+
+check-tree-add-t14 : (t : ℕ) → check-tree-lts.Need-add-t14 (check-tree-claims t) (check-tree-at t) check-tree.Post
+check-tree-add-t14 t c =
     let start = c .before .before .before .before .before .before .before .before in
     omega (arith, start .pre .1 .1 .1)
 
@@ -194,6 +194,9 @@ check-tree-returns-4 t c =
     let right = c .before .production-right in
     walked-no-production (a .tables .now) (numbersOf (a .listing .now)) (a .text .now) (a .s) (a .at) (a .place) (n .result) (omega arith) (n .ensures) (start .pre .1 .0) bytes (omega arith) (sym (right .ensures) ∙ not-true (right .result) (c .if4 .taken))
 
+check-tree-add-next : (t : ℕ) → check-tree-lts.Need-add-next (check-tree-claims t) (check-tree-at t) check-tree.Post
+check-tree-add-next t c = omega arith
+
 check-tree-sub-check-arguments : (t : ℕ) → check-tree-lts.Need-sub-check-arguments (check-tree-claims t) (check-tree-at t) check-tree.Post
 check-tree-sub-check-arguments t c =
     let start = c .before .before .before .before .before .before .before .before in
@@ -201,9 +204,6 @@ check-tree-sub-check-arguments t c =
     let right = c .before .production-right in
     let there = production-there (a .tables .now) (a .s) (c .before .before .before .number-at .result) (sym (right .ensures) ∙ not-false (right .result) (c .if4 .left)) in
     omega (arith, there .0)
-
-check-tree-add-check-arguments : (t : ℕ) → check-tree-lts.Need-add-check-arguments (check-tree-claims t) (check-tree-at t) check-tree.Post
-check-tree-add-check-arguments t c = omega arith
 
 check-tree-check-arguments-requires : (t : ℕ) → check-tree-lts.Need-check-arguments-requires (check-tree-claims t) (check-tree-at t) check-tree.Post
 check-tree-check-arguments-requires t c κs =
@@ -247,13 +247,13 @@ pub +check-arguments+check-tree-spec : {M : Type 1} → statement M
     (check-tree-returns t)
     (check-tree-number-at-requires t)
     (check-tree-char-right-requires t)
-    (check-tree-add-t12 t)
     (check-tree-add-t13 t)
+    (check-tree-add-t14 t)
     (check-tree-returns-2 t)
     (check-tree-returns-3 t)
     (check-tree-production-right-requires t)
     (check-tree-returns-4 t)
+    (check-tree-add-next t)
     (check-tree-sub-check-arguments t)
-    (check-tree-add-check-arguments t)
     (check-tree-check-arguments-requires t)
     (check-tree-returns-5 t)

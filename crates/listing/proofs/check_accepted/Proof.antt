@@ -10,8 +10,8 @@ use Rattle.listing.proofs.WalkLaws.{walk-judged}
 use Rattle.listing.proofs.check_accepted.Statement.{statement}
 use Rattle.listing.proofs.check_accepted.Tie as tie
 
-check-lent-requires : tie.Need-check-lent-requires
-check-lent-requires c κs = search needs
+check-input-requires : tie.Need-check-input-requires
+check-input-requires c κs = search needs
 
 enum-known-verdict : tie.Need-enum-known-verdict
 enum-known-verdict c = search needs
@@ -38,7 +38,7 @@ answer-requires : tie.Need-answer-requires
 answer-requires c κs = search needs
 
 returns : tie.Need-returns
-returns c = rw (← (c .before .before .before .check-lent .ensures), c .before .verdict .given .1) refl
+returns c = rw (← (c .before .before .before .check-input .ensures), c .before .verdict .given .1) refl
 
 returns-2 : tie.Need-returns-2
 returns-2 c =
@@ -48,7 +48,7 @@ returns-2 c =
     let walk = c .before .check-tree in
     let bytes : (k : ℕ) → getD (a .book .now) k 0 < characters = λ k. omega (arith, c .before .before .before .before .before .before .before .before .before .before .before .before .shared-slice-known .given k) in
     let t = flat .last .1 .0 in
-    rw (← (c .before .before .before .before .before .before .before .before .before .check-lent .ensures), c .before .before .before .before .before .before .before .enum-told .given .1)
+    rw (← (c .before .before .before .before .before .before .before .before .before .check-input .ensures), c .before .before .before .before .before .before .before .enum-told .given .1)
     (c .answer .ensures (tableGrammar t)
     ∙ walk-judged (a .book .now) (start .pre) bytes t (flat .ensures) (a .text .now) (a .listing .now) (walk .result) (walk .ensures))
 
@@ -56,7 +56,7 @@ pub check-accepted-spec : {M : Type 1} → statement M
 check-accepted-spec =
     tie.close
     (tie.spec
-    check-lent-requires
+    check-input-requires
     enum-known-verdict
     enum-told
     zero-tables-requires

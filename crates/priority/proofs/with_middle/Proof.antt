@@ -37,23 +37,23 @@ array-copy-out-beyond c = omega arith
 loop-holds : tie.Need-loop-holds Inv-loop μ-loop
 loop-holds c = (filled-none (Passes (c .before .args .t1) (c .before .args .middle)) [] (c .before .args .t1), omega arith)
 
-mul-joined : tie.Need-mul-joined Inv-loop μ-loop
-mul-joined c = omega arith
+mul-merged : tie.Need-mul-merged Inv-loop μ-loop
+mul-merged c = omega arith
 
-array-copy-out-joined : tie.Need-array-copy-out-joined Inv-loop μ-loop
-array-copy-out-joined c = omega arith
+array-copy-out-merged : tie.Need-array-copy-out-merged Inv-loop μ-loop
+array-copy-out-merged c = omega arith
 
-mul-joined-2 : tie.Need-mul-joined-2 Inv-loop μ-loop
-mul-joined-2 c = omega arith
+mul-merged-2 : tie.Need-mul-merged-2 Inv-loop μ-loop
+mul-merged-2 c = omega arith
 
-index-1-joined : tie.Need-index-1-joined Inv-loop μ-loop
-index-1-joined c = omega arith
+index-1-merged : tie.Need-index-1-merged Inv-loop μ-loop
+index-1-merged c = omega arith
 
-index-2-joined : tie.Need-index-2-joined Inv-loop μ-loop
-index-2-joined c = omega arith
+index-2-merged : tie.Need-index-2-merged Inv-loop μ-loop
+index-2-merged c = omega arith
 
-joined-requires : tie.Need-joined-requires Inv-loop μ-loop
-joined-requires c κs = tt
+merged-requires : tie.Need-merged-requires Inv-loop μ-loop
+merged-requires c κs = tt
 
 mul-wider : tie.Need-mul-wider Inv-loop μ-loop
 mul-wider c = omega arith
@@ -72,7 +72,7 @@ unfolding Passes entry
 loop-again c =
     let t = c .before .before .before .before .before .before .args .t1 in
     let n : length t ≡ productionLimit = search needs in
-    (filled-more (Passes t (c .before .before .before .before .before .before .args .middle)) [] t (c .before .before .before .before .loop .x) (c .before .before .before .before .loop .wider) (c .joined .result) (omega arith) (c .before .before .before .before .loop .inv .0) (c .joined .ensures), omega arith)
+    (filled-more (Passes t (c .before .before .before .before .before .before .args .middle)) [] t (c .before .before .before .before .loop .x) (c .before .before .before .before .loop .wider) (c .merged .result) (omega arith) (c .before .before .before .before .loop .inv .0) (c .merged .ensures), omega arith)
 
 returns : tie.Need-returns Inv-loop μ-loop
 unfolding Passes entry
@@ -92,12 +92,12 @@ with-middle-spec =
     mul-beyond
     array-copy-out-beyond
     loop-holds
-    mul-joined
-    array-copy-out-joined
-    mul-joined-2
-    index-1-joined
-    index-2-joined
-    joined-requires
+    mul-merged
+    array-copy-out-merged
+    mul-merged-2
+    index-1-merged
+    index-2-merged
+    merged-requires
     mul-wider
     array-set-from-wider
     add-x

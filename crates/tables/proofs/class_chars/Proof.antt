@@ -8,11 +8,11 @@ use lib.ListN.{getD}
 use borrow.Author.Needs.{needs}
 use Rattle.charset.specs.Set.{characters, bit, has, setWords, wordBits}
 use Rattle.tables.proofs.LayoutLaws.{class-in}
-use Rattle.tables.specs.Layout.{classAt, takesChar}
+use Rattle.tables.specs.Layout.{slotAt, takesChar}
 use Rattle.tables.proofs.class_chars.Statement.{statement}
 use Rattle.tables.proofs.class_chars.Tie as tie
 
-four-words : (t : List ℕ) (s at c : ℕ) → at ≡ classAt s → c < characters
+four-words : (t : List ℕ) (s at c : ℕ) → at ≡ slotAt s → c < characters
     → has (getD t at 0 ∷ getD t (at + 1) 0 ∷ getD t (at + 2) 0 ∷ getD t (at + 3) 0 ∷ []) c ≡ takesChar t s c
 unfolding has takesChar
 four-words t s at c e l = rw (← e) (ap (λ (v : ℕ). bit v (c % wordBits)) (word (c / wordBits) (omega arith)))
@@ -24,75 +24,75 @@ four-words t s at c e l = rw (← e) (ap (λ (v : ℕ). bit v (c % wordBits)) (w
     word (suc (suc (suc zero))) h = refl
     word (suc (suc (suc (suc k)))) h = absurd (omega arith)
 
-class-at-requires : tie.Need-class-at-requires
-class-at-requires c κs = search needs
+slot-at-requires : tie.Need-slot-at-requires
+slot-at-requires c κs = search needs
 
 mul-t4 : tie.Need-mul-t4
 mul-t4 c =
     let start = c .before .before in
-    omega (arith, c .class-at .ensures, class-in (start .args .s) (start .pre .1))
+    omega (arith, c .slot-at .ensures, class-in (start .args .s) (start .pre .1))
 
 shared-slice-read-t6 : tie.Need-shared-slice-read-t6
 shared-slice-read-t6 c =
     let start = c .before .before .before in
-    omega (arith, c .before .class-at .ensures, class-in (start .args .s) (start .pre .1))
+    omega (arith, c .before .slot-at .ensures, class-in (start .args .s) (start .pre .1))
 
 add-t7 : tie.Need-add-t7
 add-t7 c =
     let start = c .before .before .before in
-    omega (arith, c .before .class-at .ensures, class-in (start .args .s) (start .pre .1))
+    omega (arith, c .before .slot-at .ensures, class-in (start .args .s) (start .pre .1))
 
 mul-t8 : tie.Need-mul-t8
 mul-t8 c =
     let start = c .before .before .before in
-    omega (arith, c .before .class-at .ensures, class-in (start .args .s) (start .pre .1))
+    omega (arith, c .before .slot-at .ensures, class-in (start .args .s) (start .pre .1))
 
 shared-slice-read-t10 : tie.Need-shared-slice-read-t10
 shared-slice-read-t10 c =
     let start = c .before .before .before .before in
-    omega (arith, c .before .before .class-at .ensures, class-in (start .args .s) (start .pre .1))
+    omega (arith, c .before .before .slot-at .ensures, class-in (start .args .s) (start .pre .1))
 
 add-t11 : tie.Need-add-t11
 add-t11 c =
     let start = c .before .before .before .before in
-    omega (arith, c .before .before .class-at .ensures, class-in (start .args .s) (start .pre .1))
+    omega (arith, c .before .before .slot-at .ensures, class-in (start .args .s) (start .pre .1))
 
 mul-t12 : tie.Need-mul-t12
 mul-t12 c =
     let start = c .before .before .before .before in
-    omega (arith, c .before .before .class-at .ensures, class-in (start .args .s) (start .pre .1))
+    omega (arith, c .before .before .slot-at .ensures, class-in (start .args .s) (start .pre .1))
 
 shared-slice-read-t14 : tie.Need-shared-slice-read-t14
 shared-slice-read-t14 c =
     let start = c .before .before .before .before .before in
-    omega (arith, c .before .before .before .class-at .ensures, class-in (start .args .s) (start .pre .1))
+    omega (arith, c .before .before .before .slot-at .ensures, class-in (start .args .s) (start .pre .1))
 
 add-t15 : tie.Need-add-t15
 add-t15 c =
     let start = c .before .before .before .before .before in
-    omega (arith, c .before .before .before .class-at .ensures, class-in (start .args .s) (start .pre .1))
+    omega (arith, c .before .before .before .slot-at .ensures, class-in (start .args .s) (start .pre .1))
 
 mul-t16 : tie.Need-mul-t16
 mul-t16 c =
     let start = c .before .before .before .before .before in
-    omega (arith, c .before .before .before .class-at .ensures, class-in (start .args .s) (start .pre .1))
+    omega (arith, c .before .before .before .slot-at .ensures, class-in (start .args .s) (start .pre .1))
 
 shared-slice-read-t18 : tie.Need-shared-slice-read-t18
 shared-slice-read-t18 c =
     let start = c .before .before .before .before .before .before in
-    omega (arith, c .before .before .before .before .class-at .ensures, class-in (start .args .s) (start .pre .1))
+    omega (arith, c .before .before .before .before .slot-at .ensures, class-in (start .args .s) (start .pre .1))
 
 returns : tie.Need-returns
 returns c =
     let start = c .before .before .before .before .before .before in
-    let class-at = c .before .before .before .before .class-at in
-    λ x l. four-words (start .args .tables .now) (start .args .s) (class-at .result) x (class-at .ensures) l
+    let slot-at = c .before .before .before .before .slot-at in
+    λ x l. four-words (start .args .tables .now) (start .args .s) (slot-at .result) x (slot-at .ensures) l
 
 pub class-chars-spec : {M : Type 1} → statement M
 class-chars-spec =
     tie.close
     (tie.spec
-    class-at-requires
+    slot-at-requires
     mul-t4
     shared-slice-read-t6
     add-t7

@@ -34,36 +34,36 @@ loop-holds c =
     let a = c .before .before .before .before .args in
     (region-none (Sum (a .chart .now) (a .sums .now) (a .n) (a .row) (a .m) (a .argument) (a .at)) 0 (a .at) (a .sums .now), region-none (Live (a .chart .now) (a .sums .now) (a .live .now) (a .n) (a .row) (a .m) (a .argument) (a .at)) 0 0 (a .live .now), omega arith)
 
-add-at-most-two : tie.Need-add-at-most-two Inv-loop μ-loop
-add-at-most-two c = omega arith
+add-capped-byte : tie.Need-add-capped-byte Inv-loop μ-loop
+add-capped-byte c = omega arith
 
-slice-read-at-most-two : tie.Need-slice-read-at-most-two Inv-loop μ-loop
-slice-read-at-most-two c = omega (arith, c .before .before .loop .inv .0 .long)
+slice-read-capped-byte : tie.Need-slice-read-capped-byte Inv-loop μ-loop
+slice-read-capped-byte c = omega (arith, c .before .before .loop .inv .0 .long)
 
-add-at-most-two-2 : tie.Need-add-at-most-two-2 Inv-loop μ-loop
-add-at-most-two-2 c =
+add-capped-byte-2 : tie.Need-add-capped-byte-2 Inv-loop μ-loop
+add-capped-byte-2 c =
     let a = c .before .before .before .before .before .before .before .args in
     omega (arith, c .before .before .before .place-at .ensures, place-next (a .n) (a .row) (a .m) (c .before .before .loop .k), place-few (a .n) (a .row) (c .before .before .loop .k) (a .m) (c .before .before .before .before .before .before .before .pre .0 .0) (c .before .before .before .before .before .before .before .pre .0 .1) (omega arith) (c .before .before .before .before .before .before .before .pre .0 .2))
 
-shared-slice-read-at-most-two : tie.Need-shared-slice-read-at-most-two Inv-loop μ-loop
-shared-slice-read-at-most-two c =
+shared-slice-read-capped-byte : tie.Need-shared-slice-read-capped-byte Inv-loop μ-loop
+shared-slice-read-capped-byte c =
     let a = c .before .before .before .before .before .before .before .before .args in
     omega (arith, c .before .before .before .before .place-at .ensures, place-next (a .n) (a .row) (a .m) (c .before .before .before .loop .k), place-in (a .n) (a .row) (c .before .before .before .loop .k) (a .m) (omega arith) (c .before .before .before .before .before .before .before .before .pre .0 .2) .1)
 
-mul-at-most-two : tie.Need-mul-at-most-two Inv-loop μ-loop
-mul-at-most-two c =
+mul-capped-byte : tie.Need-mul-capped-byte Inv-loop μ-loop
+mul-capped-byte c =
     let a = c .before .before .before .before .before .before .before .before .args in
     let small = cell-small (a .chart .now) (a .n) (a .row) (a .m) (c .before .before .before .before .place-at .result) (c .before .before .before .loop .k) (c .before .before .before .before .place-at .ensures) (c .before .before .before .before .before .before .before .before .pre .1 .1 .1 (c .before .before .before .loop .k) (omega arith)) in
     omega (arith, product-small (getD (a .chart .now) (c .before .before .before .before .place-at .result + c .before .before .before .loop .k) 0) (a .argument) small (c .before .before .before .before .before .before .before .before .pre .0 .3))
 
-add-at-most-two-3 : tie.Need-add-at-most-two-3 Inv-loop μ-loop
-add-at-most-two-3 c =
+add-capped-byte-3 : tie.Need-add-capped-byte-3 Inv-loop μ-loop
+add-capped-byte-3 c =
     let a = c .before .before .before .before .before .before .before .before .args in
     let small = cell-small (a .chart .now) (a .n) (a .row) (a .m) (c .before .before .before .before .place-at .result) (c .before .before .before .loop .k) (c .before .before .before .before .place-at .ensures) (c .before .before .before .before .before .before .before .before .pre .1 .1 .1 (c .before .before .before .loop .k) (omega arith)) in
     omega (arith, product-small (getD (a .chart .now) (c .before .before .before .before .place-at .result + c .before .before .before .loop .k) 0) (a .argument) small (c .before .before .before .before .before .before .before .before .pre .0 .3), c .before .before .before .loop .inv .0 .above (a .at + c .before .before .before .loop .k) (omega arith), c .before .before .before .before .before .before .before .before .pre .1 .1 .0 (c .before .before .before .loop .k) (omega arith))
 
-at-most-two-requires : tie.Need-at-most-two-requires Inv-loop μ-loop
-at-most-two-requires c κs = tt
+capped-byte-requires : tie.Need-capped-byte-requires Inv-loop μ-loop
+capped-byte-requires c κs = tt
 
 add-sums : tie.Need-add-sums Inv-loop μ-loop
 add-sums c = omega arith
@@ -91,8 +91,8 @@ unfolding Sum Live
 loop-again c =
     let a = c .before .before .before .before .before .before .before .before .before .before .before .args in
     let same = c .before .before .before .before .before .before .loop .inv .0 .above (a .at + c .before .before .before .before .before .before .loop .k) (omega arith) in
-    let made = sum-made (a .chart .now) (a .n) (a .row) (a .m) (c .before .before .before .before .before .before .before .place-at .result) (c .before .before .before .before .before .before .loop .k) (c .before .before .before .before .before .before .before .place-at .ensures) (a .sums .now) (c .before .before .before .before .before .before .loop .sums) (a .argument) (a .at) (c .before .before .at-most-two .result) (c .before .before .at-most-two .ensures) same in (
-      region-more (Sum (a .chart .now) (a .sums .now) (a .n) (a .row) (a .m) (a .argument) (a .at)) 0 (a .at) (a .sums .now) (c .before .before .before .before .before .before .loop .k) (c .before .before .before .before .before .before .loop .sums) (c .before .before .at-most-two .result) (omega arith) (c .before .before .before .before .before .before .loop .inv .0) made,
+    let made = sum-made (a .chart .now) (a .n) (a .row) (a .m) (c .before .before .before .before .before .before .before .place-at .result) (c .before .before .before .before .before .before .loop .k) (c .before .before .before .before .before .before .before .place-at .ensures) (a .sums .now) (c .before .before .before .before .before .before .loop .sums) (a .argument) (a .at) (c .before .before .capped-byte .result) (c .before .before .capped-byte .ensures) same in (
+      region-more (Sum (a .chart .now) (a .sums .now) (a .n) (a .row) (a .m) (a .argument) (a .at)) 0 (a .at) (a .sums .now) (c .before .before .before .before .before .before .loop .k) (c .before .before .before .before .before .before .loop .sums) (c .before .before .capped-byte .result) (omega arith) (c .before .before .before .before .before .before .loop .inv .0) made,
       front-more (Live (a .chart .now) (a .sums .now) (a .live .now) (a .n) (a .row) (a .m) (a .argument) (a .at)) (c .before .before .before .before .before .before .loop .k) (a .live .now) (c .before .before .before .before .before .before .loop .live) (c .larger .result) (omega arith) (c .before .before .before .before .before .before .loop .inv .1)
           (c .larger .ensures ∙ ap₂ max (c .before .before .before .before .before .before .loop .inv .1 .above (c .before .before .before .before .before .before .loop .k) (omega arith)) made),
       omega arith,
@@ -121,13 +121,13 @@ add-row-spec =
     μ-loop
     place-at-requires
     loop-holds
-    add-at-most-two
-    slice-read-at-most-two
-    add-at-most-two-2
-    shared-slice-read-at-most-two
-    mul-at-most-two
-    add-at-most-two-3
-    at-most-two-requires
+    add-capped-byte
+    slice-read-capped-byte
+    add-capped-byte-2
+    shared-slice-read-capped-byte
+    mul-capped-byte
+    add-capped-byte-3
+    capped-byte-requires
     add-sums
     slice-write-sums
     slice-read-larger

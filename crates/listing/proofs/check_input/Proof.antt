@@ -1,8 +1,8 @@
--- `check_lent` meets its contract: the text first, then the listing.
+-- `check_input` meets its contract: the text first, then the listing.
 use mathlib.Core.Path.{refl}
 use borrow.Author.Needs.{needs}
-use Rattle.listing.proofs.check_lent.Statement.{statement}
-use Rattle.listing.proofs.check_lent.Tie as tie
+use Rattle.listing.proofs.check_input.Statement.{statement}
+use Rattle.listing.proofs.check_input.Tie as tie
 
 check-text-requires : tie.Need-check-text-requires
 check-text-requires c κs = search needs
@@ -22,8 +22,8 @@ returns c = rw (← (c .before .before .before .check-text .ensures), c .before 
 returns-2 : tie.Need-returns-2
 returns-2 c = rw (← (c .before .before .before .check-text .ensures), c .before .enum-told .given .1) (c .check-bytes .ensures)
 
-pub check-lent-spec : {M : Type 1} → statement M
-check-lent-spec =
+pub check-input-spec : {M : Type 1} → statement M
+check-input-spec =
     tie.close
     (tie.spec
     check-text-requires

@@ -2,9 +2,9 @@
 use Prim.Native.Nat.{_+_}
 use native.Mathlib.Omega.{arith}
 use borrow.Author.Needs.{needs}
-use Rattle.records.specs.Fields.{twoBytes}
-use Rattle.records.proofs.two_bytes.Statement.{statement}
-use Rattle.records.proofs.two_bytes.Tie as tie
+use Rattle.common.specs.Bytes.{numberAt}
+use Rattle.common.proofs.two_bytes.Statement.{statement}
+use Rattle.common.proofs.two_bytes.Tie as tie
 
 shared-slice-read-wide : tie.Need-shared-slice-read-wide
 shared-slice-read-wide c = search needs
@@ -28,7 +28,7 @@ add-result : tie.Need-add-result
 add-result c = omega (arith, c .before .before .wide .ensures, c .wide2 .ensures, c .before .before .before .shared-slice-known2 .given (c .before .before .before .before .before .args .at + 1), c .before .before .before .shared-slice-known2 .given (c .before .before .before .before .before .args .at))
 
 returns : tie.Need-returns
-unfolding twoBytes
+unfolding numberAt
 returns c = omega (arith, c .before .before .wide .ensures, c .wide2 .ensures)
 
 pub two-bytes-spec : {M : Type 1} → statement M

@@ -1,9 +1,9 @@
--- `check_lent` meets its contract: the text first, then the chart.
+-- `check_input` meets its contract: the text first, then the chart.
 use mathlib.Core.Path.{sym, _∙_}
 use borrow.Author.Needs.{needs}
 use Rattle.engine.proofs.RefusalsLaws.{text-short, refused-text, refused-chart, refused-not}
-use Rattle.engine.proofs.check_lent.Statement.{statement}
-use Rattle.engine.proofs.check_lent.Tie as tie
+use Rattle.engine.proofs.check_input.Statement.{statement}
+use Rattle.engine.proofs.check_input.Tie as tie
 
 check-text-requires : tie.Need-check-text-requires
 check-text-requires c κs = search needs
@@ -34,8 +34,8 @@ returns-3 c =
     let start = c .before .before .before .before .before .before .before .before in
     sym (refused-not (start .args .tables .now) (start .args .text .now) (start .args .chart .now) (c .before .chart-need .result) (c .before .chart-need .ensures) (sym (c .before .before .before .before .check-text .ensures) ∙ c .before .before .enum-told .given .1) (c .if1 .left))
 
-pub check-lent-spec : {M : Type 1} → statement M
-check-lent-spec =
+pub check-input-spec : {M : Type 1} → statement M
+check-input-spec =
     tie.close
     (tie.spec
     check-text-requires

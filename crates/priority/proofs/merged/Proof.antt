@@ -1,4 +1,4 @@
--- `joined` meets its contract: the places below y are joined, the rest is the row.
+-- `merged` meets its contract: the places below y are merged, the rest is the row.
 use Prim.Native.Nat.{ℕ, _-_, _≤_}
 use mathlib.Core.Path.{_≡_, sym, _∙_, ap}
 use mathlib.Core.Bool.{Bool, false, _&&_, _||_, and-false}
@@ -10,10 +10,10 @@ use lib.ListN.{length, getD, List·getD-eq-default}
 use borrow.Author.Needs.{needs}
 use Rattle.common.proofs.FillLaws.{Filled, filled-none, filled-more}
 use Rattle.grammar.specs.Limits.{productionLimit}
-use Rattle.priority.proofs.joined.Statement.{statement}
-use Rattle.priority.proofs.joined.Tie as tie
+use Rattle.priority.proofs.merged.Statement.{statement}
+use Rattle.priority.proofs.merged.Tie as tie
 
--- what stands at place k of the joined row
+-- what stands at place k of the merged row
 Joined : List Bool → Bool → List Bool → ℕ → Bool → Type 0
 Joined row on other k v = v ≡ (getD row k false || on && getD other k false)
 
@@ -68,8 +68,8 @@ returns c y =
     (λ l. c .before .loop .inv .0 .done y (omega arith))
     (λ l. c .before .loop .inv .0 .rest y (omega arith) ∙ beyond-all (c .before .before .args .t1) (c .before .before .args .t3) (c .before .before .args .on) y n m (omega arith))
 
-pub joined-spec : {M : Type 1} → statement M
-joined-spec =
+pub merged-spec : {M : Type 1} → statement M
+merged-spec =
     tie.close
     (tie.spec
     Inv-loop

@@ -1,12 +1,12 @@
--- `parse_lent` meets its contract: none, several, or the only one is written.
+-- `parse_short` meets its contract: none, several, or the only one is written.
 use mathlib.Core.Path.{_≡_, subst}
 use native.Mathlib.Omega.{arith}
 use borrow.Author.Needs.{needs}
 use Rattle.engine.proofs.EngineLaws.{answered-none, answered-several}
 use Rattle.engine.specs.Roots.{ParseBy}
 use Rattle.theory.specs.Counts.{Counts}
-use Rattle.engine.proofs.parse_lent.Statement.{statement}
-use Rattle.engine.proofs.parse_lent.Tie as tie
+use Rattle.engine.proofs.parse_short.Statement.{statement}
+use Rattle.engine.proofs.parse_short.Tie as tie
 
 count-parses-requires : tie.Need-count-parses-requires
 count-parses-requires c κs = search needs
@@ -48,8 +48,8 @@ same-length-4 c = search needs
 returns-3 : tie.Need-returns-3
 returns-3 c = search needs
 
-pub parse-lent-spec : {M : Type 1} → statement M
-parse-lent-spec =
+pub parse-short-spec : {M : Type 1} → statement M
+parse-short-spec =
     tie.close
     (tie.spec
     count-parses-requires
