@@ -1,3 +1,4 @@
+-- `production_word` meets its contract: the bits below b are those of their productions, and there is none above.
 use Prim.Native.Nat.{ℕ, _+_, _*_, _-_, _≤_}
 use mathlib.Core.Bool.{false, _&&_}
 use mathlib.Core.Path.{_≡_, refl, _∙_}

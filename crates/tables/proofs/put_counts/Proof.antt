@@ -1,3 +1,4 @@
+-- `put_counts` meets its contract: the counts of the productions passed are written, and the rows up to the next.
 use Prim.Native.Nat.{_+_, ℕ, _*_, _-_, _≤_}
 use mathlib.Core.Path.{_≡_, sym, _∙_, subst}
 use native.Mathlib.Omega.{arith}

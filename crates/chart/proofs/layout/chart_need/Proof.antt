@@ -1,3 +1,4 @@
+-- `chart_need` meets its contract: a cell for each row and span.
 use Prim.Native.Nat.{_*_}
 use mathlib.Core.Path.{_≡_, ap₂}
 use native.Mathlib.Omega.{arith}

@@ -1,3 +1,4 @@
+-- `entry_of` meets its contract: the cell of the entry's row.
 use Prim.Native.Nat.{ℕ, _+_}
 use mathlib.Core.Path.{_∙_, ap}
 use native.Mathlib.Omega.{arith}
