@@ -1,25 +1,28 @@
 -- Laws of the flat tables as they are written: what a class has, one class more, one production more.
-use Prim.Native.Nat.{ℕ, _+_, _-_, _≤_, _<_}
-use mathlib.Core.Path.{_≡_, refl, _∙_, ap}
-use mathlib.Core.Bool.{Bool, false, true, not, _&&_, _||_, and-true}
+use Prim.Native.Nat.{_*_, _/_, _%_, _^_, ℕ, _+_, _-_, _≤_, _<_}
+use mathlib.Core.Bool.{or-true, or-false, and-false, Bool, false, true, not, _&&_, _||_}
+use mathlib.Core.Path.{sym, _≡_, refl, _∙_, ap}
 use mathlib.Core.List.{List, []}
 use mathlib.Core.Logic.{_↔_, _≢_, by-cases}
 use native.Mathlib.Omega.{arith}
 use native.Mathlib.Decide.{ℕ-discrete, decLt}
+use lib.Bits.{bitOr}
+use lib.ListN.{set, replicate, length-set, length-replicate, getD-replicate, length, getD, drop, length-drop, List·getD-eq-default}
+use lib.Seq.{getD-set-same, getD-set-other, length-take-le, getD-take, getD-drop}
 use lib.Dec.{leb, ltb, eqb}
-use lib.ListN.{length, getD, drop, length-drop, List·getD-eq-default}
-use lib.Seq.{length-take-le, getD-take, getD-drop}
-use borrow.Author.Tests.{lt-ltb, le-ltb, ne-eqb}
+use borrow.Author.Tests.{le-leb, lt-leb, eq-eqb, lt-ltb, le-ltb, ne-eqb}
+use Rattle.tables.proofs.BitsLaws.{one-bit}
+use Rattle.charset.proofs.BitLaws.{bit-or, bit-zero}
+use Rattle.charset.specs.Set.{bit, has, wordBits, characters}
+use Rattle.ccg.specs.Tables.{BarringSets, resultWords, resultHas, ByResult, FlatTables, BarringRows, countBytes, ArgumentWritten, RootWritten, WrittenBelow}
+use Rattle.grammar.specs.Limits.{sortLimit, productionLimit, argumentLimit, classBase, headerLength}
+use Rattle.tables.specs.Layout.{productionWords, slot, rootSlot, arityIn}
 use Rattle.ccg.specs.Flat.{mayStand}
-use Rattle.ccg.specs.Tables.{FlatTables, BarringRows, noSort, Results, countBytes, ArgumentWritten, RootWritten, WrittenBelow}
-use Rattle.charset.specs.Set.{characters}
 use Rattle.common.proofs.BoolLaws.{eqb-sym, taken-out}
-use Rattle.grammar.proofs.ClassesLaws.{argument-below}
 use Rattle.grammar.proofs.FormedLaws.{bodies-in}
 use Rattle.grammar.specs.Classes.{isClass, classHas}
 use Rattle.grammar.specs.Formed.{WellFormed}
 use Rattle.grammar.specs.Layout.{productions, startSort, argumentCount, result, argument}
-use Rattle.grammar.specs.Limits.{productionLimit, argumentLimit, classBase, headerLength}
 use Rattle.priority.proofs.ConflictLaws.{fits-result}
 use Rattle.priority.proofs.PriorityLaws.{table-higher}
 use Rattle.priority.specs.Chain.{entry}
@@ -27,15 +30,14 @@ use Rattle.priority.specs.Conflict.{fits, isFirst, isLast, rightOrNonassoc, lef
 use Rattle.priority.specs.Priorities.{left, right, nonassoc, kindNumber, DeclaredPairs, Higher}
 use Rattle.tables.proofs.LayoutLaws.{slot-in}
 use Rattle.tables.proofs.PutLaws.{put-counts, put-tables, char-stays, production-stays, counts-stay}
-use Rattle.tables.specs.Layout.{slot, rootSlot, arityIn}
 use Rattle.tables.specs.Put.{CountsPut, ClassPut}
 
--- ---- one row of bars
+-- ---- what is barred at an argument
 
-pub barred-row : (b : List ℕ) (p i count : ℕ) (above firsts lasts : List Bool) → BarringRows b p above firsts lasts → count ≡ argumentCount b p → (q : ℕ)
-    → (getD above q false || (eqb i 0 && leb 2 count) && getD firsts q false || (eqb (i + 1) count && leb 2 count) && getD lasts q false) ≡ barred b p i q
+pub barred-set : (b : List ℕ) (p i count : ℕ) (above firsts lasts : List ℕ) → BarringSets b p above firsts lasts → count ≡ argumentCount b p → (q : ℕ) → q < productionLimit
+    → (has above q || (eqb i 0 && leb 2 count) && has firsts q || (eqb (i + 1) count && leb 2 count) && has lasts q) ≡ barred b p i q
 unfolding barred isFirst isLast
-barred-row b p i count above firsts lasts r e q = rw (r .higherRow q, r .firstRow q, r .lastRow q, e) refl
+barred-set b p i count above firsts lasts r e q l = rw (r .higherSet q l, r .firstSet q l, r .lastSet q l, e) refl
 
 pub barring-rows : (b : List ℕ) → WellFormed b → (above firsts lasts : List (List Bool)) → ((x y : ℕ) → (entry above x y ≡ true) ↔ Higher b x y)
     → DeclaredPairs b (kindNumber right) (kindNumber nonassoc) firsts → DeclaredPairs b (kindNumber left) (kindNumber nonassoc) lasts
@@ -48,21 +50,113 @@ barring-rows b w above firsts lasts h f l p =
       lastRow = l left nonassoc refl refl p;
     }
 
+-- a row as a set
+abbrev pub SetOf : List Bool → List ℕ → Type 0
+SetOf row set = (q : ℕ) → q < productionLimit → has set q ≡ getD row q false
+
+pub barring-sets : {b : List ℕ} {p : ℕ} {above firsts lasts : List Bool} → BarringRows b p above firsts lasts → (above′ firsts′ lasts′ : List ℕ)
+    → SetOf above above′ → SetOf firsts firsts′ → SetOf lasts lasts′ → BarringSets b p above′ firsts′ lasts′
+barring-sets r above′ firsts′ lasts′ a f l =
+    record {
+      higherSet = λ q h. a q h ∙ r .higherRow q;
+      firstSet = λ q h. f q h ∙ r .firstRow q;
+      lastSet = λ q h. l q h ∙ r .lastRow q;
+    }
+
+-- taking out three times, the first time always, is taking out what one of them has
+pub taken-three : (a x c y d z : Bool) → (((a && not (true && x)) && not (c && y)) && not (d && z)) ≡ (a && not (x || c && y || d && z))
+taken-three false x c y d z = refl
+taken-three true true c y d z = refl
+taken-three true false true true d z = refl
+taken-three true false true false d z = refl
+taken-three true false false y d z = refl
+
+-- ---- productions by their results
+
+-- no production yet
+pub results-none : (b : List ℕ) → ByResult b 0 (replicate resultWords 0)
+results-none b =
+    record {
+      long = length-replicate {A = ℕ} resultWords 0;
+      are = λ x q lx lq. ap (λ (v : ℕ). bit v (q % wordBits)) (getD-replicate resultWords (x * productionWords + q / wordBits) 0 0 (omega arith)) ∙ bit-zero (q % wordBits) ∙ sym (rw (le-ltb q 0 (omega arith)) refl);
+    }
+
+-- one production more, with result y: its bit is set
+module _ (b : List ℕ) (n y : ℕ) (sets : List ℕ) (r : ByResult b n sets) (ln : n < productionLimit) (ly : y < sortLimit) (is : y ≡ result b n) where
+  abbrev word : ℕ
+  word = y * productionWords + n / wordBits
+
+  abbrev with : ℕ
+  with = bitOr (getD sets word 0) (1 * 2 ^ (n % wordBits) % 2 ^ wordBits)
+
+  abbrev sets′ : List ℕ
+  sets′ = set sets word with
+
+  word-in : word < length sets
+  word-in = omega (arith, r .long)
+
+  -- another production is neither before n nor n for the first time
+  before-same : (q : ℕ) → q ≢ n → ltb q (n + 1) ≡ ltb q n
+  before-same q e =
+      by-cases (decLt q n)
+      (λ l. lt-ltb q (n + 1) (omega arith) ∙ sym (lt-ltb q n l))
+      (λ l. let m : n < q = by-cases (decLt n q) (λ o. o) (λ o. absurd (e (omega arith))) in le-ltb q (n + 1) (omega arith) ∙ sym (le-ltb q n (omega arith)))
+
+  -- the word that is written: bit k is set if it was, or if it is n's
+  written-word : (k : ℕ) → bit (getD sets′ word 0) k ≡ (bit (getD sets word 0) k || (leb (n % wordBits) k && ltb k (n % wordBits + 1)))
+  written-word k = ap (λ (v : ℕ). bit v k) (getD-set-same sets word with 0 word-in) ∙ bit-or (getD sets word 0) (1 * 2 ^ (n % wordBits) % 2 ^ wordBits) k ∙ rw (one-bit true (n % wordBits) k (omega arith)) refl
+
+  -- a bit of that word
+  bit-there : (x q : ℕ) → x < sortLimit → q < productionLimit → x * productionWords + q / wordBits ≡ word
+      → (bit (getD sets word 0) (q % wordBits) || (leb (n % wordBits) (q % wordBits) && ltb (q % wordBits) (n % wordBits + 1))) ≡ (ltb q (n + 1) && eqb (result b q) x)
+  bit-there x q lx lq e =
+      let old : bit (getD sets word 0) (q % wordBits) ≡ (ltb q n && eqb (result b q) x) = rw (← e) (r .are x q lx lq) in
+      elim (ℕ-discrete q n) [
+        | yes z ↦ let own : result b q ≡ x = ap (result b) z ∙ sym is ∙ omega arith in
+            rw (le-leb (n % wordBits) (q % wordBits) (omega arith), lt-ltb (q % wordBits) (n % wordBits + 1) (omega arith), or-true (bit (getD sets word 0) (q % wordBits)), lt-ltb q (n + 1) (omega arith), eq-eqb (result b q) x own) refl
+        | no z ↦ let apart : (leb (n % wordBits) (q % wordBits) && ltb (q % wordBits) (n % wordBits + 1)) ≡ false = other-bit q z (omega arith) in
+            rw (apart, or-false (bit (getD sets word 0) (q % wordBits)), old, before-same q z) refl
+      ]
+    where
+      other-bit : (q : ℕ) → q ≢ n → q / wordBits ≡ n / wordBits → (leb (n % wordBits) (q % wordBits) && ltb (q % wordBits) (n % wordBits + 1)) ≡ false
+      other-bit q z same =
+          by-cases (decLt (q % wordBits) (n % wordBits))
+          (λ l. rw (lt-leb (n % wordBits) (q % wordBits) l) refl)
+          (λ l. let above : n % wordBits < q % wordBits = by-cases (decLt (n % wordBits) (q % wordBits)) (λ o. o) (λ o. absurd (z (omega arith))) in
+          rw (le-ltb (q % wordBits) (n % wordBits + 1) (omega arith)) (and-false (leb (n % wordBits) (q % wordBits))))
+
+  -- a bit of another word
+  bit-elsewhere : (x q : ℕ) → x * productionWords + q / wordBits ≢ word → (ltb q n && eqb (result b q) x) ≡ (ltb q (n + 1) && eqb (result b q) x)
+  bit-elsewhere x q e =
+      elim (ℕ-discrete q n) [
+        | yes z ↦ let other : eqb (result b q) x ≡ false = ne-eqb (result b q) x (λ o. e (omega (arith, z, ap (result b) z))) in
+            rw (other, and-false (ltb q n), and-false (ltb q (n + 1))) refl
+        | no z ↦ rw (before-same q z) refl
+      ]
+
+  pub results-more : ByResult b (n + 1) sets′
+  results-more =
+      record {
+        long = length-set sets word with ∙ r .long;
+        are = λ x q lx lq. elim (ℕ-discrete (x * productionWords + q / wordBits) word) [
+          | yes e ↦ rw e (written-word (q % wordBits)) ∙ bit-there x q lx lq e
+          | no e ↦ (ap (λ (v : ℕ). bit v (q % wordBits)) (getD-set-other sets word (x * productionWords + q / wordBits) with 0 e) ∙ r .are x q lx lq ∙ bit-elsewhere x q e)
+        ];
+      }
+
 -- ---- which productions a class has
 
-module _ (b : List ℕ) (w : WellFormed b) (results : List ℕ) (rs : Results b results) (q : ℕ) (lq : q < productionLimit) where
-  -- only a production that is there has a result below "no sort"
-  has-result : (x : ℕ) → x < noSort → eqb (getD results q 0) x ≡ (ltb q (productions b) && eqb (result b q) x)
-  has-result x l =
-      by-cases (decLt q (productions b))
-      (λ m. rw (rs .there q m, lt-ltb q (productions b) m) refl)
-      (λ m. rw (rs .missing q (omega arith) lq, le-ltb q (productions b) (omega arith)) (ne-eqb noSort x (λ e. omega arith)))
-
-  -- at the root nothing is barred
-  pub stands-at-root : (bars : List Bool) → getD bars q false ≡ false
-      → (eqb (getD results q 0) (startSort b) && not (getD bars q false)) ≡ (ltb q (productions b) && eqb (result b q) (startSort b))
-  stands-at-root bars e =
-      rw e (and-true (eqb (getD results q 0) (startSort b)) ∙ has-result (startSort b) (omega (arith, w .framed .startNamed, w .framed .fewSorts)))
+module _ (b : List ℕ) (w : WellFormed b) (sets : List ℕ) (rs : ByResult b (productions b) sets) (q : ℕ) (lq : q < productionLimit) where
+  -- those of its sort
+  pub has-result : (x : ℕ) → resultHas sets x q ≡ (ltb q (productions b) && eqb (result b q) x)
+  unfolding resultHas
+  has-result x =
+      by-cases (decLt x sortLimit)
+      (λ l. rw (lt-ltb x sortLimit l) (rs .are x q l lq))
+      (λ l. rw (le-ltb x sortLimit (omega arith))
+      (by-cases (decLt q (productions b))
+      (λ m. sym (rw (lt-ltb q (productions b) m, ne-eqb (result b q) x (λ e. omega (arith, w .resultNamed q m, w .framed .fewSorts))) refl))
+      (λ m. sym (rw (le-ltb q (productions b) (omega arith)) refl))))
 
   module _ (p i : ℕ) (lp : p < productions b) (li : i < argumentCount b p) where
     may-stand : q < productions b → mayStand b p i q ≡ (eqb (result b q) (argument b p i) && not (barred b p i q))
@@ -70,11 +164,9 @@ module _ (b : List ℕ) (w : WellFormed b) (results : List ℕ) (rs : Results b 
     may-stand l = rw (taken-out (fits b p i q) (barred b p i q), fits-result b w p i q l, eqb-sym (argument b p i) (result b q)) refl
 
     -- at an argument those may stand that the grammar lets stand
-    pub stands-at-argument : (x : ℕ) (bars : List Bool) → x ≡ argument b p i → getD bars q false ≡ barred b p i q
-        → (eqb (getD results q 0) x && not (getD bars q false)) ≡ (ltb q (productions b) && mayStand b p i q)
-    stands-at-argument x bars e v =
-        let small : x < noSort = omega (arith, argument-below b w p i lp li, w .framed .fewClasses) in
-        rw (has-result x small, v)
+    pub stands-at-argument : (x : ℕ) → x ≡ argument b p i → (resultHas sets x q && not (barred b p i q)) ≡ (ltb q (productions b) && mayStand b p i q)
+    stands-at-argument x e =
+        rw (has-result x)
         (by-cases (decLt q (productions b))
         (λ m. rw (lt-ltb q (productions b) m, may-stand m, e) refl)
         (λ m. rw (le-ltb q (productions b) (omega arith)) refl))

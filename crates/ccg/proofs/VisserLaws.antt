@@ -12,6 +12,20 @@ use borrow.Author.Tests.{eqb-true, lt-ltb, le-ltb, le-leb, lt-leb, eq-eqb, ne-eq
 use Rattle.ccg.proofs.FlatLaws.{is-production, production-there, production-is, production-of-number, flat-of-class, flat-of-sort, flat-no-conflict}
 use Rattle.ccg.specs.Ccg.{Class, Line, noLine, noClass}
 use Rattle.ccg.specs.Flat.{isProduction, mayStand, flatClass, flatLine, flatGrammar}
+use Rattle.charset.specs.Set.{characters}
+use Rattle.common.proofs.BoolLaws.{and-first-true, and-second-true, true-or-false, eqb-sym, taken-out}
+use Rattle.common.proofs.ListLaws.{getD-tabulate, tabulate-same}
+use Rattle.common.specs.Lists.{tabulate}
+use Rattle.grammar.proofs.ClassesLaws.{sort-no-class, class-character}
+use Rattle.grammar.specs.Classes.{isClass, classHas}
+use Rattle.grammar.specs.Formed.{WellFormed}
+use Rattle.grammar.specs.Layout.{productions, argumentCount, result, argument}
+use Rattle.grammar.specs.Limits.{classBase}
+use Rattle.priority.proofs.ConflictLaws.{fits-result}
+use Rattle.priority.proofs.PriorityLaws.{higher-chain}
+use Rattle.priority.specs.Conflict.{isFirst, isLast, rightOrNonassoc, leftOrNonassoc, anywhere, barred, conflicts}
+use Rattle.priority.specs.Priorities.{left, right, nonassoc, declared, isHigher}
+use Rattle.theory.specs.Tree.{productionNumber}
 use Rattle.ccg.specs.Visser.{
   nums,
   contextFreeClass,
@@ -27,20 +41,6 @@ use Rattle.ccg.specs.Visser.{
   completedGrammar,
   SingleHigher,
 }
-use Rattle.charset.specs.Set.{characters}
-use Rattle.common.proofs.BoolLaws.{and-first-true, and-second-true, true-or-false, eqb-sym, taken-out}
-use Rattle.common.proofs.ListLaws.{getD-tabulate, tabulate-same}
-use Rattle.common.specs.Lists.{tabulate}
-use Rattle.grammar.proofs.ClassesLaws.{sort-no-class, class-character}
-use Rattle.grammar.specs.Classes.{isClass, classHas}
-use Rattle.grammar.specs.Formed.{WellFormed}
-use Rattle.grammar.specs.Layout.{productions, argumentCount, result, argument}
-use Rattle.grammar.specs.Limits.{classBase}
-use Rattle.priority.proofs.ConflictLaws.{fits-result}
-use Rattle.priority.proofs.PriorityLaws.{higher-chain}
-use Rattle.priority.specs.Conflict.{isFirst, isLast, rightOrNonassoc, leftOrNonassoc, anywhere, barred, conflicts}
-use Rattle.priority.specs.Priorities.{left, right, nonassoc, declared, isHigher}
-use Rattle.theory.specs.Tree.{productionNumber}
 
 -- ---- tests
 

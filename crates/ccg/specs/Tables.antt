@@ -1,5 +1,5 @@
 -- The flat tables of a grammar, and the character class grammar that tables hold.
-use Prim.Native.Nat.{ℕ, _-_, _≤_, _<_}
+use Prim.Native.Nat.{ℕ, _+_, _-_, _*_, _/_, _%_, _<_}
 use mathlib.Core.Path.{_≡_}
 use mathlib.Core.Bool.{Bool, false, cond, _&&_}
 use mathlib.Core.List.{List}
@@ -7,14 +7,14 @@ use lib.Dec.{leb, ltb, eqb}
 use lib.ListN.{length, getD, take, drop}
 use Rattle.ccg.specs.Ccg.{Line}
 use Rattle.ccg.specs.Flat.{mayStand}
-use Rattle.charset.specs.Set.{characters}
+use Rattle.charset.specs.Set.{characters, bit, has, wordBits}
 use Rattle.common.specs.Lists.{tabulate}
 use Rattle.grammar.specs.Classes.{isClass, classHas}
 use Rattle.grammar.specs.Layout.{productions, startSort, argumentCount, result, argument}
-use Rattle.grammar.specs.Limits.{productionLimit, classBase, headerLength}
+use Rattle.grammar.specs.Limits.{productionLimit, classBase, headerLength, sortLimit}
 use Rattle.priority.specs.Conflict.{rightOrNonassoc, leftOrNonassoc}
 use Rattle.priority.specs.Priorities.{isHigher}
-use Rattle.tables.specs.Layout.{slot, rootSlot, countsOf, arityIn, takesChar, takesProduction, ParserTables}
+use Rattle.tables.specs.Layout.{productionWords, slot, rootSlot, countsOf, arityIn, takesChar, takesProduction, ParserTables}
 use Rattle.tables.specs.Put.{CountsPut}
 use Rattle.theory.specs.Tree.{productionNumber}
 
@@ -56,14 +56,24 @@ pub record BarringRows (b : List ℕ) (p : ℕ) (above firsts lasts : List Bool)
   pub firstRow : (q : ℕ) → getD firsts q false ≡ rightOrNonassoc b p q
   pub lastRow : (q : ℕ) → getD lasts q false ≡ leftOrNonassoc b p q
 
--- Stands for the result sort of a production that is not there; no argument byte is as large.
-abbrev pub noSort : ℕ
-noSort = 255
+-- The same as sets of productions.
+pub record BarringSets (b : List ℕ) (p : ℕ) (above firsts lasts : List ℕ) : Type 0 where
+  pub higherSet : (q : ℕ) → q < productionLimit → has above q ≡ isHigher b p q
+  pub firstSet : (q : ℕ) → q < productionLimit → has firsts q ≡ rightOrNonassoc b p q
+  pub lastSet : (q : ℕ) → q < productionLimit → has lasts q ≡ leftOrNonassoc b p q
 
--- The result sorts of all productions.
-pub record Results (b results : List ℕ) : Type 0 where
-  pub there : (q : ℕ) → q < productions b → getD results q 0 ≡ result b q
-  pub missing : (q : ℕ) → productions b ≤ q → q < productionLimit → getD results q 0 ≡ noSort
+-- Words that hold a set of productions for each sort.
+abbrev pub resultWords : ℕ
+resultWords = sortLimit * productionWords
+
+-- the set of sort x has production q; a class byte has none
+unfoldable pub resultHas : List ℕ → ℕ → ℕ → Bool
+resultHas sets x q = ltb x sortLimit && bit (getD sets (x * productionWords + q / wordBits) 0) (q % wordBits)
+
+-- Of the first n productions each is in the set of its result, and in no other.
+pub record ByResult (b : List ℕ) (n : ℕ) (sets : List ℕ) : Type 0 where
+  pub long : length sets ≡ resultWords
+  pub are : (x q : ℕ) → x < sortLimit → q < productionLimit → bit (getD sets (x * productionWords + q / wordBits) 0) (q % wordBits) ≡ (ltb q n && eqb (result b q) x)
 
 -- The argument counts of a grammar, with which its contents begin.
 abbrev pub countBytes : List ℕ → List ℕ

@@ -10,47 +10,59 @@ use grammar::layout::production_count;
 use grammar::limits::ARGUMENT_LIMIT;
 use grammar::limits::CLASS_BASE;
 use grammar::limits::HEADER_LENGTH;
-use grammar::limits::PRODUCTION_LIMIT;
+use grammar::limits::SORT_LIMIT;
 use priority::LEFT;
 use priority::NONASSOC;
 use priority::RIGHT;
 use priority::declared_pairs;
-use priority::merged;
 use priority::priorities;
+use tables::PRODUCTION_WORDS;
+use tables::ProductionSet;
 use tables::ROOT_SLOT;
 use tables::put_class;
 use tables::put_counts;
 ghost use mathlib.Core.Path.{_≡_};
-ghost use mathlib.Core.Bool.{false, not, _&&_, _||_};
+ghost use mathlib.Core.Bool.{not, _&&_, _||_};
 ghost use Prim.Native.Nat.{ℕ, _+_, _-_, _<_};
 ghost use lib.Dec.{eqb, leb};
-ghost use lib.ListN.{length, getD};
+ghost use lib.ListN.{length};
 ghost use Rattle.charset.specs.Set.{characters, has};
 ghost use Rattle.grammar.specs.Classes.{isClass, classHas};
 ghost use Rattle.grammar.specs.Limits.{productionLimit, classBase};
 ghost use Rattle.grammar.specs.Layout.{productions, classes, productionAt};
 ghost use Rattle.grammar.specs.Formed.{WellFormed};
 ghost use Rattle.tables.specs.Layout.{slot, tableWords};
-ghost use Rattle.ccg.specs.Tables.{Results, BarringRows, WrittenBelow, FlatTables};
+ghost use Rattle.ccg.specs.Tables.{BarringSets, resultHas, ByResult, WrittenBelow, FlatTables};
 
-// Stands for the result of a production that isn't there; no argument byte is as large.
-const NO_SORT: u8 = 255;
+// How many words hold a set of productions for each sort.
+const RESULT_WORDS: usize = SORT_LIMIT * PRODUCTION_WORDS;
 
-// The result sorts of the productions.
-pub fn results(book: &[u8]) -> [u8; PRODUCTION_LIMIT]
+// For each sort the productions with that result, one set behind the other.
+fn by_result(book: &[u8]) -> [u64; RESULT_WORDS]
     requires { ⌜ WellFormed (now book) ⌝ }
-    ensures { λ r. ⌜ Results (now (book .entry)) r ⌝ }
+    ensures { λ r. ⌜ ByResult (now (book .entry)) (productions (now (book .entry))) r ⌝ }
 {
-    let mut out = [NO_SORT; PRODUCTION_LIMIT];
+    let mut sets = [0u64; RESULT_WORDS];
     let count = production_count(book);
     let mut at = bodies_at(book);
     let mut q = 0;
     while q < count {
-        out[q] = book[at];
+        let word = wide(book[at]) * PRODUCTION_WORDS + q / 64;
+        sets[word] = sets[word] | 1u64 << (q % 64);
         at += 1 + argument_count(book, q);
         q += 1;
     }
-    out
+    sets
+}
+
+// The productions with result x: none if x is a class.
+fn with_result(sets: [u64; RESULT_WORDS], x: u8) -> ProductionSet
+    ensures { λ r. ⌜ ((q : ℕ) → q < productionLimit → has (r .words) q ≡ resultHas sets x q) ⌝ }
+{
+    if SORT_LIMIT <= wide(x) {
+        return ProductionSet::empty();
+    }
+    ProductionSet::read(&sets, wide(x) * PRODUCTION_WORDS)
 }
 
 // The characters that argument byte x lets stand: none if x is a sort.
@@ -65,42 +77,27 @@ fn argument_set(book: &[u8], x: usize) -> CharSet
     class_set(book, x - CLASS_BASE)
 }
 
-// The productions barred at argument i of a production with `count` arguments: the three lines of 01 in order.
-fn barred_at(
-    above: [bool; PRODUCTION_LIMIT],
-    firsts: [bool; PRODUCTION_LIMIT],
-    lasts: [bool; PRODUCTION_LIMIT],
+// The productions that may stand at argument i of a production with `count` arguments: of those that fit it, the ones that no line of 01 bars.
+fn standing(
+    fitting: ProductionSet,
+    above: ProductionSet,
+    firsts: ProductionSet,
+    lasts: ProductionSet,
     count: usize,
     i: usize,
-) -> [bool; PRODUCTION_LIMIT]
+) -> ProductionSet
     requires { ⌜ i < count ⌝ }
-    ensures { λ r. ⌜ ((q : ℕ) → getD r q false ≡ (getD above q false || (eqb i 0 && leb 2 count) && getD firsts q false || (eqb (i + 1) count && leb 2 count) && getD lasts q false)) ⌝ }
+    ensures { λ r. ⌜ ((q : ℕ) → q < productionLimit → has (r .words) q ≡ (has (fitting .words) q && not (has (above .words) q || (eqb i 0 && leb 2 count) && has (firsts .words) q || (eqb (i + 1) count && leb 2 count) && has (lasts .words) q))) ⌝ }
 {
-    let inner = merged(above, both(i == 0, 2 <= count), firsts);
-    merged(inner, both(i + 1 == count, 2 <= count), lasts)
-}
-
-// The productions that may stand at byte x: those with this result that are not barred.
-fn standing(
-    x: u8,
-    barred: [bool; PRODUCTION_LIMIT],
-    results: [u8; PRODUCTION_LIMIT],
-) -> [bool; PRODUCTION_LIMIT]
-    ensures { λ r. ⌜ ((q : ℕ) → q < productionLimit → getD r q false ≡ (eqb (getD results q 0) x && not (getD barred q false))) ⌝ }
-{
-    let mut out = [false; PRODUCTION_LIMIT];
-    let mut q = 0;
-    while q < PRODUCTION_LIMIT {
-        out[q] = both(results[q] == x, !barred[q]);
-        q += 1;
-    }
-    out
+    let lower = fitting.without(true, above);
+    let inner = lower.without(both(i == 0, 2 <= count), firsts);
+    inner.without(both(i + 1 == count, 2 <= count), lasts)
 }
 
 // Writes the argument counts, and the class of the root: the productions of the start sort, which is byte 4.
-fn write_counts_and_root(book: &[u8], results: [u8; PRODUCTION_LIMIT], tables: &mut [u64])
+fn write_counts_and_root(book: &[u8], sets: [u64; RESULT_WORDS], tables: &mut [u64])
     requires { ⌜ WellFormed (now book) ⌝ }
-    requires { ⌜ Results (now book) results ⌝ }
+    requires { ⌜ ByResult (now book) (productions (now book)) sets ⌝ }
     requires { ⌜ length (now tables) ≡ tableWords ⌝ }
     ensures { λ _. ⌜ WrittenBelow (now (book .entry)) (slot 0 0) (now (tables .exit)) ⌝ }
 {
@@ -110,7 +107,7 @@ fn write_counts_and_root(book: &[u8], results: [u8; PRODUCTION_LIMIT], tables: &
         tables,
         ROOT_SLOT,
         CharSet::empty(),
-        standing(book[4], [false; PRODUCTION_LIMIT], results),
+        with_result(sets, book[4]),
     );
 }
 
@@ -119,16 +116,16 @@ fn write_production(
     book: &[u8],
     p: usize,
     at: usize,
-    above: [bool; PRODUCTION_LIMIT],
-    firsts: [bool; PRODUCTION_LIMIT],
-    lasts: [bool; PRODUCTION_LIMIT],
-    results: [u8; PRODUCTION_LIMIT],
+    above: ProductionSet,
+    firsts: ProductionSet,
+    lasts: ProductionSet,
+    sets: [u64; RESULT_WORDS],
     tables: &mut [u64],
 )
     requires { ⌜ WellFormed (now book) ⌝ }
     requires { ⌜ (p < productions (now book)) × (at ≡ productionAt (now book) p) ⌝ }
-    requires { ⌜ BarringRows (now book) p above firsts lasts ⌝ }
-    requires { ⌜ Results (now book) results ⌝ }
+    requires { ⌜ BarringSets (now book) p (above .words) (firsts .words) (lasts .words) ⌝ }
+    requires { ⌜ ByResult (now book) (productions (now book)) sets ⌝ }
     requires { ⌜ WrittenBelow (now book) (slot p 0) (now tables) ⌝ }
     ensures { λ _. ⌜ WrittenBelow (now (book .entry)) (slot (p + 1) 0) (now (tables .exit)) ⌝ }
 {
@@ -136,12 +133,12 @@ fn write_production(
     let mut i = 0;
     while i < count {
         let x = book[at + 1 + i];
-        let barred = barred_at(above, firsts, lasts, count, i);
+        let stands = standing(with_result(sets, x), above, firsts, lasts, count, i);
         put_class(
             tables,
             p * ARGUMENT_LIMIT + i,
             argument_set(book, wide(x)),
-            standing(x, barred, results),
+            stands,
         );
         i += 1;
     }
@@ -156,13 +153,22 @@ pub fn flatten(book: &[u8], tables: &mut [u64])
     let above = priorities(book);
     let firsts = declared_pairs(book, RIGHT, NONASSOC);
     let lasts = declared_pairs(book, LEFT, NONASSOC);
-    let sorts = results(book);
-    write_counts_and_root(book, sorts, tables);
+    let sets = by_result(book);
+    write_counts_and_root(book, sets, tables);
     let count = production_count(book);
     let mut at = bodies_at(book);
     let mut p = 0;
     while p < count {
-        write_production(book, p, at, above[p], firsts[p], lasts[p], sorts, tables);
+        write_production(
+            book,
+            p,
+            at,
+            ProductionSet::of(above[p]),
+            ProductionSet::of(firsts[p]),
+            ProductionSet::of(lasts[p]),
+            sets,
+            tables,
+        );
         at += 1 + argument_count(book, p);
         p += 1;
     }

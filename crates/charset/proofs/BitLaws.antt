@@ -1,7 +1,7 @@
 -- Laws of the bits of a word: of `or`, and of a block of ones.
 use Prim.Native.Nat.{ℕ, zero, suc, _+_, _-_, _*_, _/_, _%_, _^_, min, max, _≤_, _<_}
 use mathlib.Core.Path.{_≡_, refl, sym, _∙_, ap}
-use mathlib.Core.Bool.{false, _&&_, _||_}
+use mathlib.Core.Bool.{false, not, _&&_, _||_}
 use mathlib.Core.List.{List, [], _∷_}
 use mathlib.Core.Logic.{by-cases}
 use native.Mathlib.Omega.{arith}
@@ -10,7 +10,7 @@ use native.Mathlib.Nat.{mul-assoc, not-le-of-lt, div-eq-of-lt}
 use lib.Dec.{leb, ltb, eqb}
 use lib.ListN.{getD}
 use lib.Pow.{pow-pos, pow-mono, pow-add, shl-exact, shl-shr, shr-shr, high as high-part, ones-lt, ones-split}
-use lib.Bits.{bitOr, or-step, or-shr}
+use lib.Bits.{bitAnd, bitOr, bitXor, differ, and-step, or-step, xor-step, and-shr, or-shr, xor-shr}
 use borrow.Author.Tests.{lt-ltb, le-ltb, le-leb, lt-leb}
 use Rattle.charset.specs.Set.{characters, wordBits, setWords, bit, has, inRange}
 
@@ -30,6 +30,33 @@ bit-or x y b =
     let q = y / 2 ^ b in
     let step : bitOr p q % 2 ≡ max (p % 2) (q % 2) = rw or-step (omega arith) in
     rw (or-shr, step) (max-bit (p % 2) (q % 2) (omega arith) (omega arith))
+
+differ-small : (u v : ℕ) → u < 2 → v < 2 → differ u v < 2
+differ-small zero v p q = q
+differ-small (suc zero) zero p q = p
+differ-small (suc zero) (suc zero) p q = omega arith
+differ-small (suc zero) (suc (suc v)) p q = absurd (omega arith)
+differ-small (suc (suc u)) v p q = absurd (omega arith)
+
+-- what is left of x without the bits of y
+without-bit : (u v : ℕ) → u < 2 → v < 2 → eqb (differ u (min u v)) 1 ≡ (eqb u 1 && not (eqb v 1))
+without-bit zero zero p q = refl
+without-bit zero (suc zero) p q = refl
+without-bit zero (suc (suc v)) p q = absurd (omega arith)
+without-bit (suc zero) zero p q = refl
+without-bit (suc zero) (suc zero) p q = refl
+without-bit (suc zero) (suc (suc v)) p q = absurd (omega arith)
+without-bit (suc (suc u)) v p q = absurd (omega arith)
+
+pub bit-without : (x y b : ℕ) → bit (bitXor x (bitAnd x y)) b ≡ (bit x b && not (bit y b))
+unfolding bit
+bit-without x y b =
+    let p = x / 2 ^ b in
+    let q = y / 2 ^ b in
+    let lower : bitAnd p q % 2 ≡ min (p % 2) (q % 2) = rw and-step (omega arith) in
+    let small = differ-small (p % 2) (bitAnd p q % 2) (omega arith) (omega arith) in
+    let step : bitXor p (bitAnd p q) % 2 ≡ differ (p % 2) (bitAnd p q % 2) = rw xor-step (omega arith) in
+    rw (xor-shr, and-shr, step, lower) (without-bit (p % 2) (q % 2) (omega arith) (omega arith))
 
 pub bit-zero : (b : ℕ) → bit 0 b ≡ false
 unfolding bit

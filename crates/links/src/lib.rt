@@ -4,7 +4,7 @@ use chart::sums::larger;
 use common::wide;
 use grammar::limits::ARGUMENT_LIMIT;
 use grammar::limits::PRODUCTION_LIMIT;
-use tables::takes_production;
+use tables::class_productions;
 ghost use mathlib.Core.Path.{_≡_};
 ghost use Prim.Native.Nat.{ℕ, _+_, _<_, _≤_};
 ghost use lib.ListN.{length};
@@ -30,9 +30,10 @@ fn link_row(
     requires { ⌜ (count ≤ productionLimit) × (s < slots) × (row < rowLimit) × (p < productionLimit) ⌝ }
     ensures { λ _. ⌜ RowLinked (now (tables .entry)) s row p count (now (users .entry)) (now (uses .entry)) (now (users .exit)) (now (uses .exit)) ⌝ }
 {
+    let taken = class_productions(tables, s);
     let mut q = 0;
     while q < count {
-        let takes = takes_production(tables, s, q) as u8;
+        let takes = taken.contains(q) as u8;
         users[q * ROW_LIMIT + row] = takes;
         uses[q * PRODUCTION_LIMIT + p] = larger(uses[q * PRODUCTION_LIMIT + p], takes);
         q += 1;

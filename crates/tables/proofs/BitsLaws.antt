@@ -15,7 +15,7 @@ use Rattle.charset.proofs.BitLaws.{bit-or, bit-zero, bit-block}
 use Rattle.charset.specs.Set.{bit, wordBits}
 
 -- one bit at place b
-one-bit : (v : Bool) (b k : ℕ) → b < wordBits → bit (boolByte v * 2 ^ b % 2 ^ wordBits) k ≡ (v && (leb b k && ltb k (b + 1)))
+pub one-bit : (v : Bool) (b k : ℕ) → b < wordBits → bit (boolByte v * 2 ^ b % 2 ^ wordBits) k ≡ (v && (leb b k && ltb k (b + 1)))
 one-bit false b k l =
     let none : 0 * 2 ^ b % 2 ^ wordBits ≡ 0 = shl-exact 0 b wordBits (omega arith) (omega arith) ∙ zero-mul (2 ^ b) in
     ap (λ (x : ℕ). bit x k) none ∙ bit-zero k

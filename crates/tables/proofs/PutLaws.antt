@@ -1,7 +1,7 @@
 -- What writing changes in the tables: counts one by one, and a class among others.
-use Prim.Native.Nat.{ℕ, _+_, _*_, _/_, _%_, _≤_, _<_}
+use Prim.Native.Nat.{ℕ, _+_, _/_, _%_, _≤_, _<_}
 use mathlib.Core.Path.{_≡_, sym, _∙_, ap, subst⁻¹}
-use mathlib.Core.Bool.{Bool, false}
+use mathlib.Core.Bool.{Bool}
 use mathlib.Core.List.{List}
 use mathlib.Core.Logic.{_≢_, by-cases}
 use native.Mathlib.Omega.{arith}
@@ -77,19 +77,18 @@ module _ (counts t : List ℕ) (few : length counts ≤ productionLimit) (c : Co
 
 -- ---- a class
 
-module _ (s at : ℕ) (here : at ≡ slotAt s) (words : List ℕ) (productions : List Bool) (t₀ t₁ t : List ℕ)
-    (chars : Region (λ (k : ℕ) (v : ℕ). v ≡ getD words k 0) 0 at setWords t₀ t₁)
-    (bits : Region (λ (k : ℕ) (v : ℕ). (b : ℕ) → b < wordBits → bit v b ≡ getD productions (k * wordBits + b) false) 0 (at + setWords) productionWords t₁ t) where
+module _ (s at : ℕ) (here : at ≡ slotAt s) (words bits t₀ t₁ t : List ℕ) (wordsLong : length words ≡ setWords) (bitsLong : length bits ≡ productionWords)
+    (chars : Region (λ (k : ℕ) (v : ℕ). v ≡ getD words k 0) 0 at (length words) t₀ t₁) (productions : Region (λ (k : ℕ) (v : ℕ). v ≡ getD bits k 0) 0 (at + setWords) (length bits) t₁ t) where
   -- the words of the characters and then those of the productions
-  pub class-put : ClassPut s (has words) (λ q. getD productions q false) t₀ t
+  pub class-put : ClassPut s (has words) (has bits) t₀ t
   unfolding takesChar takesProduction has
   class-put =
       record {
-        long = bits .long ∙ chars .long;
-        charsAre = λ c l. rw (← here) (ap (λ (v : ℕ). bit v (c % wordBits)) (bits .below (at + c / wordBits) (omega arith) ∙ chars .inside (c / wordBits) (omega arith)));
-        productionsAre = λ q l. rw (← here) (bits .inside (q / wordBits) (omega arith) (q % wordBits) (omega arith) ∙ ap (λ (k : ℕ). getD productions k false) (omega arith));
-        below = λ k l. bits .below k (omega arith) ∙ chars .below k (omega arith);
-        above = λ k l. bits .above k (omega arith) ∙ chars .above k (omega arith);
+        long = productions .long ∙ chars .long;
+        charsAre = λ c l. rw (← here) (ap (λ (v : ℕ). bit v (c % wordBits)) (productions .below (at + c / wordBits) (omega arith) ∙ chars .inside (c / wordBits) (omega arith)));
+        productionsAre = λ q l. rw (← here) (ap (λ (v : ℕ). bit v (q % wordBits)) (productions .inside (q / wordBits) (omega arith)));
+        below = λ k l. productions .below k (omega arith) ∙ chars .below k (omega arith);
+        above = λ k l. productions .above k (omega arith) ∙ chars .above k (omega arith);
       }
 
 module _ (s : ℕ) (chars productions : ℕ → Bool) (t₀ t : List ℕ) (c : ClassPut s chars productions t₀ t) where

@@ -6,10 +6,10 @@ use common::wide;
 use grammar::limits::ARGUMENT_LIMIT;
 use grammar::limits::PRODUCTION_LIMIT;
 ghost use mathlib.Core.Path.{_≡_};
-ghost use mathlib.Core.Bool.{false};
-ghost use Prim.Native.Nat.{ℕ, _+_, _*_, _<_, _≤_};
+ghost use mathlib.Core.Bool.{false, not, _&&_};
+ghost use Prim.Native.Nat.{ℕ, _+_, _*_, _/_, _%_, _<_, _≤_};
 ghost use lib.ListN.{length, getD};
-ghost use Rattle.charset.specs.Set.{characters, wordBits, setWords, bit, has};
+ghost use Rattle.charset.specs.Set.{characters, wordBits, bit, has};
 ghost use Rattle.common.specs.Region.{Region};
 ghost use Rattle.common.specs.Bytes.{byteValues};
 ghost use Rattle.grammar.specs.Limits.{productionLimit};
@@ -29,7 +29,7 @@ const ROWS_AT: usize = COUNTS_AT + PRODUCTION_LIMIT;
 
 const CLASSES_AT: usize = ROWS_AT + PRODUCTION_LIMIT + 1;
 // A class has the words of its characters, and then a bit for each production.
-const PRODUCTION_WORDS: usize = PRODUCTION_LIMIT / 64;
+pub const PRODUCTION_WORDS: usize = PRODUCTION_LIMIT / 64;
 
 const CLASS_WORDS: usize = SET_WORDS + PRODUCTION_WORDS;
 // The length of the tables.
@@ -147,6 +147,14 @@ pub fn class_chars(tables: &[u64], s: usize) -> CharSet
     }
 }
 
+// The productions that may stand at slot s.
+pub fn class_productions(tables: &[u64], s: usize) -> ProductionSet
+    requires { ⌜ (length (now tables) ≡ tableWords) × (s ≤ slots) ⌝ }
+    ensures { λ r. ⌜ ((q : ℕ) → q < productionLimit → has (r .words) q ≡ takesProduction (now (tables .entry)) s q) ⌝ }
+{
+    ProductionSet::read(tables, slot_at(s) + SET_WORDS)
+}
+
 // ---- writing
 
 // Writes how many productions there are, the argument count of each, and the rows.
@@ -167,42 +175,102 @@ pub fn put_counts(tables: &mut [u64], counts: &[u8])
 }
 
 // Writes the class of slot s.
-pub fn put_class(
-    tables: &mut [u64],
-    s: usize,
-    chars: CharSet,
-    productions: [bool; PRODUCTION_LIMIT],
-)
+pub fn put_class(tables: &mut [u64], s: usize, chars: CharSet, productions: ProductionSet)
     requires { ⌜ (length (now tables) ≡ tableWords) × (s ≤ slots) ⌝ }
-    ensures { λ _. ⌜ ClassPut s (has (chars .words)) (λ q. getD productions q false) (now (tables .entry)) (now (tables .exit)) ⌝ }
+    ensures { λ _. ⌜ ClassPut s (has (chars .words)) (has (productions .words)) (now (tables .entry)) (now (tables .exit)) ⌝ }
 {
     let at = slot_at(s);
-    put_chars(tables, at, chars);
-    put_productions(tables, at + SET_WORDS, productions);
+    let characters = chars.words;
+    let numbers = productions.words;
+    put_words(tables, at, &characters);
+    put_words(tables, at + SET_WORDS, &numbers);
 }
 
-// The words of the characters.
-fn put_chars(tables: &mut [u64], at: usize, chars: CharSet)
-    requires { ⌜ at + setWords ≤ length (now tables) ⌝ }
-    ensures { λ _. ⌜ Region (λ (k : ℕ) (v : ℕ). v ≡ getD (chars .words) k 0) 0 at setWords (now (tables .entry)) (now (tables .exit)) ⌝ }
+// Copies words to a place of the tables.
+fn put_words(tables: &mut [u64], at: usize, words: &[u64])
+    requires { ⌜ at + length (now words) ≤ length (now tables) ⌝ }
+    ensures { λ _. ⌜ Region (λ (k : ℕ) (v : ℕ). v ≡ getD (now (words .entry)) k 0) 0 at (length (now (words .entry))) (now (tables .entry)) (now (tables .exit)) ⌝ }
 {
-    let words = chars.words;
     let mut k = 0;
-    while k < SET_WORDS {
+    while k < words.len() {
         tables[at + k] = words[k];
         k += 1;
     }
 }
 
-// The words of the productions.
-fn put_productions(tables: &mut [u64], at: usize, productions: [bool; PRODUCTION_LIMIT])
-    requires { ⌜ at + productionWords ≤ length (now tables) ⌝ }
-    ensures { λ _. ⌜ Region (λ (k : ℕ) (v : ℕ). ((b : ℕ) → b < wordBits → bit v b ≡ getD productions (k * wordBits + b) false)) 0 at productionWords (now (tables .entry)) (now (tables .exit)) ⌝ }
-{
-    let mut k = 0;
-    while k < PRODUCTION_WORDS {
-        tables[at + k] = production_word(productions, k);
-        k += 1;
+// ---- sets of productions
+
+// A bit for each production.
+pub struct ProductionSet {
+    pub words: [u64; PRODUCTION_WORDS],
+}
+
+impl ProductionSet {
+    pub fn empty() -> Self
+        ensures { λ r. ⌜ ((q : ℕ) → q < productionLimit → has (r .words) q ≡ false) ⌝ }
+    {
+        ProductionSet {
+            words: [0; PRODUCTION_WORDS],
+        }
+    }
+
+    pub fn contains(self, q: usize) -> bool
+        requires { ⌜ q < productionLimit ⌝ }
+        ensures { λ r. ⌜ r ≡ has (self .words) q ⌝ }
+    {
+        let words = self.words;
+        (words[q / 64] >> (q % 64)) % 2 == 1
+    }
+
+    // The productions whose entry of the row is set.
+    pub fn of(row: [bool; PRODUCTION_LIMIT]) -> Self
+        ensures { λ r. ⌜ ((q : ℕ) → q < productionLimit → has (r .words) q ≡ getD row q false) ⌝ }
+    {
+        let mut words = [0; PRODUCTION_WORDS];
+        let mut k = 0;
+        while k < PRODUCTION_WORDS {
+            words[k] = production_word(row, k);
+            k += 1;
+        }
+        ProductionSet { words }
+    }
+
+    // The set whose words stand at `at`.
+    pub fn read(words: &[u64], at: usize) -> Self
+        requires { ⌜ at + productionWords ≤ length (now words) ⌝ }
+        ensures { λ r. ⌜ ((q : ℕ) → q < productionLimit → has (r .words) q ≡ bit (getD (now (words .entry)) (at + q / wordBits) 0) (q % wordBits)) ⌝ }
+    {
+        let mut own = [0; PRODUCTION_WORDS];
+        let mut k = 0;
+        while k < PRODUCTION_WORDS {
+            own[k] = words[at + k];
+            k += 1;
+        }
+        ProductionSet { words: own }
+    }
+
+    // The set without the others, if these are barred.
+    pub fn without(self, barred: bool, others: ProductionSet) -> Self
+        ensures { λ r. ⌜ ((q : ℕ) → q < productionLimit → has (r .words) q ≡ (has (self .words) q && not (barred && has (others .words) q))) ⌝ }
+    {
+        if !barred {
+            return self;
+        }
+        self.minus(others)
+    }
+
+    fn minus(self, others: ProductionSet) -> Self
+        ensures { λ r. ⌜ ((q : ℕ) → q < productionLimit → has (r .words) q ≡ (has (self .words) q && not (has (others .words) q))) ⌝ }
+    {
+        let own = self.words;
+        let taken = others.words;
+        let mut words = [0; PRODUCTION_WORDS];
+        let mut k = 0;
+        while k < PRODUCTION_WORDS {
+            words[k] = own[k] ^ (own[k] & taken[k]);
+            k += 1;
+        }
+        ProductionSet { words }
     }
 }
 

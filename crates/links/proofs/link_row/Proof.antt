@@ -1,8 +1,7 @@
 -- `link_row` meets its contract: the productions below q are linked.
 use Prim.Native.Nat.{ℕ, _-_, _≤_}
-use mathlib.Core.Path.{_≡_, subst, ap}
+use mathlib.Core.Path.{_≡_, _∙_, ap, subst}
 use native.Mathlib.Omega.{arith}
-use borrow.Author.Needs.{needs}
 use Rattle.common.specs.Below.{bitOf}
 use Rattle.links.proofs.RowLaws.{row-none, row-more}
 use Rattle.links.specs.Linked.{RowLinked}
@@ -11,18 +10,21 @@ use Rattle.links.proofs.link_row.Statement.{statement}
 use Rattle.links.proofs.link_row.Tie as tie
 
 abbrev Inv-loop : tie.InvT-loop
-Inv-loop tables count s row p users₀ uses₀ q₀ users uses q = RowLinked tables s row p q users₀ uses₀ users uses × (q ≤ count)
+Inv-loop tables count s row p users₀ uses₀ taken q₀ users uses q = RowLinked tables s row p q users₀ uses₀ users uses × (q ≤ count)
 
 abbrev μ-loop : tie.MeasureT-loop
-μ-loop tables count s row p users₀ uses₀ q₀ users uses q = count - q
+μ-loop tables count s row p users₀ uses₀ taken q₀ users uses q = count - q
+
+class-productions-requires : tie.Need-class-productions-requires Inv-loop μ-loop
+class-productions-requires c κs = (c .before .before .before .pre .0, omega arith)
 
 loop-holds : tie.Need-loop-holds Inv-loop μ-loop
 loop-holds c =
-    let start = c .before .before .before in
+    let start = c .before .before .before .before in
     (row-none (start .args .tables .now) (start .args .s) (start .args .row) (start .args .p) (start .args .users .now) (start .args .uses .now), omega arith)
 
-takes-production-requires : tie.Need-takes-production-requires Inv-loop μ-loop
-takes-production-requires c κs = search needs
+contains-requires : tie.Need-contains-requires Inv-loop μ-loop
+contains-requires c κs = omega arith
 
 cast-takes : tie.Need-cast-takes Inv-loop μ-loop
 cast-takes c = omega arith
@@ -66,10 +68,10 @@ loop-less c = omega arith
 loop-again : tie.Need-loop-again Inv-loop μ-loop
 unfolding userAt useAt
 loop-again c =
-    let start = c .before .before .before .before .before .before .before .before in
+    let start = c .before .before .before .before .before .before .before .before .before in
     let turn = c .before .before .before .before .loop in
-    let takes-production = c .before .before .takes-production in
-    (row-more (start .args .tables .now) (start .args .s) (start .args .row) (start .args .p) (start .args .users .now) (start .args .uses .now) (turn .q) (turn .users) (turn .uses) (bitOf (takes-production .result)) (c .larger .result) (ap bitOf (takes-production .ensures)) (omega arith) (omega arith) (omega arith) (c .larger .ensures) (turn .inv .0), omega arith)
+    let contains = c .before .before .contains in
+    (row-more (start .args .tables .now) (start .args .s) (start .args .row) (start .args .p) (start .args .users .now) (start .args .uses .now) (turn .q) (turn .users) (turn .uses) (bitOf (contains .result)) (c .larger .result) (ap bitOf (contains .ensures ∙ c .before .before .before .before .before .class-productions .ensures (turn .q) (omega (arith, c .before .before .before .loop-test .taken)))) (omega arith) (omega arith) (omega arith) (c .larger .ensures) (turn .inv .0), omega arith)
 
 same-length : tie.Need-same-length Inv-loop μ-loop
 same-length c = c .before .loop .inv .0 .usersLong
@@ -79,7 +81,7 @@ same-length-2 c = c .before .loop .inv .0 .usesLong
 
 returns : tie.Need-returns Inv-loop μ-loop
 returns c =
-    let start = c .before .before .before .before .before in
+    let start = c .before .before .before .before .before .before in
     let e : c .before .loop .q ≡ start .args .count = omega arith in subst (λ (n : ℕ). RowLinked (start .args .tables .now) (start .args .s) (start .args .row) (start .args .p) n (start .args .users .now) (start .args .uses .now) (c .before .loop .users) (c .before .loop .uses)) e (c .before .loop .inv .0)
 
 pub link-row-spec : {M : Type 1} → statement M
@@ -88,8 +90,9 @@ link-row-spec =
     (tie.spec
     Inv-loop
     μ-loop
+    class-productions-requires
     loop-holds
-    takes-production-requires
+    contains-requires
     cast-takes
     mul-users
     add-users

@@ -1,14 +1,13 @@
 -- `write_counts_and_root` meets its contract: the counts are written, and then the class of the root.
 use Prim.Native.Nat.{ℕ, _+_, _-_}
 use mathlib.Core.Path.{_≡_, _∙_, subst}
-use mathlib.Core.Bool.{false}
 use native.Mathlib.Omega.{arith}
-use lib.ListN.{length, take, drop, replicate, getD-replicate}
+use lib.ListN.{length, take, drop}
 use borrow.Author.Needs.{needs}
-use Rattle.ccg.proofs.TableLaws.{stands-at-root, written-none}
+use Rattle.ccg.proofs.TableLaws.{has-result, written-none}
 use Rattle.grammar.proofs.FormedLaws.{bodies-in}
-use Rattle.grammar.specs.Layout.{productions}
-use Rattle.grammar.specs.Limits.{productionLimit, headerLength}
+use Rattle.grammar.specs.Layout.{productions, startSort}
+use Rattle.grammar.specs.Limits.{headerLength}
 use Rattle.tables.specs.Put.{CountsPut}
 use Rattle.ccg.proofs.flat.write_counts_and_root.Statement.{statement}
 use Rattle.ccg.proofs.flat.write_counts_and_root.Tie as tie
@@ -36,11 +35,11 @@ put-counts-requires c κs = search needs
 empty-requires : tie.Need-empty-requires
 empty-requires c κs = search needs
 
-shared-slice-read-standing : tie.Need-shared-slice-read-standing
-shared-slice-read-standing c = search needs
+shared-slice-read-with-result : tie.Need-shared-slice-read-with-result
+shared-slice-read-with-result c = search needs
 
-standing-requires : tie.Need-standing-requires
-standing-requires c κs = search needs
+with-result-requires : tie.Need-with-result-requires
+with-result-requires c κs = search needs
 
 put-class-requires : tie.Need-put-class-requires
 put-class-requires c κs = search needs
@@ -56,7 +55,7 @@ returns c =
     let b = start .args .book .now in
     let e : headerLength + production-count .result - headerLength ≡ productions b = omega (arith, production-count .ensures) in
     written-none b (start .pre .0) _ _ _ _ (c .before .before .put-class .ensures) (c .before .before .before .before .before .empty .ensures)
-    (λ q l. c .before .before .before .standing .ensures q l ∙ stands-at-root b (start .pre .0) (start .args .results) (start .pre .1 .0) q l (replicate productionLimit false) (getD-replicate productionLimit q false false l))
+    (λ q l. c .before .before .before .with-result .ensures q l ∙ has-result b (start .pre .0) (start .args .sets) (start .pre .1 .0) q l (startSort b))
     (subst (λ (n : ℕ). CountsPut (take n (drop headerLength b)) (length (take n (drop headerLength b))) (put-counts .last .0)) e (put-counts .ensures))
 
 pub write-counts-and-root-spec : {M : Type 1} → statement M
@@ -70,8 +69,8 @@ write-counts-and-root-spec =
     part-put-counts-end
     put-counts-requires
     empty-requires
-    shared-slice-read-standing
-    standing-requires
+    shared-slice-read-with-result
+    with-result-requires
     put-class-requires
     same-length
     returns)

@@ -1,19 +1,17 @@
 -- `write_production` meets its contract: the classes of the arguments passed are written.
 use Prim.Native.Nat.{ℕ, _+_, _-_, _≤_, _<_}
-use mathlib.Core.Path.{_≡_, sym, _∙_, ap, subst}
-use mathlib.Core.Bool.{false, _&&_}
+use mathlib.Core.Bool.{_&&_}
 use mathlib.Core.List.{List}
+use mathlib.Core.Path.{_≡_, sym, _∙_, ap, subst}
 use native.Mathlib.Omega.{arith}
 use lib.ListN.{getD}
-use borrow.Author.Needs.{needs}
-use Rattle.ccg.proofs.TableLaws.{barred-row, stands-at-argument, written-more, written-next}
+use Rattle.ccg.proofs.TableLaws.{barred-set, stands-at-argument, written-more, written-next}
 use Rattle.ccg.specs.Tables.{WrittenBelow}
 use Rattle.grammar.proofs.ClassesLaws.{argument-below}
 use Rattle.grammar.proofs.FormedLaws.{production-in, bodies-in}
 use Rattle.grammar.specs.Classes.{isClass, classHas}
 use Rattle.grammar.specs.Layout.{argumentCount, productionAt, argument}
 use Rattle.grammar.specs.Limits.{classBase}
-use Rattle.priority.specs.Conflict.{barred}
 use Rattle.tables.specs.Layout.{slot}
 use Rattle.ccg.proofs.flat.write_production.Statement.{statement}
 use Rattle.ccg.proofs.flat.write_production.Tie as tie
@@ -23,10 +21,10 @@ unfolding argument
 argument-read b p i at x e f = f ∙ ap (λ (a : ℕ). getD b (a + 1 + i) 0) e
 
 abbrev Inv-loop : tie.InvT-loop
-Inv-loop book p at above firsts lasts results tables₀ count i₀ tables i = WrittenBelow book (slot p i) tables × (i ≤ count)
+Inv-loop book p at above firsts lasts sets tables₀ count i₀ tables i = WrittenBelow book (slot p i) tables × (i ≤ count)
 
 abbrev μ-loop : tie.MeasureT-loop
-μ-loop book p at above firsts lasts results tables₀ count i₀ tables i = count - i
+μ-loop book p at above firsts lasts sets tables₀ count i₀ tables i = count - i
 
 argument-count-requires : tie.Need-argument-count-requires Inv-loop μ-loop
 argument-count-requires c κs =
@@ -51,33 +49,33 @@ shared-slice-read-x c =
     let start = c .before .before .before .before .before .before in
     omega (arith, c .before .before .before .argument-count .ensures, start .pre .1 .0 .1, production-in (start .args .book .now) (start .pre .0 .framed) (start .args .p) (start .pre .1 .0 .0))
 
-barred-at-requires : tie.Need-barred-at-requires Inv-loop μ-loop
-barred-at-requires c κs = search needs
+with-result-requires : tie.Need-with-result-requires Inv-loop μ-loop
+with-result-requires c κs = tt
+
+standing-requires : tie.Need-standing-requires Inv-loop μ-loop
+standing-requires c κs = omega (arith, c .before .before .loop-test .taken)
 
 mul-put-class : tie.Need-mul-put-class Inv-loop μ-loop
 mul-put-class c =
-    let start = c .before .before .before .before .before .before .before .before in
-    omega (arith, c .before .before .before .before .before .argument-count .ensures, start .pre .0 .framed .fewProductions, start .pre .0 .framed .fewArguments (start .args .p) (start .pre .1 .0 .0))
+    let start = c .before .before .before .before .before .before .before .before .before in
+    omega (arith, c .before .before .before .before .before .before .argument-count .ensures, start .pre .0 .framed .fewProductions, start .pre .0 .framed .fewArguments (start .args .p) (start .pre .1 .0 .0))
 
 add-put-class : tie.Need-add-put-class Inv-loop μ-loop
 add-put-class c =
-    let start = c .before .before .before .before .before .before .before .before in
-    omega (arith, c .before .before .before .before .before .argument-count .ensures, start .pre .0 .framed .fewProductions, start .pre .0 .framed .fewArguments (start .args .p) (start .pre .1 .0 .0))
+    let start = c .before .before .before .before .before .before .before .before .before in
+    omega (arith, c .before .before .before .before .before .before .argument-count .ensures, start .pre .0 .framed .fewProductions, start .pre .0 .framed .fewArguments (start .args .p) (start .pre .1 .0 .0))
 
 wide-requires : tie.Need-wide-requires Inv-loop μ-loop
 wide-requires c κs = tt
 
 argument-set-requires : tie.Need-argument-set-requires Inv-loop μ-loop
 argument-set-requires c κs =
-    let start = c .before .before .before .before .before .before .before .before .before in
-    let turn = c .before .before .before .before .before .loop in
+    let start = c .before .before .before .before .before .before .before .before .before .before in
+    let turn = c .before .before .before .before .before .before .loop in
     let b = start .args .book .now in
-    let li : turn .i < argumentCount b (start .args .p) = omega (arith, c .before .before .before .before .before .before .argument-count .ensures) in
+    let li : turn .i < argumentCount b (start .args .p) = omega (arith, c .before .before .before .before .before .before .before .argument-count .ensures) in
     let x = argument-read b (start .args .p) (turn .i) (start .args .at) (c .wide .result) (start .pre .1 .0 .1) (c .wide .ensures) in
     (start .pre .0, omega (arith, argument-below b (start .pre .0) (start .args .p) (turn .i) (start .pre .1 .0 .0) li))
-
-standing-requires : tie.Need-standing-requires Inv-loop μ-loop
-standing-requires c κs = tt
 
 put-class-requires : tie.Need-put-class-requires Inv-loop μ-loop
 put-class-requires c κs =
@@ -96,17 +94,16 @@ loop-again c =
     let start = c .before .before .before .before .before .before .before .before .before .before .before .before .before .before in
     let turn = c .before .before .before .before .before .before .before .before .before .before .loop in
     let argument-count = c .before .before .before .before .before .before .before .before .before .before .before .argument-count in
-    let wide = c .before .before .before .before .before .wide in
-    let barred-at = c .before .before .before .before .before .before .before .barred-at in
+    let wide = c .before .before .before .before .wide in
     let b = start .args .book .now in
     let p = start .args .p in
     let i = turn .i in
     let li : i < argumentCount b p = omega (arith, argument-count .ensures, c .before .before .before .before .before .before .before .before .before .loop-test .taken) in
     let x = argument-read b p i (start .args .at) (wide .result) (start .pre .1 .0 .1) (wide .ensures) in
-    let bars : (q : ℕ) → getD (barred-at .result) q false ≡ barred b p i q = λ q. barred-at .ensures q ∙ barred-row b p i (argument-count .result) (start .args .above) (start .args .firsts) (start .args .lasts) (start .pre .1 .1 .0) (argument-count .ensures) q in (
+    let bars = barred-set b p i (argument-count .result) (start .args .above .words) (start .args .firsts .words) (start .args .lasts .words) (start .pre .1 .1 .0) (argument-count .ensures) in (
       written-more b (start .pre .0) p i (start .pre .1 .0 .0) li _ _ _ _ (c .before .before .put-class .ensures)
-          (λ z l. c .before .before .before .before .argument-set .ensures z l ∙ ap (λ (y : ℕ). isClass b y && classHas b (y - classBase) z) x)
-          (λ q l. c .before .before .before .standing .ensures q l ∙ stands-at-argument b (start .pre .0) (start .args .results) (start .pre .1 .1 .1 .0) q l p i (start .pre .1 .0 .0) li _ (barred-at .result) (sym (wide .ensures) ∙ x) (bars q))
+          (λ z l. c .before .before .before .argument-set .ensures z l ∙ ap (λ (y : ℕ). isClass b y && classHas b (y - classBase) z) x)
+          (λ q l. c .before .before .before .before .before .before .standing .ensures q l ∙ rw (c .before .before .before .before .before .before .before .with-result .ensures q l, bars q l) (stands-at-argument b (start .pre .0) (start .args .sets) (start .pre .1 .1 .1 .0) q l p i (start .pre .1 .0 .0) li _ (sym (wide .ensures) ∙ x)))
           (turn .inv .0),
       omega arith,
     )
@@ -132,12 +129,12 @@ write-production-spec =
     add-x
     add-x-2
     shared-slice-read-x
-    barred-at-requires
+    with-result-requires
+    standing-requires
     mul-put-class
     add-put-class
     wide-requires
     argument-set-requires
-    standing-requires
     put-class-requires
     add-i
     loop-less

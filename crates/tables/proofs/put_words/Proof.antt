@@ -1,34 +1,33 @@
--- `put_chars` meets its contract: the places below k hold the words.
+-- `put_words` meets its contract: the places below k hold the words.
 use Prim.Native.Nat.{ℕ, _-_, _≤_}
 use mathlib.Core.List.{List}
 use mathlib.Core.Path.{_≡_, refl, subst}
 use native.Mathlib.Omega.{arith}
-use lib.ListN.{getD}
-use Rattle.charset.specs.Set.{setWords}
+use lib.ListN.{length, getD}
 use Rattle.common.proofs.RegionLaws.{region-none, region-more}
 use Rattle.common.specs.Region.{Region}
-use Rattle.tables.proofs.put_chars.Statement.{statement}
-use Rattle.tables.proofs.put_chars.Tie as tie
+use Rattle.tables.proofs.put_words.Statement.{statement}
+use Rattle.tables.proofs.put_words.Tie as tie
 
 Word : List ℕ → ℕ → ℕ → Type 0
 Word words k v = v ≡ getD words k 0
 
 abbrev Inv-loop : tie.InvT-loop
-Inv-loop tables₀ at words k₀ tables k = Region (Word words) 0 at k tables₀ tables × (k ≤ setWords)
+Inv-loop tables₀ at words k₀ tables k = Region (Word words) 0 at k tables₀ tables × (k ≤ length words)
 
 abbrev μ-loop : tie.MeasureT-loop
-μ-loop tables₀ at words k₀ tables k = setWords - k
+μ-loop tables₀ at words k₀ tables k = length words - k
 
 loop-holds : tie.Need-loop-holds Inv-loop μ-loop
 loop-holds c =
-    let start = c .before in
-    (region-none (Word (start .args .chars .words)) 0 (start .args .at) (start .args .tables .now), omega arith)
+    let start = c in
+    (region-none (Word (start .args .words .now)) 0 (start .args .at) (start .args .tables .now), omega arith)
 
 mul-tables : tie.Need-mul-tables Inv-loop μ-loop
 mul-tables c = omega arith
 
-array-read-tables : tie.Need-array-read-tables Inv-loop μ-loop
-array-read-tables c = omega arith
+shared-slice-read-tables : tie.Need-shared-slice-read-tables Inv-loop μ-loop
+shared-slice-read-tables c = omega arith
 
 add-tables : tie.Need-add-tables Inv-loop μ-loop
 add-tables c = omega arith
@@ -37,7 +36,7 @@ mul-tables-2 : tie.Need-mul-tables-2 Inv-loop μ-loop
 mul-tables-2 c = omega arith
 
 slice-write-tables : tie.Need-slice-write-tables Inv-loop μ-loop
-slice-write-tables c = omega arith
+slice-write-tables c = omega (arith, c .before .before .loop .inv .0 .long)
 
 add-k : tie.Need-add-k Inv-loop μ-loop
 add-k c = omega arith
@@ -49,7 +48,8 @@ loop-again : tie.Need-loop-again Inv-loop μ-loop
 unfolding Word
 loop-again c =
     let start = c .before .before .before in
-    (region-more (Word (start .args .chars .words)) 0 (start .args .at) (start .args .tables .now) (c .before .loop .k) (c .before .loop .tables) _ (omega arith) (c .before .loop .inv .0) refl, omega arith)
+    let turn = c .before .before .loop in
+    (region-more (Word (start .args .words .now)) 0 (start .args .at) (start .args .tables .now) (turn .k) (turn .tables) _ (omega arith) (turn .inv .0) refl, omega arith)
 
 same-length : tie.Need-same-length Inv-loop μ-loop
 same-length c = c .before .loop .inv .0 .long
@@ -57,19 +57,19 @@ same-length c = c .before .loop .inv .0 .long
 returns : tie.Need-returns Inv-loop μ-loop
 unfolding Word
 returns c =
-    let start = c .before .before .before in
-    let e : c .before .loop .k ≡ setWords = omega arith in
-    subst (λ (n : ℕ). Region (Word (start .args .chars .words)) 0 (start .args .at) n (start .args .tables .now) (c .before .loop .tables)) e (c .before .loop .inv .0)
+    let start = c .before .before in
+    let e : c .before .loop .k ≡ length (start .args .words .now) = omega arith in
+    subst (λ (n : ℕ). Region (Word (start .args .words .now)) 0 (start .args .at) n (start .args .tables .now) (c .before .loop .tables)) e (c .before .loop .inv .0)
 
-pub put-chars-spec : {M : Type 1} → statement M
-put-chars-spec =
+pub put-words-spec : {M : Type 1} → statement M
+put-words-spec =
     tie.close
     (tie.spec
     Inv-loop
     μ-loop
     loop-holds
     mul-tables
-    array-read-tables
+    shared-slice-read-tables
     add-tables
     mul-tables-2
     slice-write-tables
