@@ -9,7 +9,7 @@ use native.Mathlib.Decide.{decLe, decLt}
 use native.Mathlib.Nat.{mul-assoc, not-le-of-lt, div-eq-of-lt}
 use lib.Dec.{leb, ltb, eqb}
 use lib.ListN.{getD}
-use lib.Pow.{pow-pos, pow-mono, pow-add, shl-exact, shl-shr, shr-shr, high as high-part, ones-lt, ones-split}
+use lib.Pow.{pow-pos, pow-mono, pow-add, field, mod-mod-pow, shl-exact, shl-shr, shr-shr, high as high-part, ones-lt, ones-split}
 use lib.Bits.{bitAnd, bitOr, bitXor, differ, and-step, or-step, xor-step, and-shr, or-shr, xor-shr}
 use borrow.Author.Tests.{lt-ltb, le-ltb, le-leb, lt-leb}
 use Rattle.charset.specs.Set.{characters, wordBits, setWords, bit, has, inRange}
@@ -63,6 +63,16 @@ unfolding bit
 bit-zero b =
     let z : 0 / 2 ^ b ≡ 0 = div-eq-of-lt (pow-pos b) in
     rw z refl
+
+-- bit b of the n bits from `from` on
+pub bit-part : (word from n b : ℕ) → b < n → bit (word / 2 ^ from % 2 ^ n) b ≡ bit word (from + b)
+unfolding bit
+bit-part word from n b l =
+    let j = n - suc b in
+    let wide : n ≡ j + 1 + b = omega arith in
+    let part : word / 2 ^ from % 2 ^ n / 2 ^ b ≡ word / 2 ^ (from + b) % 2 ^ (j + 1) =
+    ap (λ (m : ℕ). word / 2 ^ from % 2 ^ m / 2 ^ b) wide ∙ field (word / 2 ^ from) (j + 1) b ∙ ap (λ (m : ℕ). m % 2 ^ (j + 1)) (shr-shr word from b) in
+    ap (λ (m : ℕ). eqb (m % 2) 1) part ∙ ap (λ (m : ℕ). eqb m 1) (mod-mod-pow (word / 2 ^ (from + b)) j 1)
 
 -- ---- a block of k ones above lo zeros
 

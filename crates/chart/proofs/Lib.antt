@@ -3,3 +3,4 @@ pub mod LayoutLaws
 pub mod ByEndsLaws
 pub mod TurnLaws
 pub mod CountedLaws
+pub mod RowsLaws

@@ -2,3 +2,4 @@
 pub mod Layout
 pub mod ByEnds
 pub mod Counted
+pub mod Rows

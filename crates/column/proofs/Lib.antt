@@ -1,5 +1,4 @@
 -- Laws of a column.
 
 pub mod ScatteredLaws
-pub mod RowsLaws
 pub mod SumsLaws

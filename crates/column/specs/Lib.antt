@@ -1,4 +1,3 @@
 -- What the contracts of a column cite.
 pub mod Sums
 pub mod Scattered
-pub mod Rows

@@ -22,7 +22,7 @@ ghost use Rattle.chart.specs.Layout.{textLimit, places, rowLimit, spanCount, en
 ghost use Rattle.chart.specs.ByEnds.{placeAt};
 ghost use Rattle.column.specs.Sums.{ColumnCleared, RowAdded, SplitsAdded};
 ghost use Rattle.column.specs.Scattered.{Scattered};
-ghost use Rattle.column.specs.Rows.{RowsFilled};
+ghost use Rattle.chart.specs.Rows.{RowsFilled};
 
 // The length of the table of sums of a column.
 pub const SUMS: usize = ROW_LIMIT * PLACES;

@@ -11,7 +11,9 @@ use Rattle.tables.specs.Layout.{slot, takesChar, arityIn, rowCount}
 use Rattle.chart.proofs.LayoutLaws.{row-in, rows-few}
 use Rattle.chart.specs.Layout.{places, rowLimit, rowOf}
 use Rattle.chart.specs.ByEnds.{placeAt}
-use Rattle.column.specs.Rows.{RowsFilled}
+use Rattle.chart.proofs.RowsLaws.{rows-small}
+use Rattle.chart.specs.Rows.{RowsFilled}
+use Rattle.theory.proofs.SoundLaws.{bit-small}
 use Rattle.column.specs.Scattered.{Scattered}
 use Rattle.column.specs.Sums.{SplitsAdded}
 use Rattle.common.specs.Below.{bitOf}
@@ -39,12 +41,12 @@ zero-exact counts users inner front back args cells z =
       );
     }
 
-pub zero-founded : (v : ℕ → ℕ → ℕ) (counts users inner front back args cells : List ℕ) → RowsFilled v counts (length counts) args → AllZero rowLimit cells
+pub zero-founded : (v : ℕ → ℕ → Bool) (counts users inner front back args cells : List ℕ) → RowsFilled (λ (p d : ℕ). bitOf (v p d)) counts (length counts) args → AllZero rowLimit cells
     → Founded counts users inner front back args cells
 zero-founded v counts users inner front back args cells r z =
     record {
       bare = λ k. getD args k 0;
-      little = r .small;
+      little = rows-small (λ (p d : ℕ). bitOf (v p d)) counts 1 (length counts) args (λ p d. bit-small (v p d)) r;
       small = λ k. omega (arith, z .zeros k);
       agree = zero-exact counts users inner front back args cells z;
     }

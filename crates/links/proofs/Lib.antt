@@ -1,3 +1,2 @@
 -- Laws of the links.
-pub mod RowLaws
 pub mod LinkedLaws

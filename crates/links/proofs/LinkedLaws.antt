@@ -1,121 +1,209 @@
--- Laws of the tables of users and uses, written row by row.
-use Prim.Native.Nat.{ℕ, _+_, _≤_, _<_}
-use mathlib.Core.Path.{_≡_, _∙_, ap}
+-- Laws of the tables of users and uses, written an octet of productions at a time.
+use Prim.Native.Nat.{ℕ, suc, _+_, _-_, _*_, max, _≤_, _<_}
+use mathlib.Core.Path.{_≡_, refl, sym, _∙_, ap, subst, subst⁻¹}
+use mathlib.Core.Bool.{Bool, true, false, _||_}
 use mathlib.Core.List.{List}
-use mathlib.Core.Logic.{by-cases}
+use mathlib.Core.Logic.{by-cases, inl, inr}
 use native.Mathlib.Omega.{arith}
-use native.Mathlib.Decide.{decLt}
-use lib.ListN.{length, getD}
-use Rattle.tables.specs.Layout.{slot, takesProduction, arityIn, rowCount}
-use Rattle.chart.proofs.LayoutLaws.{row-in, row-below, row-next, row-same, row-shift}
-use Rattle.chart.specs.Layout.{rowLimit, rowOf}
-use Rattle.common.specs.Below.{sumBelow, bitOf}
+use native.Mathlib.Decide.{ℕ-discrete, decLt}
+use native.Mathlib.Nat.{mul-le-mul-right}
+use lib.Bits.{bitOr}
+use lib.ListN.{length, getD, set, length-set}
+use lib.Seq.{getD-set-same, getD-set-other}
+use Rattle.charset.proofs.BitLaws.{bit-or, bit-zero}
+use Rattle.charset.specs.Set.{bit}
+use Rattle.common.proofs.BoolLaws.{or-first, or-second, true-or-false}
+use Rattle.common.specs.Below.{bitOf}
+use Rattle.common.specs.Region.{Region}
 use Rattle.common.specs.Zeros.{AllZero}
 use Rattle.grammar.specs.Limits.{productionLimit, argumentLimit}
-use Rattle.links.specs.Linked.{RowLinked, LinkedTo}
+use Rattle.tables.proofs.LayoutLaws.{octet-bit}
+use Rattle.tables.specs.Layout.{slot, takesProduction, arityIn, rowCount, octetBits, productionOctet}
+use Rattle.chart.proofs.LayoutLaws.{row-below}
+use Rattle.chart.specs.Layout.{rowLimit, rowOf}
+use Rattle.chart.specs.Rows.{RowsFilled}
+use Rattle.links.specs.Linked.{Joined, UsedOctets, BitsTurned, UsersTo, UsesTo}
 use Rattle.span.specs.Tables.{userAt, useAt, userBytes, useBytes, Links, UsersAre}
+use Rattle.theory.proofs.SoundLaws.{bit-small}
+
+-- ---- octets
+
+module _ (tables : List ℕ) (p k : ℕ) where
+  pub joined-none : (v : ℕ) → Joined tables p k 0 v
+  joined-none v = record { all = λ d b l h. absurd (omega arith) }
+
+  pub joined-more : (n v : ℕ) → Joined tables p k n v → Joined tables p k (n + 1) (bitOr v (productionOctet tables (slot p n) k))
+  joined-more n v j =
+      record {
+        all = λ d b l h. bit-or v (productionOctet tables (slot p n) k) b ∙ elim (ℕ-discrete d n) [
+          | yes e ↦ or-second (bit v b) (bit (productionOctet tables (slot p n) k) b) (subst (λ (x : ℕ). bit (productionOctet tables (slot p x) k) b ≡ true) e h)
+          | no e ↦ or-first (bit v b) (bit (productionOctet tables (slot p n) k) b) (j .all d b (by-cases (decLt d n) (λ m. m) (λ m. absurd (e (omega arith)))) h)
+        ];
+      }
+
+module _ (counts tables : List ℕ) (k : ℕ) where
+  pub used-none : (l : List ℕ) → length l ≡ productionLimit → UsedOctets counts tables k 0 l
+  used-none l e = record { long = e; here = λ p o. absurd (omega arith) }
+
+  pub used-more : (n v : ℕ) (l : List ℕ) → n < productionLimit → UsedOctets counts tables k n l → Joined tables n k (arityIn counts n) v → UsedOctets counts tables k (n + 1) (set l n v)
+  used-more n v l o u j =
+      record {
+        long = length-set l n v ∙ u .long;
+        here = λ p h. elim (ℕ-discrete p n) [
+          | yes e ↦ subst⁻¹ (λ (x : ℕ). Joined tables x k (arityIn counts x) (getD (set l n v) x 0)) e (subst⁻¹ (Joined tables n k (arityIn counts n)) (getD-set-same l n v 0 (omega (arith, u .long))) j)
+          | no e ↦ subst⁻¹ (Joined tables p k (arityIn counts p)) (getD-set-other l n p v 0 e) (u .here p (by-cases (decLt p n) (λ m. m) (λ m. absurd (e (omega arith)))))
+        ];
+      }
+
+-- ---- turned round
+
+-- the entries of one row stand before the next
+row-under : (a b w r : ℕ) → a < b → r < w → a * w + r < b * w
+row-under a b w r l h =
+    let next : (a + 1) * w ≤ b * w = mul-le-mul-right w (omega arith) in
+    omega arith
+
+module _ (octets : List ℕ) (from : ℕ) (out : List ℕ) where
+  pub turned-none : BitsTurned octets from 0 out out
+  turned-none = record { long = refl; bits = λ i. omega arith; turned = λ b r l h. absurd (omega arith); before = λ i l. refl }
+
+  -- one row more
+  module _ (n : ℕ) (out₁ out₂ : List ℕ) (t : BitsTurned octets from n out out₁)
+      (r : Region (λ (i v : ℕ). v ≡ bitOf (bit (getD octets i 0) n)) 0 ((from + n) * length octets) (length octets) out₁ out₂) where
+    base : ℕ
+    base = (from + n) * length octets
+
+    still-bits : (i : ℕ) → getD out₂ i 0 ≤ max 1 (getD out i 0)
+    unfolding base
+    still-bits i =
+        by-cases (decLt i base)
+        (λ l. omega (arith, r .below i l, t .bits i))
+        (λ l. by-cases (decLt i (base + length octets))
+        (λ h. let e : base + (i - base) ≡ i = omega arith in
+        omega (arith, subst (λ (x : ℕ). getD out₂ x 0 ≡ bitOf (bit (getD octets (i - base) 0) n)) e (r .inside (i - base) (omega arith)), bit-small (bit (getD octets (i - base) 0) n)))
+        (λ h. omega (arith, r .above i (omega arith), t .bits i)))
+
+    pub turned-more : BitsTurned octets from (n + 1) out out₂
+    unfolding base
+    turned-more =
+        record {
+          long = r .long ∙ t .long;
+          bits = still-bits;
+          turned = λ b i l h. elim (ℕ-discrete b n) [
+            | yes e ↦ subst⁻¹ (λ (x : ℕ). getD out₂ ((from + x) * length octets + i) 0 ≡ bitOf (bit (getD octets i 0) x)) e (r .inside i h)
+            | no e ↦ let m : b < n = by-cases (decLt b n) (λ k. k) (λ k. absurd (e (omega arith))) in
+                r .below ((from + b) * length octets + i) (row-under (from + b) (from + n) (length octets) i (omega arith) h) ∙ t .turned b i m h
+          ];
+          before = λ i l. r .below i (omega (arith, mul-le-mul-right {m = from} {n = from + n} (length octets) (omega arith))) ∙ t .before i l;
+        }
+
+-- ---- users and uses
 
 module _ (counts tables : List ℕ) where
-  -- before the first row
-  pub linked-none : (users uses : List ℕ) → AllZero userBytes users → AllZero useBytes uses → LinkedTo counts tables (rowOf (arityIn counts) 0 0) users uses
-  unfolding rowOf sumBelow
-  linked-none users uses z y =
+  pub users-none : (users : List ℕ) → AllZero userBytes users → UsersTo counts tables 0 users
+  users-none users z =
       record {
-        usersLong = z .long;
-        usesLong = y .long;
-        bits = λ k. omega (arith, z .zeros k);
-        takes = λ p d q l h m b. absurd (omega arith);
-        used = λ p d q l h m b. absurd (omega arith);
-        later = λ q r l h. z .zeros (userAt q r);
+        long = z .long;
+        bits = λ i. omega (arith, z .zeros i);
+        takes = λ p d q l h m. absurd (omega arith);
+        outside = λ q r m b l. absurd (omega arith);
       }
 
-  -- the row after the last argument of a production takes nothing
-  pub linked-last : (p : ℕ) (users uses : List ℕ) → LinkedTo counts tables (rowOf (arityIn counts) p (arityIn counts p)) users uses → LinkedTo counts tables (rowOf (arityIn counts) (p + 1) 0) users uses
-  linked-last p users uses t =
+  pub users-fewer : (m n : ℕ) (users : List ℕ) → m ≤ n → UsersTo counts tables n users → UsersTo counts tables m users
+  users-fewer m n users l u =
       record {
-        usersLong = t .usersLong;
-        usesLong = t .usesLong;
-        bits = t .bits;
-        takes = λ p′ d q l h m b. t .takes p′ d q l h m (sooner p′ d h b);
-        used = λ p′ d q l h m b. t .used p′ d q l h m (sooner p′ d h b);
-        later = λ q r l h. t .later q r (omega (arith, row-next (arityIn counts) p)) h;
+        long = u .long;
+        bits = u .bits;
+        takes = λ p d q o h k. u .takes p d q o h (omega arith);
+        outside = λ q r k b o. u .outside q r (omega arith) b o;
       }
-    where
-      sooner : (p′ d : ℕ) → d < arityIn counts p′ → rowOf (arityIn counts) p′ d < rowOf (arityIn counts) (p + 1) 0 → rowOf (arityIn counts) p′ d < rowOf (arityIn counts) p (arityIn counts p)
-      sooner p′ d h b =
-          by-cases (decLt (rowOf (arityIn counts) p′ d) (rowOf (arityIn counts) p (arityIn counts p)))
-          (λ k. k)
-          (λ k. let same = row-same (arityIn counts) p′ p d (arityIn counts p) (omega arith) (omega arith) (omega (arith, row-next (arityIn counts) p)) in
-          absurd (omega (arith, same .1, ap (arityIn counts) (same .0))))
+
+  pub uses-none : (uses : List ℕ) → length uses ≡ useBytes → UsesTo counts tables 0 uses
+  uses-none uses e = record { long = e; used = λ p d q l h m t. absurd (omega arith) }
+
+  pub uses-fewer : (m n : ℕ) (uses : List ℕ) → m ≤ n → UsesTo counts tables n uses → UsesTo counts tables m uses
+  uses-fewer m n uses l u = record { long = u .long; used = λ p d q o h k t. u .used p d q o h (omega arith) t }
 
   module _ (few : length counts ≤ productionLimit) (short : (p : ℕ) → arityIn counts p ≤ argumentLimit) where
-    -- one row more
-    module _ (p d : ℕ) (users uses users′ uses′ : List ℕ) (l : p < length counts) (h : d < arityIn counts p)
-        (t : LinkedTo counts tables (rowOf (arityIn counts) p d) users uses)
-        (r : RowLinked tables (slot p d) (rowOf (arityIn counts) p d) p (length counts) users uses users′ uses′) where
-      -- an earlier row is as it was
-      sooner : (p′ d′ q : ℕ) → p′ < length counts → d′ < arityIn counts p′ → rowOf (arityIn counts) p′ d′ < rowOf (arityIn counts) p d
-          → getD users′ (userAt q (rowOf (arityIn counts) p′ d′)) 0 ≡ getD users (userAt q (rowOf (arityIn counts) p′ d′)) 0
-      sooner p′ d′ q l′ h′ b = r .others q (rowOf (arityIn counts) p′ d′) (row-below counts p′ d′ few short l′ (omega arith)) (λ e. omega arith)
+    -- an octet of productions more
+    module _ (k : ℕ) (octets users users′ : List ℕ) (u : UsersTo counts tables (k * octetBits) users)
+        (o : RowsFilled (λ (p d : ℕ). productionOctet tables (slot p d) k) counts (length counts) octets)
+        (t : BitsTurned octets (k * octetBits) octetBits users users′) where
+      -- the entry of a row for a production of this octet
+      entry : (q r : ℕ) → k * octetBits ≤ q → q < k * octetBits + octetBits → r < rowLimit → getD users′ (userAt q r) 0 ≡ bitOf (bit (getD octets r 0) (q - k * octetBits))
+      unfolding userAt
+      entry q r b l h =
+          let at : (k * octetBits + (q - k * octetBits)) * length octets + r ≡ q * rowLimit + r = ap (λ (x : ℕ). x * length octets + r) (omega arith) ∙ ap (λ (x : ℕ). q * x + r) (o .long) in
+          subst (λ (x : ℕ). getD users′ x 0 ≡ bitOf (bit (getD octets r 0) (q - k * octetBits))) at (t .turned (q - k * octetBits) r (omega arith) (omega (arith, o .long)))
 
-      -- a row that is not earlier is this one
-      this-row : (p′ d′ : ℕ) → d′ < arityIn counts p′ → rowOf (arityIn counts) p′ d′ < rowOf (arityIn counts) p (d + 1)
-          → (rowOf (arityIn counts) p′ d′ < rowOf (arityIn counts) p d → ⊥) → (p′ ≡ p) × (d′ ≡ d)
-      this-row p′ d′ h′ b k = row-same (arityIn counts) p′ p d′ d (omega arith) (omega arith) (omega (arith, row-shift (arityIn counts) p d))
+      -- the entry for an earlier one
+      kept : (q r : ℕ) → q < k * octetBits → r < rowLimit → getD users′ (userAt q r) 0 ≡ getD users (userAt q r) 0
+      unfolding userAt
+      kept q r l h = t .before (q * rowLimit + r) (subst⁻¹ (λ (x : ℕ). q * rowLimit + r < k * octetBits * x) (o .long) (row-under q (k * octetBits) rowLimit r l h))
 
-      takes-too : (p′ d′ q : ℕ) → p′ < length counts → d′ < arityIn counts p′ → q < length counts → rowOf (arityIn counts) p′ d′ < rowOf (arityIn counts) p (d + 1)
-          → getD users′ (userAt q (rowOf (arityIn counts) p′ d′)) 0 ≡ bitOf (takesProduction tables (slot p′ d′) q)
-      takes-too p′ d′ q l′ h′ m b =
-          by-cases (decLt (rowOf (arityIn counts) p′ d′) (rowOf (arityIn counts) p d))
-          (λ k. sooner p′ d′ q l′ h′ k ∙ t .takes p′ d′ q l′ h′ m k)
-          (λ k. let same = this-row p′ d′ h′ b k in
-          rw (same .0, same .1) (r .takes q m))
+      takes-too : (p d q : ℕ) → p < length counts → d < arityIn counts p → q < k * octetBits + octetBits
+          → getD users′ (userAt q (rowOf (arityIn counts) p d)) 0 ≡ bitOf (takesProduction tables (slot p d) q)
+      takes-too p d q l h m =
+          let below = row-below counts p d few short l (omega arith) in
+          by-cases (decLt q (k * octetBits))
+          (λ s. kept q (rowOf (arityIn counts) p d) s below ∙ u .takes p d q l h s)
+          (λ s. let b = q - k * octetBits in
+          let e : k * octetBits + b ≡ q = omega arith in
+          entry q (rowOf (arityIn counts) p d) (omega arith) m below ∙ ap (λ (v : ℕ). bitOf (bit v b)) (o .here p d l h) ∙ ap bitOf (octet-bit tables (slot p d) k b (omega arith)) ∙ ap (λ (x : ℕ). bitOf (takesProduction tables (slot p d) x)) e)
 
-      used-too : (p′ d′ q : ℕ) → p′ < length counts → d′ < arityIn counts p′ → q < length counts → rowOf (arityIn counts) p′ d′ < rowOf (arityIn counts) p (d + 1)
-          → getD users′ (userAt q (rowOf (arityIn counts) p′ d′)) 0 ≤ getD uses′ (useAt q p′) 0
-      used-too p′ d′ q l′ h′ m b =
-          by-cases (decLt (rowOf (arityIn counts) p′ d′) (rowOf (arityIn counts) p d))
-          (λ k. omega (arith, sooner p′ d′ q l′ h′ k, t .used p′ d′ q l′ h′ m k, r .grows (useAt q p′)))
-          (λ k. let same = this-row p′ d′ h′ b k in
-          rw (same .0, same .1) (omega (arith, r .takes q m, r .used q m)))
+      outside-too : (q r : ℕ) → q < k * octetBits + octetBits → rowCount (arityIn counts) (length counts) ≤ r → r < rowLimit → getD users′ (userAt q r) 0 ≡ 0
+      outside-too q r m b l =
+          by-cases (decLt q (k * octetBits))
+          (λ s. kept q r s l ∙ u .outside q r s b l)
+          (λ s. entry q r (omega arith) m l ∙ ap (λ (v : ℕ). bitOf (bit v (q - k * octetBits))) (o .ahead r b) ∙ ap bitOf (bit-zero (q - k * octetBits)))
 
-      later-too : (q k : ℕ) → rowOf (arityIn counts) p (d + 1) ≤ k → k < rowLimit → getD users′ (userAt q k) 0 ≡ 0
-      later-too q k b m =
-          let after : rowOf (arityIn counts) p d < k = omega (arith, row-shift (arityIn counts) p d) in
-          r .others q k m (λ e. omega arith) ∙ t .later q k (omega arith) m
-
-      pub linked-row : LinkedTo counts tables (rowOf (arityIn counts) p (d + 1)) users′ uses′
-      linked-row =
+      pub users-more : UsersTo counts tables (k * octetBits + octetBits) users′
+      users-more =
           record {
-            usersLong = r .usersLong ∙ t .usersLong;
-            usesLong = r .usesLong ∙ t .usesLong;
-            bits = λ k. omega (arith, r .bits k, t .bits k);
+            long = t .long ∙ u .long;
+            bits = λ i. omega (arith, t .bits i, u .bits i);
             takes = takes-too;
-            used = used-too;
-            later = later-too;
+            outside = outside-too;
           }
 
-    -- all rows
-    module _ (users uses : List ℕ) (t : LinkedTo counts tables (rowOf (arityIn counts) (length counts) 0) users uses) where
-      inside : (p d : ℕ) → p < length counts → d < arityIn counts p → rowOf (arityIn counts) p d < rowOf (arityIn counts) (length counts) 0
-      unfolding rowOf rowCount
-      inside p d l h = omega (arith, row-in (arityIn counts) p d (length counts) l (omega arith))
+    module _ (k : ℕ) (octets uses uses′ : List ℕ) (u : UsesTo counts tables (k * octetBits) uses)
+        (o : UsedOctets counts tables k (length counts) octets)
+        (t : BitsTurned octets (k * octetBits) octetBits uses uses′) where
+      used-too : (p d q : ℕ) → p < length counts → d < arityIn counts p → q < k * octetBits + octetBits → takesProduction tables (slot p d) q ≡ true → getD uses′ (useAt q p) 0 ≡ 1
+      unfolding useAt
+      used-too p d q l h m takes =
+          by-cases (decLt q (k * octetBits))
+          (λ s. t .before (q * productionLimit + p) (subst⁻¹ (λ (x : ℕ). q * productionLimit + p < k * octetBits * x) (o .long) (row-under q (k * octetBits) productionLimit p s (omega arith))) ∙ u .used p d q l h s takes)
+          (λ s. let b = q - k * octetBits in
+          let e : k * octetBits + b ≡ q = omega arith in
+          let at : (k * octetBits + b) * length octets + p ≡ q * productionLimit + p = ap (λ (x : ℕ). x * length octets + p) e ∙ ap (λ (x : ℕ). q * x + p) (o .long) in
+          let has : bit (getD octets p 0) b ≡ true = o .here p l .all d b h (octet-bit tables (slot p d) k b (omega arith) ∙ ap (takesProduction tables (slot p d)) e ∙ takes) in
+          subst (λ (x : ℕ). getD uses′ x 0 ≡ 1) at (t .turned b p (omega arith) (omega (arith, o .long)) ∙ ap bitOf has))
 
-      beyond : (q r : ℕ) → rowCount (arityIn counts) (length counts) ≤ r → r < rowLimit → getD users (userAt q r) 0 ≡ 0
-      unfolding rowOf rowCount
-      beyond q r b l = t .later q r (omega arith) l
+      pub uses-more : UsesTo counts tables (k * octetBits + octetBits) uses′
+      uses-more = record { long = t .long ∙ u .long; used = used-too }
+
+    -- both tables
+    module _ (users uses : List ℕ) (u : UsersTo counts tables (length counts) users) (s : UsesTo counts tables (length counts) uses) where
+      -- what is not said to be used takes nothing
+      unused-none : (q p d : ℕ) → q < length counts → p < length counts → d < arityIn counts p → getD uses (useAt q p) 0 ≡ 0 → getD users (userAt q (rowOf (arityIn counts) p d)) 0 ≡ 0
+      unused-none q p d m l h z =
+          elim (true-or-false (takesProduction tables (slot p d) q)) [
+            | inl e ↦ absurd (omega (arith, s .used p d q l h m e))
+            | inr e ↦ u .takes p d q l h m ∙ ap bitOf e
+          ]
 
       pub linked-links : Links counts users uses
       linked-links =
           record {
             fewProductions = few;
             fewArguments = short;
-            usersLong = t .usersLong;
-            usesLong = t .usesLong;
-            bits = t .bits;
-            unused = λ q p d m l h z. omega (arith, t .used p d q l h m (inside p d l h));
-            outside = λ q r m b l. beyond q r b l;
+            usersLong = u .long;
+            usesLong = s .long;
+            bits = u .bits;
+            unused = unused-none;
+            outside = u .outside;
           }
 
       pub linked-users : UsersAre counts users (λ p d q. takesProduction tables (slot p d) q)
-      linked-users = record { takes = λ p d q l h m. t .takes p d q l h m (inside p d l h) }
+      linked-users = record { takes = u .takes }

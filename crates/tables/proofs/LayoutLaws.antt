@@ -1,12 +1,14 @@
 -- Where the words of the tables stand, and what they say.
-use Prim.Native.Nat.{ℕ, _+_, _≤_, _<_}
-use mathlib.Core.Path.{_≡_, _∙_}
+use Prim.Native.Nat.{ℕ, _+_, _*_, _/_, _%_, _≤_, _<_}
+use mathlib.Core.Path.{_≡_, _∙_, ap}
 use mathlib.Core.List.{List}
 use native.Mathlib.Omega.{arith}
 use lib.ListN.{length, getD, take, drop, length-drop}
 use lib.Seq.{length-take-le, getD-take, getD-drop, ext-getD}
+use Rattle.charset.proofs.BitLaws.{bit-part}
+use Rattle.charset.specs.Set.{bit, wordBits, setWords}
 use Rattle.grammar.specs.Limits.{productionLimit, argumentLimit}
-use Rattle.tables.specs.Layout.{slot, slots, countsAt, classWords, slotAt, tableWords, countOf, countsOf, arityIn, ParserTables}
+use Rattle.tables.specs.Layout.{slot, slots, countsAt, classWords, slotAt, tableWords, countOf, countsOf, arityIn, takesProduction, octetBits, productionOctet, ParserTables}
 
 -- ---- counts
 
@@ -41,3 +43,11 @@ slot-in p i l m = omega arith
 pub class-in : (s : ℕ) → s ≤ slots → slotAt s + classWords ≤ tableWords
 unfolding slotAt
 class-in s h = omega arith
+
+-- bit b of octet k is production 8 k + b
+pub octet-bit : (t : List ℕ) (s k b : ℕ) → b < octetBits → bit (productionOctet t s k) b ≡ takesProduction t s (k * octetBits + b)
+unfolding productionOctet takesProduction
+octet-bit t s k b l =
+    let word : k * octetBits / wordBits ≡ (k * octetBits + b) / wordBits = omega arith in
+    let place : k * octetBits % wordBits + b ≡ (k * octetBits + b) % wordBits = omega arith in
+    bit-part (getD t (slotAt s + setWords + k * octetBits / wordBits) 0) (k * octetBits % wordBits) octetBits b l ∙ ap (λ (w : ℕ). bit (getD t (slotAt s + setWords + w) 0) (k * octetBits % wordBits + b)) word ∙ ap (λ (x : ℕ). bit (getD t (slotAt s + setWords + (k * octetBits + b) / wordBits) 0) x) place

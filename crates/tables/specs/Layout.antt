@@ -1,6 +1,6 @@
 -- The flat tables: a character class grammar (01's flat book) as words, which code reads through one slice.
 -- First how many productions there are; then for each how many arguments it has; for each its first row; and a class for each slot.
-use Prim.Native.Nat.{ℕ, _+_, _*_, _/_, _%_, _≤_}
+use Prim.Native.Nat.{ℕ, _+_, _*_, _/_, _%_, _^_, _≤_}
 use mathlib.Core.Path.{_≡_}
 use mathlib.Core.Bool.{Bool}
 use mathlib.Core.List.{List}
@@ -76,6 +76,17 @@ takesChar t s c = bit (getD t (slotAt s + c / wordBits) 0) (c % wordBits)
 -- production q may stand at slot s
 unfoldable pub takesProduction : List ℕ → ℕ → ℕ → Bool
 takesProduction t s q = bit (getD t (slotAt s + setWords + q / wordBits) 0) (q % wordBits)
+
+-- how many octets of eight productions there are
+abbrev pub octetBits : ℕ
+octetBits = 8
+
+abbrev pub productionOctets : ℕ
+productionOctets = productionLimit / octetBits
+
+-- octet k of the productions that may stand at slot s
+unfoldable pub productionOctet : List ℕ → ℕ → ℕ → ℕ
+productionOctet t s k = getD t (slotAt s + setWords + k * octetBits / wordBits) 0 / 2 ^ (k * octetBits % wordBits) % 2 ^ octetBits
 
 -- Tables that a parser can read: of the right length, within the limits, with the right rows.
 pub record ParserTables (t : List ℕ) : Type 0 where

@@ -13,7 +13,7 @@ ghost use Rattle.charset.specs.Set.{characters, wordBits, bit, has};
 ghost use Rattle.common.specs.Region.{Region};
 ghost use Rattle.common.specs.Bytes.{byteValues};
 ghost use Rattle.grammar.specs.Limits.{productionLimit};
-ghost use Rattle.tables.specs.Layout.{slots, countsOf, arityIn, rowCount, slotAt, productionWords, tableWords, takesChar, takesProduction, ParserTables};
+ghost use Rattle.tables.specs.Layout.{slots, countsOf, arityIn, rowCount, slotAt, productionWords, productionOctets, productionOctet, tableWords, takesChar, takesProduction, ParserTables};
 ghost use Rattle.tables.specs.Put.{CountsPut, ClassPut};
 
 // The number of production 0.
@@ -32,6 +32,8 @@ const CLASSES_AT: usize = ROWS_AT + PRODUCTION_LIMIT + 1;
 pub const PRODUCTION_WORDS: usize = PRODUCTION_LIMIT / 64;
 
 const CLASS_WORDS: usize = SET_WORDS + PRODUCTION_WORDS;
+// How many productions an octet has.
+pub const OCTET_BITS: usize = 8;
 // The length of the tables.
 pub const TABLE_WORDS: usize = CLASSES_AT + (SLOTS + 1) * CLASS_WORDS;
 
@@ -147,12 +149,14 @@ pub fn class_chars(tables: &[u64], s: usize) -> CharSet
     }
 }
 
-// The productions that may stand at slot s.
-pub fn class_productions(tables: &[u64], s: usize) -> ProductionSet
-    requires { ⌜ (length (now tables) ≡ tableWords) × (s ≤ slots) ⌝ }
-    ensures { λ r. ⌜ ((q : ℕ) → q < productionLimit → has (r .words) q ≡ takesProduction (now (tables .entry)) s q) ⌝ }
+// Eight of the productions that may stand at slot s, from 8 k on: a bit for each.
+pub fn class_octet(tables: &[u64], s: usize, k: usize) -> u8
+    requires { ⌜ (length (now tables) ≡ tableWords) × (s ≤ slots) × (k < productionOctets) ⌝ }
+    ensures { λ r. ⌜ r ≡ productionOctet (now (tables .entry)) s k ⌝ }
 {
-    ProductionSet::read(tables, slot_at(s) + SET_WORDS)
+    let first = k * OCTET_BITS;
+    let own = tables[slot_at(s) + SET_WORDS + first / 64];
+    byte(number((own >> (first % 64)) % 256))
 }
 
 // ---- writing
@@ -212,14 +216,6 @@ impl ProductionSet {
         ProductionSet {
             words: [0; PRODUCTION_WORDS],
         }
-    }
-
-    pub fn contains(self, q: usize) -> bool
-        requires { ⌜ q < productionLimit ⌝ }
-        ensures { λ r. ⌜ r ≡ has (self .words) q ⌝ }
-    {
-        let words = self.words;
-        (words[q / 64] >> (q % 64)) % 2 == 1
     }
 
     // The productions whose entry of the row is set.

@@ -6,7 +6,7 @@ use lib.Dec.{eqb}
 use lib.ListN.{length, getD}
 use borrow.Author.Needs.{needs}
 use borrow.Author.Tests.{eq-eqb, ne-eqb}
-use Rattle.column.proofs.RowsLaws.{rows-zero, rows-same}
+use Rattle.chart.proofs.RowsLaws.{rows-zero, rows-same}
 use Rattle.common.specs.Below.{bitOf}
 use Rattle.tables.specs.Layout.{slot, takesChar}
 use Rattle.column.proofs.bare_args.Statement.{statement}
@@ -20,7 +20,7 @@ returns c =
     let start = c .before .before .before .before .before in
     let a = (start .args) in
     rows-zero (λ (p d : ℕ). bitOf (eqb (a .i + 1) (a .j) && takesChar (a .tables .now) (slot p d) (getD (a .text .now) (a .i) 0))) (a .counts .now) (length (a .counts .now)) (a .out .now) (start .pre .1 .1)
-    (λ p d. rw (ne-eqb (a .i + 1) (a .j) (c .if1 .taken)) refl)
+    (λ p d o. rw (ne-eqb (a .i + 1) (a .j) (c .if1 .taken)) refl)
 
 shared-slice-read-char-row : tie.Need-shared-slice-read-char-row
 shared-slice-read-char-row c = search needs

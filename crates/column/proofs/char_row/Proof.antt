@@ -1,22 +1,17 @@
 -- `char_row` meets its contract: the rows of the productions below p are written.
 use Prim.Native.Nat.{ℕ, _+_, _-_, _≤_}
-use mathlib.Core.List.{List}
 use mathlib.Core.Path.{_≡_, refl, sym, _∙_, subst, subst₂}
 use native.Mathlib.Omega.{arith}
 use lib.ListN.{length}
 use Rattle.chart.proofs.LayoutLaws.{row-in, rows-few, row-of-base, row-base}
 use Rattle.chart.specs.Layout.{rowOf}
-use Rattle.column.proofs.RowsLaws.{rows-none, rows-more}
-use Rattle.column.specs.Rows.{RowsFilled}
+use Rattle.chart.proofs.RowsLaws.{rows-none, rows-more}
+use Rattle.chart.specs.Rows.{RowsFilled}
 use Rattle.common.specs.Below.{sumBelow, bitOf}
 use Rattle.common.specs.Region.{Region}
 use Rattle.tables.specs.Layout.{arityIn, slot, takesChar}
-use Rattle.theory.proofs.SoundLaws.{bit-small}
 use Rattle.column.proofs.char_row.Statement.{statement}
 use Rattle.column.proofs.char_row.Tie as tie
-
-bits : (tables : List ℕ) (character p d : ℕ) → bitOf (takesChar tables (slot p d) character) ≤ 1
-bits tables character p d = bit-small (takesChar tables (slot p d) character)
 
 abbrev Inv-loop : tie.InvT-loop
 Inv-loop counts tables character out₀ base₀ p₀ out base p = RowsFilled (λ (p d : ℕ). bitOf (takesChar tables (slot p d) character)) counts p out × (base ≡ rowOf (arityIn counts) p 0) × (p ≤ length counts)
@@ -79,7 +74,7 @@ loop-again c =
     let step : turn .base + (c .wide2 .result + 1) ≡ rowOf (arityIn counts) (turn .p + 1) 0 = omega (arith, c .wide2 .ensures, turn .inv .1, row-base (arityIn counts) (turn .p)) in
     let r : Region (λ (d x : ℕ). x ≡ v (turn .p) d) 0 (rowOf (arityIn counts) (turn .p) 0) (arityIn counts (turn .p)) (turn .out) (char-production .last .0) =
     subst₂ (λ (b n : ℕ). Region (λ (d x : ℕ). x ≡ v (turn .p) d) 0 b n (turn .out) (char-production .last .0)) (turn .inv .1) (c .before .before .before .before .before .wide .ensures) (char-production .ensures) in
-    (rows-more v counts (bits (start .args .tables .now) (start .args .character)) (turn .p) (turn .out) (char-production .last .0) (turn .inv .0) r, step, omega arith)
+    (rows-more v counts (turn .p) (turn .out) (char-production .last .0) (turn .inv .0) r, step, omega arith)
 
 same-length : tie.Need-same-length Inv-loop μ-loop
 same-length c = c .before .loop .inv .0 .long ∙ sym (c .before .before .before .before .before .pre .1 .long)

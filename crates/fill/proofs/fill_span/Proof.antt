@@ -81,7 +81,7 @@ settle-requires c κs =
       (
         record { innerLong = sums-at .kept .1 .1 .1 .0 ∙ c .before .before .before .before .before .before .before .before .before .before .before .before .zero-row .ensures .long; frontLong = ready .emptyLong; backLong = ready .argsLong; argsLong = bare-args .ensures .long; cellsLong = zero-row2 .ensures .long },
         (
-          zero-founded (λ (p d : ℕ). bitOf (eqb (a .i + 1) (a .j) && takesChar (a .tables .now) (slot p d) (getD (a .text .now) (a .i) 0))) (a .counts .now) (a .users .now) (sums-at .last .1 .1 .1 .0) (a .empty .now) (a .back .now) (bare-args .last .1 .1 .1 .1 .1 .0) (zero-row2 .result) (bare-args .ensures) (zero-row2 .ensures),
+          zero-founded (λ (p d : ℕ). eqb (a .i + 1) (a .j) && takesChar (a .tables .now) (slot p d) (getD (a .text .now) (a .i) 0)) (a .counts .now) (a .users .now) (sums-at .last .1 .1 .1 .0) (a .empty .now) (a .back .now) (bare-args .last .1 .1 .1 .1 .1 .0) (zero-row2 .result) (bare-args .ensures) (zero-row2 .ensures),
           ready .rowsAre,
         ),
       ),
