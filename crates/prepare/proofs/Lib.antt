@@ -1,0 +1,2 @@
+-- Laws of what is prepared.
+pub mod PreparedLaws

@@ -1,0 +1,2 @@
+-- What the contracts of preparing cite.
+pub mod Prepared
