@@ -136,7 +136,7 @@ pub fn closed(
     closure
 }
 
-// Chains that may also pass through `middle`.
+// Chains that may also pass through `middle`: a row that leads there gets the row beyond it too.
 fn with_middle(
     table: [[bool; PRODUCTION_LIMIT]; PRODUCTION_LIMIT],
     middle: usize,
@@ -148,24 +148,25 @@ fn with_middle(
     let beyond = table[middle];
     let mut x = 0;
     while x < PRODUCTION_LIMIT {
-        wider[x] = merged(table[x], table[x][middle], beyond);
+        if table[x][middle] {
+            wider[x] = merged(table[x], beyond);
+        }
         x += 1;
     }
     wider
 }
 
-// A row, and where `on` is set the other row with it.
-pub fn merged(
+// A row with another row.
+fn merged(
     row: [bool; PRODUCTION_LIMIT],
-    on: bool,
     other: [bool; PRODUCTION_LIMIT],
 ) -> [bool; PRODUCTION_LIMIT]
-    ensures { λ r. ⌜ ((y : ℕ) → getD r y false ≡ (getD row y false || on && getD other y false)) ⌝ }
+    ensures { λ r. ⌜ ((y : ℕ) → getD r y false ≡ (getD row y false || getD other y false)) ⌝ }
 {
     let mut out = row;
     let mut y = 0;
     while y < PRODUCTION_LIMIT {
-        out[y] = either(row[y], both(on, other[y]));
+        out[y] = either(row[y], other[y]);
         y += 1;
     }
     out
