@@ -145,11 +145,11 @@ fn with_middle(
     ensures { λ r. ⌜ ((x y : ℕ) → entry r x y ≡ (entry table x y || entry table x middle && entry table middle y)) ⌝ }
 {
     let mut wider = table;
-    let beyond = table[middle];
+    let beyond = wider[middle];
     let mut x = 0;
     while x < PRODUCTION_LIMIT {
-        if table[x][middle] {
-            wider[x] = merged(table[x], beyond);
+        if wider[x][middle] {
+            wider[x] = merged(wider[x], beyond);
         }
         x += 1;
     }

@@ -32,10 +32,10 @@ module _ (t : List (List Bool)) (m x : ℕ) where
   beyond-all y e h = rw (entry-out t x y (omega arith), entry-out t x m (omega arith)) refl
 
 abbrev Inv-loop : tie.InvT-loop
-Inv-loop middle table wider₀ beyond x₀ wider x = Filled (Passes table middle) [] table x wider × (x ≤ productionLimit)
+Inv-loop middle table beyond x₀ wider x = Filled (Passes table middle) [] table x wider × (x ≤ productionLimit)
 
 abbrev μ-loop : tie.MeasureT-loop
-μ-loop middle table wider₀ beyond x₀ wider x = productionLimit - x
+μ-loop middle table beyond x₀ wider x = productionLimit - x
 
 mul-beyond : tie.Need-mul-beyond Inv-loop μ-loop
 mul-beyond c = omega arith
@@ -44,7 +44,7 @@ array-copy-out-beyond : tie.Need-array-copy-out-beyond Inv-loop μ-loop
 array-copy-out-beyond c = omega arith
 
 loop-holds : tie.Need-loop-holds Inv-loop μ-loop
-loop-holds c = (filled-none (Passes (c .before .args .t1) (c .before .args .middle)) [] (c .before .args .t1), omega arith)
+loop-holds c = (filled-none (Passes (c .before .args .table) (c .before .args .middle)) [] (c .before .args .table), omega arith)
 
 mul-if1 : tie.Need-mul-if1 Inv-loop μ-loop
 mul-if1 c = omega arith
@@ -80,19 +80,20 @@ loop-again : tie.Need-loop-again Inv-loop μ-loop
 unfolding Passes entry
 loop-again c =
     let l = c .before .before .before in
-    let t = l .before .before .args .t1 in
+    let t = l .before .before .args .table in
     let m = l .before .before .args .middle in
     let x = l .loop .x in
     let n : length t ≡ productionLimit = search needs in
+    let own : getD (l .loop .wider) x [] ≡ getD t x [] = l .loop .inv .0 .rest x (omega arith) in
     ⊎-elim
-    (λ w. (rw (w .3) (filled-more (Passes t m) [] t x (l .loop .wider) (w .2 .result) (omega arith) (l .loop .inv .0) (passes-on t m x (w .2 .result) (w .0 .taken) (w .2 .ensures))), omega arith))
-    (λ w. (rw (w .1) (filled-kept (Passes t m) [] t x (l .loop .wider) (l .loop .inv .0) (passes-off t m x (w .0 .left))), omega arith))
+    (λ w. (rw (w .3) (filled-more (Passes t m) [] t x (l .loop .wider) (w .2 .result) (omega arith) (l .loop .inv .0) (passes-on t m x (w .2 .result) (rw own at (w .0 .taken)) (rw own at (w .2 .ensures)))), omega arith))
+    (λ w. (rw (w .1) (filled-kept (Passes t m) [] t x (l .loop .wider) (l .loop .inv .0) (passes-off t m x (rw own at (w .0 .left)))), omega arith))
     (c .if1 .came)
 
 returns : tie.Need-returns Inv-loop μ-loop
 unfolding Passes entry
 returns c x y =
-    let t = c .before .before .before .args .t1 in
+    let t = c .before .before .before .args .table in
     let n : length t ≡ productionLimit = search needs in
     by-cases (decLt x productionLimit)
     (λ l. c .before .loop .inv .0 .done x (omega arith) y)
