@@ -129,11 +129,26 @@ pub fn closed(
     let mut closure = table;
     let mut middle = 0;
     while middle < count {
-        let wider = with_middle(closure, middle);
-        closure = wider;
+        if leads_on(closure[middle]) {
+            let wider = with_middle(closure, middle);
+            closure = wider;
+        }
         middle += 1;
     }
     closure
+}
+
+// Whether a row may have a true entry: if not, no chain goes on from there.
+fn leads_on(row: [bool; PRODUCTION_LIMIT]) -> bool
+    ensures { λ r. ⌜ (r ≡ false → (y : ℕ) → getD row y false ≡ false) ⌝ }
+{
+    let mut found = false;
+    let mut y = 0;
+    while y < PRODUCTION_LIMIT {
+        found = either(found, row[y]);
+        y += 1;
+    }
+    found
 }
 
 // Chains that may also pass through `middle`: a row that leads there gets the row beyond it too.
