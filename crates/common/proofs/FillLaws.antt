@@ -27,3 +27,15 @@ module _ {A : Type 0} (P : ℕ → A → Type 0) (d : A) (l₀ : List A) where
         ];
         rest = λ k m. getD-set-other l i k v d (λ e. omega arith) ∙ w .rest k (omega arith);
       }
+
+  -- the next place has what P says already
+  pub filled-kept : (i : ℕ) (l : List A) → Filled P d l₀ i l → P i (getD l₀ i d) → Filled P d l₀ (i + 1) l
+  filled-kept i l w p =
+      record {
+        long = w .long;
+        done = λ k m. elim (ℕ-discrete k i) [
+          | yes e ↦ rw (e, w .rest i (omega arith)) p
+          | no e ↦ w .done k (omega arith)
+        ];
+        rest = λ k m. w .rest k (omega arith);
+      }

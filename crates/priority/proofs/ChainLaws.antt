@@ -1,7 +1,7 @@
 -- The executable test for chains is the inductive one.
 use Prim.Native.Nat.{ℕ, zero, suc, _+_, _<_}
-use mathlib.Core.Path.{_≡_, refl, subst}
-use mathlib.Core.Bool.{Bool, true, _&&_, _||_}
+use mathlib.Core.Path.{_≡_, refl, _∙_, subst}
+use mathlib.Core.Bool.{Bool, false, true, _&&_, _||_, and-false, or-false}
 use mathlib.Core.Logic.{_⊎_, inl, inr, ⊎-elim, by-cases}
 use native.Mathlib.Omega.{arith}
 use native.Mathlib.Decide.{decLt}
@@ -50,6 +50,10 @@ module _ (r : ℕ → ℕ → Bool) where
   pub through-next : (n x y : ℕ) → through r (n + 1) x y ≡ (through r n x y || through r n x n && through r n n y)
   unfolding through
   through-next n x y = rw add-one refl
+
+  -- a member from which nothing leads on
+  pub through-same : (n x y : ℕ) → through r n n y ≡ false → through r (n + 1) x y ≡ through r n x y
+  through-same n x y e = through-next n x y ∙ rw (e, and-false) (or-false (through r n x y))
 
   -- two ways that meet below n are one
   through-trans : (n x y z : ℕ) → y < n → through r n x y ≡ true → through r n y z ≡ true → through r n x z ≡ true

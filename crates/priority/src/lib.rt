@@ -129,14 +129,29 @@ pub fn closed(
     let mut closure = table;
     let mut middle = 0;
     while middle < count {
-        let wider = with_middle(closure, middle);
-        closure = wider;
+        if leads_on(closure[middle]) {
+            let wider = with_middle(closure, middle);
+            closure = wider;
+        }
         middle += 1;
     }
     closure
 }
 
-// Chains that may also pass through `middle`.
+// Whether a row may have a true entry: if not, no chain goes on from there.
+fn leads_on(row: [bool; PRODUCTION_LIMIT]) -> bool
+    ensures { λ r. ⌜ (r ≡ false → (y : ℕ) → getD row y false ≡ false) ⌝ }
+{
+    let mut found = false;
+    let mut y = 0;
+    while y < PRODUCTION_LIMIT {
+        found = either(found, row[y]);
+        y += 1;
+    }
+    found
+}
+
+// Chains that may also pass through `middle`: a row that leads there gets the row beyond it too.
 fn with_middle(
     table: [[bool; PRODUCTION_LIMIT]; PRODUCTION_LIMIT],
     middle: usize,
@@ -145,27 +160,28 @@ fn with_middle(
     ensures { λ r. ⌜ ((x y : ℕ) → entry r x y ≡ (entry table x y || entry table x middle && entry table middle y)) ⌝ }
 {
     let mut wider = table;
-    let beyond = table[middle];
+    let beyond = wider[middle];
     let mut x = 0;
     while x < PRODUCTION_LIMIT {
-        wider[x] = merged(table[x], table[x][middle], beyond);
+        if wider[x][middle] {
+            wider[x] = merged(wider[x], beyond);
+        }
         x += 1;
     }
     wider
 }
 
-// A row, and where `on` is set the other row with it.
-pub fn merged(
+// A row with another row.
+fn merged(
     row: [bool; PRODUCTION_LIMIT],
-    on: bool,
     other: [bool; PRODUCTION_LIMIT],
 ) -> [bool; PRODUCTION_LIMIT]
-    ensures { λ r. ⌜ ((y : ℕ) → getD r y false ≡ (getD row y false || on && getD other y false)) ⌝ }
+    ensures { λ r. ⌜ ((y : ℕ) → getD r y false ≡ (getD row y false || getD other y false)) ⌝ }
 {
     let mut out = row;
     let mut y = 0;
     while y < PRODUCTION_LIMIT {
-        out[y] = either(row[y], both(on, other[y]));
+        out[y] = either(row[y], other[y]);
         y += 1;
     }
     out
