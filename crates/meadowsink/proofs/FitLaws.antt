@@ -27,14 +27,14 @@ use Rattle.listing.specs.Judge.{isRight, dueAfter, textAfter, judge}
 use Rattle.listing.specs.Numbers.{numbersOf}
 use Rattle.listing.specs.declared.ListingAnswer.the-variants.{Wrong, Refused as NotChecked}
 use Rattle.meadowsink.specs.Calls.{checkReply, conflictReply, flatReply, listingReply}
-use Rattle.meadowsink.specs.Reply.{answered, refused, kindLimit, valueLimit, Fits}
-use Rattle.meadowsink.specs.declared.reply.Reply.{Reply}
 use Rattle.parse.proofs.NumberLaws.{largestNumber, Numbered, grammar-numbered}
 use Rattle.engine.specs.Refusals.{tooLong}
 use Rattle.priority.proofs.CheckLaws.{accepted-formed}
 use Rattle.priority.specs.Check.{checked}
 use Rattle.priority.specs.Conflict.{conflicts, isThere, yesOrNo, conflictAnswer}
 use Rattle.priority.specs.declared.ConflictAnswer.the-variants.{Refused as NotAsked}
+use Rattle.reply.specs.Reply.{answered, refused, kindLimit, valueLimit, Fits}
+use Rattle.reply.specs.declared.Reply.{Reply}
 
 -- ---- what fits
 

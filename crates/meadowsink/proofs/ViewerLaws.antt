@@ -14,12 +14,12 @@ use Rattle.grammar.specs.declared.Verdict.{Verdict}
 use Rattle.grammar.specs.declared.Verdict.the-variants.{Accepted, Refused as Rejected}
 use Rattle.meadowsink.proofs.FitLaws.{answered-fits, refused-fits}
 use Rattle.meadowsink.specs.Calls.{readReply}
-use Rattle.meadowsink.specs.Reply.{Fits}
-use Rattle.meadowsink.specs.declared.reply.Reply.{Reply}
 use Rattle.meadowsink.specs.Viewer.{listingLimit, UsedOutcome, CallOutcome}
 use Rattle.parse.proofs.NumberLaws.{Numbered, refusal-numbered}
 use Rattle.parse.proofs.OutcomeLaws.{outcome-unique}
 use Rattle.parse.specs.Outcome.{refusal, readingBy, Outcome}
+use Rattle.reply.specs.Reply.{Fits}
+use Rattle.reply.specs.declared.Reply.{Reply}
 use Rattle.ccg.specs.Reading.{Reading}
 use Rattle.theory.specs.Tree.{Tree}
 

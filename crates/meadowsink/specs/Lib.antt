@@ -1,4 +1,3 @@
 -- What the contracts of the calls cite.
-pub mod Reply
 pub mod Calls
 pub mod Viewer

@@ -1,15 +1,15 @@
 // Checking a grammar.
-use crate::reply::Reply;
-use crate::reply::answer;
-use crate::reply::number;
-use crate::reply::place;
-use crate::reply::refusal;
 use grammar::Verdict;
 use priority::check_grammar;
+use reply::Reply;
+use reply::answer;
+use reply::number;
+use reply::place;
+use reply::refusal;
 ghost use mathlib.Core.Path.{_≡_};
 ghost use Rattle.meadowsink.specs.Calls.{checkReply};
-ghost use Rattle.meadowsink.specs.Reply.{numberOf, placeOf};
 ghost use Rattle.priority.specs.Check.{checked};
+ghost use Rattle.reply.specs.Reply.{numberOf, placeOf};
 
 // Kind 0 is accepted.
 fn check_reply(verdict: Verdict) -> Reply

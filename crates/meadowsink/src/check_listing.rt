@@ -1,15 +1,15 @@
 // Checking a listing.
-use crate::reply::Reply;
-use crate::reply::answer;
-use crate::reply::number;
-use crate::reply::place;
-use crate::reply::refusal;
 use listing::ListingAnswer;
 use listing::check_listing;
+use reply::Reply;
+use reply::answer;
+use reply::number;
+use reply::place;
+use reply::refusal;
 ghost use mathlib.Core.Path.{_≡_};
 ghost use Rattle.listing.specs.Answer.{listingAnswer};
 ghost use Rattle.meadowsink.specs.Calls.{listingReply};
-ghost use Rattle.meadowsink.specs.Reply.{numberOf, placeOf};
+ghost use Rattle.reply.specs.Reply.{numberOf, placeOf};
 
 // Kind 0 is right, kind 1 wrong; the value is the index.
 fn listing_reply(judgement: ListingAnswer) -> Reply

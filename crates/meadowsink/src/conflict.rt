@@ -1,15 +1,15 @@
 // The conflict question.
-use crate::reply::Reply;
-use crate::reply::answer;
-use crate::reply::number;
-use crate::reply::place;
-use crate::reply::refusal;
 use priority::ConflictAnswer;
 use priority::conflict::conflict;
+use reply::Reply;
+use reply::answer;
+use reply::number;
+use reply::place;
+use reply::refusal;
 ghost use mathlib.Core.Path.{_≡_};
 ghost use Rattle.meadowsink.specs.Calls.{conflictReply};
-ghost use Rattle.meadowsink.specs.Reply.{numberOf, placeOf};
 ghost use Rattle.priority.specs.Conflict.{conflictAnswer};
+ghost use Rattle.reply.specs.Reply.{numberOf, placeOf};
 
 // Kind 0 is no, kind 1 yes.
 fn conflict_reply(question: ConflictAnswer) -> Reply

@@ -1,17 +1,17 @@
 // Writing a character class grammar.
-use crate::reply::Reply;
-use crate::reply::answer;
-use crate::reply::number;
-use crate::reply::place;
-use crate::reply::refusal;
 use ccg::FlatAnswer;
 use ccg::write_flat;
+use reply::Reply;
+use reply::answer;
+use reply::number;
+use reply::place;
+use reply::refusal;
 ghost use mathlib.Core.Path.{_≡_};
 ghost use lib.ListN.{length};
 ghost use Rattle.ccg.specs.Flat.{flatGrammar};
 ghost use Rattle.ccg.specs.Text.{grammarText, flatAnswer, bufferAfter};
 ghost use Rattle.meadowsink.specs.Calls.{flatReply};
-ghost use Rattle.meadowsink.specs.Reply.{numberOf, placeOf};
+ghost use Rattle.reply.specs.Reply.{numberOf, placeOf};
 
 // Kind 1 is written; the value is how many bytes.
 fn flat_reply(written: FlatAnswer) -> Reply

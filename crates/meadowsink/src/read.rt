@@ -1,11 +1,11 @@
 // Reading a text.
-use crate::reply::Reply;
-use crate::reply::answer;
-use crate::reply::number;
-use crate::reply::place;
-use crate::reply::refusal;
 use engine::Answer;
 use parse::parse;
+use reply::Reply;
+use reply::answer;
+use reply::number;
+use reply::place;
+use reply::refusal;
 ghost use mathlib.Core.Path.{_≡_};
 ghost use Prim.Native.Nat.{min};
 ghost use Rattle.meadowsink.specs.Calls.{readReply};

@@ -2,7 +2,7 @@
 use mathlib.Core.Path.{_∙_, ap}
 use borrow.Author.Needs.{needs}
 use Rattle.meadowsink.specs.Calls.{checkReply}
-use Rattle.meadowsink.specs.Reply.{placeOf}
+use Rattle.reply.specs.Reply.{placeOf}
 use Rattle.meadowsink.proofs.check.meadowsink_check_place.Statement.{statement}
 use Rattle.meadowsink.proofs.check.meadowsink_check_place.Tie as tie
 

@@ -2,7 +2,7 @@
 use mathlib.Core.Path.{_∙_, ap}
 use borrow.Author.Needs.{needs}
 use Rattle.meadowsink.specs.Calls.{listingReply}
-use Rattle.meadowsink.specs.Reply.{placeOf}
+use Rattle.reply.specs.Reply.{placeOf}
 use Rattle.meadowsink.proofs.check_listing.meadowsink_check_listing_place.Statement.{
   statement,
 }

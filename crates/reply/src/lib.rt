@@ -1,6 +1,6 @@
 // The answer of an operation, in the form in which all calls give it.
 ghost use mathlib.Core.Path.{_≡_};
-ghost use Rattle.meadowsink.specs.Reply.{Fits, answered, refused, numberOf, placeOf};
+ghost use Rattle.reply.specs.Reply.{Fits, answered, refused, numberOf, placeOf};
 
 // Its kind, its value, and the place of a refusal, 0 for none.
 pub struct Reply {

@@ -1,0 +1,2 @@
+-- What the contracts of the replies cite.
+pub mod Reply
