@@ -4,8 +4,8 @@ use mathlib.Core.Path.{_≡_}
 use mathlib.Core.List.{List, _++_}
 use lib.ListN.{take, drop}
 use Rattle.engine.specs.declared.Answer.{Answer}
-use Rattle.meadowsink.specs.Calls.{readReply}
 use Rattle.parse.specs.Outcome.{Outcome}
+use Rattle.reply.specs.Answers.{readReply}
 use Rattle.reply.specs.Reply.{numberOf, placeOf}
 use Rattle.reply.specs.declared.Reply.{Reply}
 

@@ -1,25 +1,12 @@
 // Checking a grammar.
-use grammar::Verdict;
 use priority::check_grammar;
-use reply::Reply;
-use reply::answer;
+use reply::check::check_reply;
 use reply::number;
 use reply::place;
-use reply::refusal;
 ghost use mathlib.Core.Path.{_≡_};
-ghost use Rattle.meadowsink.specs.Calls.{checkReply};
 ghost use Rattle.priority.specs.Check.{checked};
+ghost use Rattle.reply.specs.Answers.{checkReply};
 ghost use Rattle.reply.specs.Reply.{numberOf, placeOf};
-
-// Kind 0 is accepted.
-fn check_reply(verdict: Verdict) -> Reply
-    ensures { λ r. ⌜ r ≡ checkReply verdict ⌝ }
-{
-    match verdict {
-        Verdict::Accepted => answer(0, 0),
-        Verdict::Refused(number, place) => refusal(number, place),
-    }
-}
 
 // Whether a grammar is accepted.
 #[no_mangle]

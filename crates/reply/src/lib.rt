@@ -1,4 +1,10 @@
-// The answer of an operation, in the form in which all calls give it.
+// The answer of an operation, in the form in which all calls give it. A module to an operation says what each of its answers is in this form.
+pub mod check;
+pub mod check_listing;
+pub mod conflict;
+pub mod flat;
+pub mod read;
+
 ghost use mathlib.Core.Path.{_≡_};
 ghost use Rattle.reply.specs.Reply.{Fits, answered, refused, numberOf, placeOf};
 
