@@ -1,17 +1,16 @@
 -- The number of no answer is too large for 64 bits: each reply fits. Reading a text is in ViewerLaws.antt.
-use Prim.Native.Nat.{ℕ, _+_, _%_, _≤_, _<_}
+use Prim.Native.Nat.{ℕ, _%_, _≤_, _<_}
 use mathlib.Core.Path.{_≡_, refl}
-use mathlib.Core.Bool.{Bool, false, true, cond, _||_}
-use mathlib.Core.List.{List, [], _∷_, _++_}
+use mathlib.Core.Bool.{_||_}
+use mathlib.Core.List.{List, [], _∷_}
 use native.Mathlib.Omega.{arith}
-use lib.Dec.{leb, ltb, eqb}
+use lib.Dec.{ltb, eqb}
 use lib.ListN.{length}
 use borrow.Author.Tests.{ltb-false}
 use Rattle.ccg.proofs.TextLaws.{tabulate-text-short}
-use Rattle.ccg.specs.Ccg.{Class, Line}
 use Rattle.ccg.specs.Flat.{flatClass, flatLine, flatGrammar, plainClass}
-use Rattle.ccg.specs.Text.{grammarText, writeAnswer, flatAnswer}
-use Rattle.ccg.specs.declared.FlatAnswer.the-variants.{Written, Refused as NotWritten}
+use Rattle.ccg.specs.Text.{grammarText, flatAnswer}
+use Rattle.ccg.specs.declared.FlatAnswer.the-variants.{Refused as NotWritten}
 use Rattle.chart.specs.Layout.{textLimit}
 use Rattle.common.proofs.BoolLaws.{or-second-false}
 use Rattle.common.proofs.ListLaws.{length-tabulate}
@@ -23,50 +22,37 @@ use Rattle.grammar.specs.declared.Verdict.{Verdict}
 use Rattle.grammar.specs.declared.Verdict.the-variants.{Accepted, Refused as Rejected}
 use Rattle.listing.proofs.NumberLaws.{numbers-length}
 use Rattle.listing.specs.Answer.{byteLimit, badListing, judged, listingAnswer}
-use Rattle.listing.specs.Judge.{isRight, dueAfter, textAfter, judge}
 use Rattle.listing.specs.Numbers.{numbersOf}
-use Rattle.listing.specs.declared.ListingAnswer.the-variants.{Wrong, Refused as NotChecked}
-use Rattle.meadowsink.specs.Calls.{checkReply, conflictReply, flatReply, listingReply}
-use Rattle.meadowsink.specs.Reply.{answered, refused, kindLimit, valueLimit, Fits}
-use Rattle.meadowsink.specs.declared.reply.Reply.{Reply}
+use Rattle.listing.specs.declared.ListingAnswer.the-variants.{Refused as NotChecked}
 use Rattle.parse.proofs.NumberLaws.{largestNumber, Numbered, grammar-numbered}
 use Rattle.engine.specs.Refusals.{tooLong}
 use Rattle.priority.proofs.CheckLaws.{accepted-formed}
 use Rattle.priority.specs.Check.{checked}
-use Rattle.priority.specs.Conflict.{conflicts, isThere, yesOrNo, conflictAnswer}
+use Rattle.priority.specs.Conflict.{conflicts, isThere, conflictAnswer}
 use Rattle.priority.specs.declared.ConflictAnswer.the-variants.{Refused as NotAsked}
-
--- ---- what fits
-
-pub answered-fits : (kind value : ℕ) → kind < kindLimit → value < valueLimit → Fits (answered kind value)
-answered-fits kind value k v = record { kind = k; value = v }
-
-pub refused-fits : (number place : ℕ) → number ≤ largestNumber → Fits (refused number place)
-refused-fits number place h = record { kind = omega arith; value = omega arith }
+use Rattle.reply.proofs.AnswersLaws.{own-conflict-fits, write-fits, judge-fits}
+use Rattle.reply.proofs.ReplyLaws.{answered-fits, refused-fits}
+use Rattle.reply.specs.Answers.{checkReply, conflictReply, flatReply, listingReply}
+use Rattle.reply.specs.Reply.{refused, valueLimit, Fits}
+use Rattle.reply.specs.declared.Reply.{Reply}
 
 -- An operation that refuses what a verdict refuses: its reply fits if the verdict's numbers are small and its own answer fits.
 unless-fits : {A : Type 0} (reply : A → Reply) (refusing : ℕ → ℕ → A) (v : Verdict) (answer : A) → ((k p : ℕ) → reply (refusing k p) ≡ refused k p) → Numbered v
     → (v ≡ Accepted → Fits (reply answer)) → Fits (reply (unlessRefused refusing v answer))
 unless-fits reply refusing Accepted answer form numbered own = own refl
-unless-fits reply refusing (Rejected k p) answer form numbered own = rw (form k p) (refused-fits k p (numbered .small k p refl))
+unless-fits reply refusing (Rejected k p) answer form numbered own = rw (form k p) (refused-fits k p (omega (arith, numbered .small k p refl)))
 
 -- ---- checking a grammar
 
 verdict-fits : (v : Verdict) → Numbered v → Fits (checkReply v)
 unfolding checkReply
 verdict-fits Accepted numbered = answered-fits 0 0 (omega arith) (omega arith)
-verdict-fits (Rejected k p) numbered = refused-fits k p (numbered .small k p refl)
+verdict-fits (Rejected k p) numbered = refused-fits k p (omega (arith, numbered .small k p refl))
 
 pub check-fits : (b : List ℕ) → Fits (checkReply (checked b))
 check-fits b = verdict-fits (checked b) (grammar-numbered b)
 
 -- ---- the conflict question
-
-own-conflict-fits : (there conflict : Bool) → Fits (conflictReply (cond there (yesOrNo conflict) (NotAsked 7 0)))
-unfolding conflictReply
-own-conflict-fits true true = answered-fits 1 0 (omega arith) (omega arith)
-own-conflict-fits true false = answered-fits 0 0 (omega arith) (omega arith)
-own-conflict-fits false conflict = refused-fits 7 0 (omega arith)
 
 pub conflict-fits : (b : List ℕ) (p i q : ℕ) → Fits (conflictReply (conflictAnswer b p i q))
 unfolding conflictAnswer conflictReply
@@ -83,14 +69,6 @@ flat-text-short b formed =
     (λ p l. omega (arith, length-tabulate (argumentCount b p) (flatClass b p), formed .framed .fewArguments p l)) in
     omega arith
 
-write-fits : (n size : ℕ) → n < valueLimit → Fits (flatReply (writeAnswer n size))
-unfolding writeAnswer flatReply
-write-fits n size h =
-    elim (leb n size) as (λ (t : Bool). Fits (flatReply (cond t (Written n) (NotWritten 21 n)))) [
-      | true ↦ answered-fits 1 n (omega arith) h
-      | false ↦ refused-fits 21 n (omega arith)
-    ]
-
 pub flat-fits : (b : List ℕ) (size : ℕ) → Fits (flatReply (flatAnswer b size))
 unfolding flatAnswer flatReply
 flat-fits b size =
@@ -98,18 +76,6 @@ flat-fits b size =
     (λ e. write-fits (length (grammarText (flatGrammar b))) size (flat-text-short b (accepted-formed b e)))
 
 -- ---- checking a listing
-
--- The index of a wrong number is at most the count of numbers; there is no refusal.
-judge-fits : (g : List Line) (ns : List ℕ) (dues : List Class) (w : List ℕ) (k : ℕ) → k + length ns < valueLimit → Fits (listingReply (judge g ns dues w k))
-unfolding judge listingReply
-judge-fits g [] [] [] k h = answered-fits 0 0 (omega arith) (omega arith)
-judge-fits g [] [] (c ∷ w) k h = answered-fits 1 k (omega arith) (omega arith)
-judge-fits g [] (due ∷ dues) w k h = answered-fits 1 k (omega arith) (omega arith)
-judge-fits g (n ∷ ns) [] w k h = answered-fits 1 k (omega arith) (omega arith)
-judge-fits g (n ∷ ns) (due ∷ dues) w k h =
-    let next = judge g ns (dueAfter g n ++ dues) (textAfter g w n) (k + 1) in
-    let later = judge-fits g ns (dueAfter g n ++ dues) (textAfter g w n) (k + 1) (omega arith) in
-    elim (isRight g due w n) as (λ (t : Bool). Fits (listingReply (cond t next (Wrong k)))) [ true ↦ later | false ↦ answered-fits 1 k (omega arith) (omega arith) ]
 
 module _ (b w l : List ℕ) where
   -- the refusals in order, and the first of them

@@ -7,33 +7,24 @@ use native.Mathlib.Omega.{arith}
 use native.Mathlib.Decide.{decLt}
 use lib.ListN.{length, take, drop, length-take, drop-of-length-le}
 use lib.Seq.{take-all}
-use Rattle.engine.specs.Outcome.{Answered, UnlessRefused}
+use Rattle.engine.specs.Outcome.{UnlessRefused}
 use Rattle.engine.specs.declared.Answer.{Answer}
-use Rattle.engine.specs.declared.Answer.the-variants.{Refused, None, One, Several}
 use Rattle.grammar.specs.declared.Verdict.{Verdict}
 use Rattle.grammar.specs.declared.Verdict.the-variants.{Accepted, Refused as Rejected}
-use Rattle.meadowsink.proofs.FitLaws.{answered-fits, refused-fits}
-use Rattle.meadowsink.specs.Calls.{readReply}
-use Rattle.meadowsink.specs.Reply.{Fits}
-use Rattle.meadowsink.specs.declared.reply.Reply.{Reply}
 use Rattle.meadowsink.specs.Viewer.{listingLimit, UsedOutcome, CallOutcome}
 use Rattle.parse.proofs.NumberLaws.{Numbered, refusal-numbered}
 use Rattle.parse.proofs.OutcomeLaws.{outcome-unique}
 use Rattle.parse.specs.Outcome.{refusal, readingBy, Outcome}
-use Rattle.ccg.specs.Reading.{Reading}
-use Rattle.theory.specs.Tree.{Tree}
-
-own-fits : (P : Tree → Type 0) (l₀ : List ℕ) (r : Answer) (l : List ℕ) → length l₀ ≤ listingLimit → Answered P l₀ r l → Fits (readReply r)
-unfolding Answered readReply
-own-fits P l₀ None l h a = answered-fits 0 0 (omega arith) (omega arith)
-own-fits P l₀ (One n) l h a = answered-fits 1 n (omega arith) (omega (arith, a .3))
-own-fits P l₀ Several l h a = answered-fits 2 0 (omega arith) (omega arith)
-own-fits P l₀ (Refused number place) l h a = refused-fits number place (omega (arith, a .2))
+use Rattle.reply.proofs.AnswersLaws.{own-read-fits}
+use Rattle.reply.proofs.ReplyLaws.{refused-fits}
+use Rattle.reply.specs.Answers.{readReply}
+use Rattle.reply.specs.Reply.{Fits}
+use Rattle.reply.specs.declared.Reply.{Reply}
 
 after-fits : (b w c₀ l₀ : List ℕ) (r : Answer) (c l : List ℕ) (v : Verdict) → length l₀ ≤ listingLimit → Numbered v → UnlessRefused v (readingBy b w) c₀ l₀ r c l → Fits (readReply r)
 unfolding UnlessRefused readReply
-after-fits b w c₀ l₀ r c l Accepted h n a = own-fits (Reading b w) l₀ r l h (a .answer)
-after-fits b w c₀ l₀ r c l (Rejected number place) h n a = subst⁻¹ (λ (x : Answer). Fits (readReply x)) (a .0) (refused-fits number place (n .small number place refl))
+after-fits b w c₀ l₀ r c l Accepted h n a = own-read-fits (readingBy b w) l₀ r l (omega arith) (a .answer)
+after-fits b w c₀ l₀ r c l (Rejected number place) h n a = subst⁻¹ (λ (x : Answer). Fits (readReply x)) (a .0) (refused-fits number place (omega (arith, n .small number place refl)))
 
 pub read-fits : (b w c₀ l₀ : List ℕ) (r : Answer) (c l : List ℕ) → UsedOutcome b w c₀ l₀ r c l → Fits (readReply r)
 unfolding Outcome

@@ -4,10 +4,10 @@ use mathlib.Core.Path.{_≡_}
 use mathlib.Core.List.{List, _++_}
 use lib.ListN.{take, drop}
 use Rattle.engine.specs.declared.Answer.{Answer}
-use Rattle.meadowsink.specs.Calls.{readReply}
-use Rattle.meadowsink.specs.Reply.{numberOf, placeOf}
-use Rattle.meadowsink.specs.declared.reply.Reply.{Reply}
 use Rattle.parse.specs.Outcome.{Outcome}
+use Rattle.reply.specs.Answers.{readReply}
+use Rattle.reply.specs.Reply.{numberOf, placeOf}
+use Rattle.reply.specs.declared.Reply.{Reply}
 
 -- most bytes of the listing's buffer that the call uses
 abbrev pub listingLimit : ℕ

@@ -1,25 +1,12 @@
 // Checking a grammar.
-use crate::reply::Reply;
-use crate::reply::answer;
-use crate::reply::number;
-use crate::reply::place;
-use crate::reply::refusal;
-use grammar::Verdict;
 use priority::check_grammar;
+use reply::check::check_reply;
+use reply::number;
+use reply::place;
 ghost use mathlib.Core.Path.{_≡_};
-ghost use Rattle.meadowsink.specs.Calls.{checkReply};
-ghost use Rattle.meadowsink.specs.Reply.{numberOf, placeOf};
 ghost use Rattle.priority.specs.Check.{checked};
-
-// Kind 0 is accepted.
-fn check_reply(verdict: Verdict) -> Reply
-    ensures { λ r. ⌜ r ≡ checkReply verdict ⌝ }
-{
-    match verdict {
-        Verdict::Accepted => answer(0, 0),
-        Verdict::Refused(number, place) => refusal(number, place),
-    }
-}
+ghost use Rattle.reply.specs.Answers.{checkReply};
+ghost use Rattle.reply.specs.Reply.{numberOf, placeOf};
 
 // Whether a grammar is accepted.
 #[no_mangle]

@@ -1,26 +1,12 @@
 // Checking a listing.
-use crate::reply::Reply;
-use crate::reply::answer;
-use crate::reply::number;
-use crate::reply::place;
-use crate::reply::refusal;
-use listing::ListingAnswer;
 use listing::check_listing;
+use reply::check_listing::listing_reply;
+use reply::number;
+use reply::place;
 ghost use mathlib.Core.Path.{_≡_};
 ghost use Rattle.listing.specs.Answer.{listingAnswer};
-ghost use Rattle.meadowsink.specs.Calls.{listingReply};
-ghost use Rattle.meadowsink.specs.Reply.{numberOf, placeOf};
-
-// Kind 0 is right, kind 1 wrong; the value is the index.
-fn listing_reply(judgement: ListingAnswer) -> Reply
-    ensures { λ r. ⌜ r ≡ listingReply judgement ⌝ }
-{
-    match judgement {
-        ListingAnswer::Right => answer(0, 0),
-        ListingAnswer::Wrong(index) => answer(1, index),
-        ListingAnswer::Refused(number, place) => refusal(number, place),
-    }
-}
+ghost use Rattle.reply.specs.Answers.{listingReply};
+ghost use Rattle.reply.specs.Reply.{numberOf, placeOf};
 
 // Whether numbers are the listing of a parse of the text.
 #[no_mangle]

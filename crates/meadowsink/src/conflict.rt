@@ -1,26 +1,12 @@
 // The conflict question.
-use crate::reply::Reply;
-use crate::reply::answer;
-use crate::reply::number;
-use crate::reply::place;
-use crate::reply::refusal;
-use priority::ConflictAnswer;
 use priority::conflict::conflict;
+use reply::conflict::conflict_reply;
+use reply::number;
+use reply::place;
 ghost use mathlib.Core.Path.{_≡_};
-ghost use Rattle.meadowsink.specs.Calls.{conflictReply};
-ghost use Rattle.meadowsink.specs.Reply.{numberOf, placeOf};
 ghost use Rattle.priority.specs.Conflict.{conflictAnswer};
-
-// Kind 0 is no, kind 1 yes.
-fn conflict_reply(question: ConflictAnswer) -> Reply
-    ensures { λ r. ⌜ r ≡ conflictReply question ⌝ }
-{
-    match question {
-        ConflictAnswer::No => answer(0, 0),
-        ConflictAnswer::Yes => answer(1, 0),
-        ConflictAnswer::Refused(number, place) => refusal(number, place),
-    }
-}
+ghost use Rattle.reply.specs.Answers.{conflictReply};
+ghost use Rattle.reply.specs.Reply.{numberOf, placeOf};
 
 // Whether production q as argument i of production p is a conflict.
 #[no_mangle]

@@ -1,27 +1,14 @@
 // Writing a character class grammar.
-use crate::reply::Reply;
-use crate::reply::answer;
-use crate::reply::number;
-use crate::reply::place;
-use crate::reply::refusal;
-use ccg::FlatAnswer;
 use ccg::write_flat;
+use reply::flat::flat_reply;
+use reply::number;
+use reply::place;
 ghost use mathlib.Core.Path.{_≡_};
 ghost use lib.ListN.{length};
 ghost use Rattle.ccg.specs.Flat.{flatGrammar};
 ghost use Rattle.ccg.specs.Text.{grammarText, flatAnswer, bufferAfter};
-ghost use Rattle.meadowsink.specs.Calls.{flatReply};
-ghost use Rattle.meadowsink.specs.Reply.{numberOf, placeOf};
-
-// Kind 1 is written; the value is how many bytes.
-fn flat_reply(written: FlatAnswer) -> Reply
-    ensures { λ r. ⌜ r ≡ flatReply written ⌝ }
-{
-    match written {
-        FlatAnswer::Written(length) => answer(1, length),
-        FlatAnswer::Refused(number, place) => refusal(number, place),
-    }
-}
+ghost use Rattle.reply.specs.Answers.{flatReply};
+ghost use Rattle.reply.specs.Reply.{numberOf, placeOf};
 
 // The text of the grammar's character class grammar, written to the start of the buffer.
 #[no_mangle]

@@ -5,4 +5,3 @@ pub mod check_listing;
 pub mod conflict;
 pub mod flat;
 pub mod read;
-pub mod reply;

@@ -1,30 +1,15 @@
 // Reading a text.
-use crate::reply::Reply;
-use crate::reply::answer;
-use crate::reply::number;
-use crate::reply::place;
-use crate::reply::refusal;
 use engine::Answer;
 use parse::parse;
+use reply::number;
+use reply::place;
+use reply::read::read_reply;
 ghost use mathlib.Core.Path.{_≡_};
 ghost use Prim.Native.Nat.{min};
-ghost use Rattle.meadowsink.specs.Calls.{readReply};
 ghost use Rattle.meadowsink.specs.Viewer.{listingLimit, UsedOutcome, ViewerOutcome, PlaceOutcome};
 
 // Most bytes of the listing's buffer that a call uses.
 pub const LISTING_LIMIT: usize = 65536;
-
-// Kind 0 is none, kind 1 one, kind 2 several; the value of one is the length of its listing.
-fn read_reply(parses: Answer) -> Reply
-    ensures { λ r. ⌜ r ≡ readReply parses ⌝ }
-{
-    match parses {
-        Answer::None => answer(0, 0),
-        Answer::One(length) => answer(1, length),
-        Answer::Several => answer(2, 0),
-        Answer::Refused(number, place) => refusal(number, place),
-    }
-}
 
 fn used_part(n: usize) -> usize
     ensures { λ r. ⌜ r ≡ min n listingLimit ⌝ }

@@ -2,8 +2,8 @@
 use mathlib.Core.Path.{_∙_, ap}
 use borrow.Author.Needs.{needs}
 use Rattle.meadowsink.proofs.FitLaws.{check-fits}
-use Rattle.meadowsink.specs.Calls.{checkReply}
-use Rattle.meadowsink.specs.Reply.{numberOf}
+use Rattle.reply.specs.Answers.{checkReply}
+use Rattle.reply.specs.Reply.{numberOf}
 use Rattle.meadowsink.proofs.check.meadowsink_check.Statement.{statement}
 use Rattle.meadowsink.proofs.check.meadowsink_check.Tie as tie
 

@@ -1,8 +1,8 @@
 -- `meadowsink_check_place` meets its contract: the place is that of the check's verdict.
 use mathlib.Core.Path.{_∙_, ap}
 use borrow.Author.Needs.{needs}
-use Rattle.meadowsink.specs.Calls.{checkReply}
-use Rattle.meadowsink.specs.Reply.{placeOf}
+use Rattle.reply.specs.Answers.{checkReply}
+use Rattle.reply.specs.Reply.{placeOf}
 use Rattle.meadowsink.proofs.check.meadowsink_check_place.Statement.{statement}
 use Rattle.meadowsink.proofs.check.meadowsink_check_place.Tie as tie
 

@@ -2,8 +2,8 @@
 use mathlib.Core.Path.{_∙_, ap}
 use borrow.Author.Needs.{needs}
 use Rattle.meadowsink.proofs.FitLaws.{listing-fits}
-use Rattle.meadowsink.specs.Calls.{listingReply}
-use Rattle.meadowsink.specs.Reply.{numberOf}
+use Rattle.reply.specs.Answers.{listingReply}
+use Rattle.reply.specs.Reply.{numberOf}
 use Rattle.meadowsink.proofs.check_listing.meadowsink_check_listing.Statement.{statement}
 use Rattle.meadowsink.proofs.check_listing.meadowsink_check_listing.Tie as tie
 

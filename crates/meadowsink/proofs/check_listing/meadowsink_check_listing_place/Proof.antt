@@ -1,8 +1,8 @@
 -- `meadowsink_check_listing_place` meets its contract: the place is that of the check's answer.
 use mathlib.Core.Path.{_∙_, ap}
 use borrow.Author.Needs.{needs}
-use Rattle.meadowsink.specs.Calls.{listingReply}
-use Rattle.meadowsink.specs.Reply.{placeOf}
+use Rattle.reply.specs.Answers.{listingReply}
+use Rattle.reply.specs.Reply.{placeOf}
 use Rattle.meadowsink.proofs.check_listing.meadowsink_check_listing_place.Statement.{
   statement,
 }

@@ -2,8 +2,8 @@
 use mathlib.Core.Path.{_∙_, ap}
 use borrow.Author.Needs.{needs}
 use Rattle.meadowsink.proofs.FitLaws.{conflict-fits}
-use Rattle.meadowsink.specs.Calls.{conflictReply}
-use Rattle.meadowsink.specs.Reply.{numberOf}
+use Rattle.reply.specs.Answers.{conflictReply}
+use Rattle.reply.specs.Reply.{numberOf}
 use Rattle.meadowsink.proofs.conflict.meadowsink_conflict.Statement.{statement}
 use Rattle.meadowsink.proofs.conflict.meadowsink_conflict.Tie as tie
 

@@ -1,8 +1,8 @@
 -- `meadowsink_conflict_place` meets its contract: the place is that of the question's answer.
 use mathlib.Core.Path.{_∙_, ap}
 use borrow.Author.Needs.{needs}
-use Rattle.meadowsink.specs.Calls.{conflictReply}
-use Rattle.meadowsink.specs.Reply.{placeOf}
+use Rattle.reply.specs.Answers.{conflictReply}
+use Rattle.reply.specs.Reply.{placeOf}
 use Rattle.meadowsink.proofs.conflict.meadowsink_conflict_place.Statement.{statement}
 use Rattle.meadowsink.proofs.conflict.meadowsink_conflict_place.Tie as tie
 

@@ -2,8 +2,8 @@
 use mathlib.Core.Path.{_∙_, ap}
 use borrow.Author.Needs.{needs}
 use Rattle.meadowsink.proofs.FitLaws.{flat-fits}
-use Rattle.meadowsink.specs.Calls.{flatReply}
-use Rattle.meadowsink.specs.Reply.{numberOf}
+use Rattle.reply.specs.Answers.{flatReply}
+use Rattle.reply.specs.Reply.{numberOf}
 use Rattle.meadowsink.proofs.flat.meadowsink_flat.Statement.{statement}
 use Rattle.meadowsink.proofs.flat.meadowsink_flat.Tie as tie
 

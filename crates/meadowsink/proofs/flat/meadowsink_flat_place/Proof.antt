@@ -1,8 +1,8 @@
 -- `meadowsink_flat_place` meets its contract: the place is that of the answer, and the buffer is as writing leaves it.
 use mathlib.Core.Path.{_∙_, ap}
 use borrow.Author.Needs.{needs}
-use Rattle.meadowsink.specs.Calls.{flatReply}
-use Rattle.meadowsink.specs.Reply.{placeOf}
+use Rattle.reply.specs.Answers.{flatReply}
+use Rattle.reply.specs.Reply.{placeOf}
 use Rattle.meadowsink.proofs.flat.meadowsink_flat_place.Statement.{statement}
 use Rattle.meadowsink.proofs.flat.meadowsink_flat_place.Tie as tie
 

@@ -2,7 +2,7 @@
 use mathlib.Core.Path.{_∙_, ap}
 use borrow.Author.Needs.{needs}
 use Rattle.meadowsink.proofs.ViewerLaws.{read-fits}
-use Rattle.meadowsink.specs.Reply.{numberOf}
+use Rattle.reply.specs.Reply.{numberOf}
 use Rattle.meadowsink.proofs.read.meadowsink_read.Statement.{statement}
 use Rattle.meadowsink.proofs.read.meadowsink_read.Tie as tie
 

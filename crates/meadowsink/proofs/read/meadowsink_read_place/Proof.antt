@@ -1,7 +1,7 @@
 -- `meadowsink_read_place` meets its contract: the place is that of the answer.
 use mathlib.Core.Path.{_∙_, ap}
 use borrow.Author.Needs.{needs}
-use Rattle.meadowsink.specs.Reply.{placeOf}
+use Rattle.reply.specs.Reply.{placeOf}
 use Rattle.meadowsink.proofs.read.meadowsink_read_place.Statement.{statement}
 use Rattle.meadowsink.proofs.read.meadowsink_read_place.Tie as tie
 

@@ -1,9 +1,9 @@
 -- `conflict_reply` meets its contract, answer by answer.
 use mathlib.Core.Path.{refl}
 use borrow.Author.Needs.{needs}
-use Rattle.meadowsink.specs.Calls.{conflictReply}
-use Rattle.meadowsink.proofs.conflict.conflict_reply.Statement.{statement}
-use Rattle.meadowsink.proofs.conflict.conflict_reply.Tie as tie
+use Rattle.reply.specs.Answers.{conflictReply}
+use Rattle.reply.proofs.conflict.conflict_reply.Statement.{statement}
+use Rattle.reply.proofs.conflict.conflict_reply.Tie as tie
 
 enum-told : tie.Need-enum-told
 enum-told c = search needs

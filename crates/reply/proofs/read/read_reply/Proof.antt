@@ -1,9 +1,9 @@
 -- `read_reply` meets its contract, answer by answer.
 use mathlib.Core.Path.{refl}
 use borrow.Author.Needs.{needs}
-use Rattle.meadowsink.specs.Calls.{readReply}
-use Rattle.meadowsink.proofs.read.read_reply.Statement.{statement}
-use Rattle.meadowsink.proofs.read.read_reply.Tie as tie
+use Rattle.reply.specs.Answers.{readReply}
+use Rattle.reply.proofs.read.read_reply.Statement.{statement}
+use Rattle.reply.proofs.read.read_reply.Tie as tie
 
 enum-told : tie.Need-enum-told
 enum-told c = search needs

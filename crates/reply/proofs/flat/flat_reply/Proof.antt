@@ -1,9 +1,9 @@
 -- `flat_reply` meets its contract, answer by answer.
 use mathlib.Core.Path.{refl}
 use borrow.Author.Needs.{needs}
-use Rattle.meadowsink.specs.Calls.{flatReply}
-use Rattle.meadowsink.proofs.flat.flat_reply.Statement.{statement}
-use Rattle.meadowsink.proofs.flat.flat_reply.Tie as tie
+use Rattle.reply.specs.Answers.{flatReply}
+use Rattle.reply.proofs.flat.flat_reply.Statement.{statement}
+use Rattle.reply.proofs.flat.flat_reply.Tie as tie
 
 enum-known-written : tie.Need-enum-known-written
 enum-known-written c = search needs

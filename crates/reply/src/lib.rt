@@ -1,6 +1,12 @@
-// The answer of an operation, in the form in which all calls give it.
+// The answer of an operation, in the form in which all calls give it. A module to an operation says what each of its answers is in this form.
+pub mod check;
+pub mod check_listing;
+pub mod conflict;
+pub mod flat;
+pub mod read;
+
 ghost use mathlib.Core.Path.{_≡_};
-ghost use Rattle.meadowsink.specs.Reply.{Fits, answered, refused, numberOf, placeOf};
+ghost use Rattle.reply.specs.Reply.{Fits, answered, refused, numberOf, placeOf};
 
 // Its kind, its value, and the place of a refusal, 0 for none.
 pub struct Reply {

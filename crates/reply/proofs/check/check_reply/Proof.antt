@@ -1,9 +1,9 @@
 -- `check_reply` meets its contract, verdict by verdict.
 use mathlib.Core.Path.{refl}
 use borrow.Author.Needs.{needs}
-use Rattle.meadowsink.specs.Calls.{checkReply}
-use Rattle.meadowsink.proofs.check.check_reply.Statement.{statement}
-use Rattle.meadowsink.proofs.check.check_reply.Tie as tie
+use Rattle.reply.specs.Answers.{checkReply}
+use Rattle.reply.proofs.check.check_reply.Statement.{statement}
+use Rattle.reply.proofs.check.check_reply.Tie as tie
 
 enum-told : tie.Need-enum-told
 enum-told c = search needs

@@ -1,6 +1,6 @@
 -- The answer of an operation, in the form in which all calls give it (include/meadowsink.h): a kind and a value, in one number, and the place of a refusal.
 use Prim.Native.Nat.{ℕ, _+_, _*_, _^_, _<_}
-use Rattle.meadowsink.specs.declared.reply.Reply.{Reply}
+use Rattle.reply.specs.declared.Reply.{Reply}
 
 -- kinds are below this
 abbrev pub kindLimit : ℕ

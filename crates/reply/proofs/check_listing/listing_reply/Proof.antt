@@ -1,9 +1,9 @@
 -- `listing_reply` meets its contract, answer by answer.
 use mathlib.Core.Path.{refl}
 use borrow.Author.Needs.{needs}
-use Rattle.meadowsink.specs.Calls.{listingReply}
-use Rattle.meadowsink.proofs.check_listing.listing_reply.Statement.{statement}
-use Rattle.meadowsink.proofs.check_listing.listing_reply.Tie as tie
+use Rattle.reply.specs.Answers.{listingReply}
+use Rattle.reply.proofs.check_listing.listing_reply.Statement.{statement}
+use Rattle.reply.proofs.check_listing.listing_reply.Tie as tie
 
 enum-told : tie.Need-enum-told
 enum-told c = search needs

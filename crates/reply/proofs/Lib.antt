@@ -1,0 +1,3 @@
+-- Laws of the replies.
+pub mod ReplyLaws
+pub mod AnswersLaws
