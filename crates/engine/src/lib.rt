@@ -7,6 +7,8 @@ use common::wide;
 use extract::write_only;
 use fill::fill;
 use grammar::Verdict;
+use prepare::prepare;
+use prepare::zero_prepared;
 use tables::ROOT_SLOT;
 use tables::argument_count;
 use tables::production_count;
@@ -19,6 +21,7 @@ ghost use Rattle.common.specs.Bytes.{byteValues};
 ghost use Rattle.chart.specs.Layout.{ChartFits};
 ghost use Rattle.tables.specs.Layout.{countsOf, ParserTables};
 ghost use Rattle.theory.specs.Counts.{Counts};
+ghost use Rattle.prepare.specs.Prepared.{Prepared};
 ghost use Rattle.engine.specs.Outcome.{Answered, ChartAfter, Parsed};
 ghost use Rattle.engine.specs.Refusals.{tooLong, textRefusal};
 ghost use Rattle.engine.specs.Roots.{ParseBy, rootTerm, parsingBy, Filled, TablesOutcome};
@@ -111,14 +114,15 @@ fn first_root(chart: &[u8], text: &[u8], tables: &[u64]) -> usize
     p
 }
 
-// Fills the chart, and counts the parses: 0, 1, or 2 for more.
-pub fn count_parses(tables: &[u64], text: &[u8], chart: &mut [u8]) -> u8
+// Fills the chart by the tables and what is prepared for them, and counts the parses: 0, 1, or 2 for more.
+pub fn count_parses(tables: &[u64], prepared: &[u8], text: &[u8], chart: &mut [u8]) -> u8
     requires { ⌜ ChartFits (now tables) (length (now text)) (now chart) ⌝ }
+    requires { ⌜ Prepared (now tables) (now prepared) ⌝ }
     ensures { λ r. ⌜ Counts (ParseBy (now (tables .entry)) (now (text .entry))) r ⌝ }
     ensures { λ _. ⌜ Filled (now (tables .entry)) (now (text .entry)) (now (chart .exit)) ⌝ }
     ensures { λ _. ⌜ ChartAfter (parsingBy (now (tables .entry)) (now (text .entry))) (now (chart .entry)) (now (chart .exit)) ⌝ }
 {
-    fill(chart, text, tables);
+    fill(chart, text, tables, prepared);
     capped(root_sum(chart, text, tables))
 }
 
@@ -139,11 +143,18 @@ pub fn write_parse(tables: &[u64], text: &[u8], chart: &[u8], listing: &mut [u8]
 }
 
 // The chart is filled; a text with one parse has its listing written, as far as there is room.
-fn parse_short(tables: &[u64], text: &[u8], chart: &mut [u8], listing: &mut [u8]) -> Answer
+fn parse_prepared(
+    tables: &[u64],
+    prepared: &[u8],
+    text: &[u8],
+    chart: &mut [u8],
+    listing: &mut [u8],
+) -> Answer
     requires { ⌜ ChartFits (now tables) (length (now text)) (now chart) ⌝ }
+    requires { ⌜ Prepared (now tables) (now prepared) ⌝ }
     ensures { λ r. ⌜ Parsed (parsingBy (now (tables .entry)) (now (text .entry))) (now (chart .entry)) (now (listing .entry)) r (now (chart .exit)) (now (listing .exit)) ⌝ }
 {
-    let found = count_parses(tables, text, chart);
+    let found = count_parses(tables, prepared, text, chart);
     if found == 0 {
         return Answer::None;
     }
@@ -161,6 +172,10 @@ pub fn parse_tables(tables: &[u64], text: &[u8], chart: &mut [u8], listing: &mut
     let verdict = check_input(tables, text, chart);
     match verdict {
         Verdict::Refused(number, place) => Answer::Refused(number, place),
-        Verdict::Accepted => parse_short(tables, text, chart, listing),
+        Verdict::Accepted => {
+            let mut prepared = zero_prepared();
+            prepare(tables, &mut prepared);
+            parse_prepared(tables, &prepared, text, chart, listing)
+        }
     }
 }

@@ -9,10 +9,10 @@ use column::bare_args;
 use column::clear_column;
 use column::store_cells;
 use column::sums_at;
-use empty::settle_empty;
-use links::link;
-use span::USERS;
-use span::USES;
+use prepare::BACK_AT;
+use prepare::EMPTY_AT;
+use prepare::PREPARED;
+use prepare::USES_AT;
 use span::settle;
 use tables::argument_counts;
 use tables::production_count;
@@ -28,7 +28,8 @@ ghost use Rattle.tables.specs.Theory.{theoryOf};
 ghost use Rattle.chart.specs.Layout.{rowLimit, places, chartNeed, ChartFits};
 ghost use Rattle.chart.specs.Counted.{CountedBy};
 ghost use Rattle.theory.specs.Steps.{everything};
-ghost use Rattle.span.specs.Tables.{Links, userBytes, useBytes};
+ghost use Rattle.span.specs.Tables.{Links};
+ghost use Rattle.prepare.specs.Prepared.{Prepared};
 ghost use Rattle.fill.specs.Filling.{SmallCells, SmallSums};
 ghost use Rattle.fill.specs.Tables.{Ready, Further, Onward};
 
@@ -213,49 +214,33 @@ fn fill_columns(
     }
 }
 
-fn zero_users() -> [u8; USERS]
-    ensures { λ r. ⌜ AllZero userBytes r ⌝ }
-{
-    [0; USERS]
-}
-
-fn zero_uses() -> [u8; USES]
-    ensures { λ r. ⌜ AllZero useBytes r ⌝ }
-{
-    [0; USES]
-}
-
 fn zero_sums() -> [u8; SUMS]
     ensures { λ r. ⌜ AllZero (rowLimit * places) r ⌝ }
 {
     [0; SUMS]
 }
 
-// Fills the chart of a text by the flat tables. Bytes beyond the chart stay.
-pub fn fill(chart: &mut [u8], text: &[u8], tables: &[u64])
+// Fills the chart of a text by the flat tables and what is prepared for them. Bytes beyond the chart stay.
+pub fn fill(chart: &mut [u8], text: &[u8], tables: &[u64], prepared: &[u8])
     requires { ⌜ ChartFits (now tables) (length (now text)) (now chart) ⌝ }
+    requires { ⌜ Prepared (now tables) (now prepared) ⌝ }
     ensures { λ _. ⌜ CountedBy (theoryOf (now (tables .entry))) (now (text .entry)) everything (now (chart .exit)) ⌝ }
     ensures { λ _. ⌜ ((k : ℕ) → chartNeed (now (tables .entry)) (length (now (text .entry))) ≤ k → getD (now (chart .exit)) k 0 ≡ getD (now (chart .entry)) k 0) ⌝ }
 {
     let counts = argument_counts(tables);
     let count = production_count(tables);
-    fill_by_counts(chart, text, &counts[..count], tables);
+    fill_by_counts(chart, text, &counts[..count], tables, prepared);
 }
 
 // The same with the argument counts as bytes.
-fn fill_by_counts(chart: &mut [u8], text: &[u8], counts: &[u8], tables: &[u64])
+fn fill_by_counts(chart: &mut [u8], text: &[u8], counts: &[u8], tables: &[u64], prepared: &[u8])
     requires { ⌜ ChartFits (now tables) (length (now text)) (now chart) ⌝ }
+    requires { ⌜ Prepared (now tables) (now prepared) ⌝ }
     requires { ⌜ now counts ≡ countsOf (now tables) ⌝ }
     ensures { λ _. ⌜ CountedBy (theoryOf (now (tables .entry))) (now (text .entry)) everything (now (chart .exit)) ⌝ }
     ensures { λ _. ⌜ ((k : ℕ) → chartNeed (now (tables .entry)) (length (now (text .entry))) ≤ k → getD (now (chart .exit)) k 0 ≡ getD (now (chart .entry)) k 0) ⌝ }
 {
-    let mut users = zero_users();
-    let mut uses = zero_uses();
-    link(counts, tables, &mut users, &mut uses);
     let rows = row_count(tables);
-    let mut empty = zero_row();
-    let mut back = zero_row();
-    settle_empty(counts, rows, &users, &uses, &mut back, &mut empty);
     let mut sums = zero_sums();
     let mut live = [0; PLACES];
     fill_columns(
@@ -263,11 +248,11 @@ fn fill_by_counts(chart: &mut [u8], text: &[u8], counts: &[u8], tables: &[u64])
         text,
         counts,
         tables,
-        &users,
-        &uses,
+        &prepared[..USES_AT],
+        &prepared[USES_AT..EMPTY_AT],
         rows,
-        &empty,
-        &back,
+        &prepared[EMPTY_AT..BACK_AT],
+        &prepared[BACK_AT..PREPARED],
         &mut sums,
         &mut live,
     );

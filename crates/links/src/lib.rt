@@ -24,14 +24,7 @@ ghost use Rattle.links.specs.Linked.{Joined, UsedOctets, BitsTurned, Use
 // ---- octets
 
 // Writes octet k of each argument of production p.
-fn octet_production(
-    tables: &[u64],
-    k: usize,
-    p: usize,
-    base: usize,
-    arity: usize,
-    out: &mut [u8],
-)
+fn octet_production(tables: &[u64], k: usize, p: usize, base: usize, arity: usize, out: &mut [u8])
     requires { ⌜ (length (now out) ≡ rowLimit) × (length (now tables) ≡ tableWords) × (k < productionOctets) ⌝ }
     requires { ⌜ (p < productionLimit) × (arity ≤ argumentLimit) × (base + arity < rowLimit) ⌝ }
     ensures { λ _. ⌜ Region (λ (d : ℕ) (v : ℕ). v ≡ productionOctet (now (tables .entry)) (slot p d) k) 0 base arity (now (out .entry)) (now (out .exit)) ⌝ }

@@ -72,13 +72,7 @@ fn prepare_links(counts: &[u8], tables: &[u64], prepared: &mut [u8])
 }
 
 // The empty span, settled by the links, over zeros.
-fn settle_by_links(
-    counts: &[u8],
-    tables: &[u64],
-    linked: &[u8],
-    back: &mut [u8],
-    empty: &mut [u8],
-)
+fn settle_by_links(counts: &[u8], tables: &[u64], linked: &[u8], back: &mut [u8], empty: &mut [u8])
     requires { ⌜ ParserTables (now tables) ⌝ }
     requires { ⌜ now counts ≡ countsOf (now tables) ⌝ }
     requires { ⌜ Linked (now tables) (now linked) ⌝ }

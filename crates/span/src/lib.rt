@@ -19,11 +19,6 @@ ghost use Rattle.tables.specs.Layout.{arityIn, rowCount};
 ghost use Rattle.span.specs.Tables.{spanOf, advanced, Exact, Founded, Links, Loads, Visited, Settled};
 ghost use Rattle.common.specs.Bytes.{byteValues};
 
-// The length of the table of users.
-pub const USERS: usize = PRODUCTION_LIMIT * ROW_LIMIT;
-// The length of the table of uses.
-pub const USES: usize = PRODUCTION_LIMIT * PRODUCTION_LIMIT;
-
 // What the equation of a cell gives: the inner splits, the split at the start, and the split at the end.
 fn step(inner: u8, front: u8, argument: u8, prefix: u8, back: u8) -> u8
     ensures { λ r. ⌜ r ≡ cap (inner + front * argument + prefix * back) ⌝ }

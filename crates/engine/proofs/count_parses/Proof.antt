@@ -6,6 +6,9 @@ use Rattle.engine.proofs.EngineLaws.{fits-kept, filled-all, parses-coun
 use Rattle.theory.specs.Steps.{cap}
 use Rattle.engine.proofs.count_parses.Statement.{statement}
 use Rattle.engine.proofs.count_parses.Tie as tie
+use Rattle.chart.proofs.sums.capped.Reads as capped-reads
+use Rattle.engine.proofs.root_sum.Reads as root-sum-reads
+use Rattle.fill.proofs.fill.Reads as fill-reads
 
 fill-requires : tie.Need-fill-requires
 fill-requires c κs = search needs
@@ -21,14 +24,14 @@ same-length c = search needs
 
 returns : tie.Need-returns
 returns c =
-    let start = c .before .before .before .before .before .before .before .before .before .before in
-    let fill′ = c .before .before .before .before .before .fill in
+    let start = c .before .before .before .before .before .before .before .before .before .before .before in
+    let fill = c .before .before .before .before .before .fill in
     let a = start .args in
-    let chart = fill′ .last .0 in
-    let counted = fill′ .ensures .0 in
-    let fits = fits-kept (a .tables .now) (length (a .text .now)) (a .chart .now) chart (fill′ .kept .0) (start .pre) in
+    let chart = fill .last .0 in
+    let counted = fill .ensures .0 in
+    let fits = fits-kept (a .tables .now) (length (a .text .now)) (a .chart .now) chart (fill .kept .0) (start .pre .0) in
     let filled = filled-all (a .tables .now) (a .text .now) chart fits counted in
-    (parses-counted (a .tables .now) (a .text .now) chart filled (c .capped .result) (c .capped .ensures ∙ ap cap (c .before .root-sum .ensures)), (filled, chart-after (a .tables .now) (a .text .now) (a .chart .now) chart counted (fill′ .kept .0) (fits .longEnough) (fill′ .ensures .1)))
+    (parses-counted (a .tables .now) (a .text .now) chart filled (c .capped .result) (c .capped .ensures ∙ ap cap (c .before .root-sum .ensures)), (filled, chart-after (a .tables .now) (a .text .now) (a .chart .now) chart counted (fill .kept .0) (fits .longEnough) (fill .ensures .1)))
 
 pub count-parses-spec : {M : Type 1} → statement M
 count-parses-spec =

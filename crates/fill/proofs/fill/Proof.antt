@@ -5,9 +5,12 @@ use lib.ListN.{length}
 use lib.Seq.{length-take-le}
 use borrow.Author.Needs.{needs}
 use Rattle.grammar.specs.Limits.{productionLimit}
-use Rattle.tables.proofs.LayoutLaws.{counts-long, counts-copied}
+use Rattle.tables.proofs.LayoutLaws.{counts-few, counts-copied}
 use Rattle.fill.proofs.fill.Statement.{statement}
 use Rattle.fill.proofs.fill.Tie as tie
+use Rattle.fill.proofs.fill_by_counts.Reads as fill-by-counts-reads
+use Rattle.tables.proofs.argument_counts.Reads as argument-counts-reads
+use Rattle.tables.proofs.production_count.Reads as production-count-reads
 
 argument-counts-requires : tie.Need-argument-counts-requires
 argument-counts-requires c κs = search needs
@@ -17,28 +20,25 @@ production-count-requires c κs = search needs
 
 array-share-prefix-counts : tie.Need-array-share-prefix-counts
 array-share-prefix-counts c =
-    let start = c .before .before .before .before .before .before in
-    let t = start .pre .tables in
+    let start = c .before .before .before .before .before .before .before in
     let long : length (c .before .before .argument-counts .result) ≡ productionLimit = search needs in
-    omega (arith, c .before .production-count .ensures, counts-long (start .args .tables .now) (t .long) (t .fewProductions), t .fewProductions)
+    omega (arith, c .before .production-count .ensures, counts-few (start .args .tables .now) (start .pre .0 .tables))
 
 slice-aggregate-fill-by-counts : tie.Need-slice-aggregate-fill-by-counts
 slice-aggregate-fill-by-counts c =
-    let start = c .before .before .before .before .before .before .before in
+    let start = c .before .before .before .before .before .before .before .before in
     let argument-counts = c .before .before .before .argument-counts in
     let production-count = c .before .before .production-count in
-    let t = start .pre .tables in
     let long : length (argument-counts .result) ≡ productionLimit = search needs in
-    sym (length-take-le (production-count .result) (argument-counts .result) (omega (arith, production-count .ensures, counts-long (start .args .tables .now) (t .long) (t .fewProductions), t .fewProductions)))
+    sym (length-take-le (production-count .result) (argument-counts .result) (omega (arith, production-count .ensures, counts-few (start .args .tables .now) (start .pre .0 .tables))))
 
 fill-by-counts-requires : tie.Need-fill-by-counts-requires
 fill-by-counts-requires c κs =
-    let start = c .before .before .before .before .before .before .before in
+    let start = c .before .before .before .before .before .before .before .before in
     let argument-counts = c .before .before .before .argument-counts in
     let production-count = c .before .before .production-count in
-    let t = start .pre .tables in
     let long : length (argument-counts .result) ≡ productionLimit = search needs in
-    (start .pre, counts-copied (start .args .tables .now) (argument-counts .result) (production-count .result) (production-count .ensures) (omega (arith, production-count .ensures, counts-long (start .args .tables .now) (t .long) (t .fewProductions), t .fewProductions)) (argument-counts .ensures))
+    (start .pre .0, (start .pre .1, counts-copied (start .args .tables .now) (argument-counts .result) (production-count .result) (production-count .ensures) (omega (arith, production-count .ensures, counts-few (start .args .tables .now) (start .pre .0 .tables))) (argument-counts .ensures)))
 
 same-length : tie.Need-same-length
 same-length c = search needs

@@ -52,7 +52,6 @@ loop-again c =
     let turn = c .before .before .before .before .before .before .before .loop in
     let row-octets = c .before .before .before .before .before .row-octets in
     let turn-octets = c .before .before .turn-octets in
-    
     let more = users-more (start .args .counts .now) (start .args .tables .now) (start .pre .0 .0) (start .pre .0 .1) (turn .k) (row-octets .result) (turn .users) (turn-octets .last .1 .1 .0) (turn .inv .0) (row-octets .ensures) (turn-octets .ensures) in
     let e : turn .k * octetBits + octetBits ≡ (turn .k + 1) * octetBits = omega arith in
     (subst (λ (n : ℕ). UsersTo (start .args .counts .now) (start .args .tables .now) n (turn-octets .last .1 .1 .0)) e more, omega arith)

@@ -52,7 +52,6 @@ loop-again c =
     let turn = c .before .before .before .before .before .before .before .loop in
     let used-octets = c .before .before .before .before .before .used-octets in
     let turn-octets = c .before .before .turn-octets in
-    
     let more = uses-more (start .args .counts .now) (start .args .tables .now) (start .pre .0 .0) (start .pre .0 .1) (turn .k) (used-octets .result) (turn .uses) (turn-octets .last .1 .1 .0) (turn .inv .0) (used-octets .ensures) (turn-octets .ensures) in
     let e : turn .k * octetBits + octetBits ≡ (turn .k + 1) * octetBits = omega arith in
     (subst (λ (n : ℕ). UsesTo (start .args .counts .now) (start .args .tables .now) n (turn-octets .last .1 .1 .0)) e more, omega arith)

@@ -45,7 +45,6 @@ octet-production-requires : tie.Need-octet-production-requires Inv-loop μ-loop
 octet-production-requires c κs =
     let start = c .before .before .before .before .before .before .before .before in
     let turn = c .before .before .before .before .loop in
-    
     let counts = start .args .counts .now in
     let few = rows-few (arityIn counts) (length counts) (start .pre .0 .0) (start .pre .0 .1) in
     let inside = row-in (arityIn counts) (turn .p) (arityIn counts (turn .p)) (length counts) (omega arith) (omega arith) in
@@ -64,7 +63,6 @@ add-base-2 : tie.Need-add-base-2 Inv-loop μ-loop
 add-base-2 c =
     let start = c .before .before .before .before .before .before .before .before .before .before .before .before in
     let turn = c .before .before .before .before .before .before .before .before .loop in
-    
     let counts = start .args .counts .now in
     let few = rows-few (arityIn counts) (length counts) (start .pre .0 .0) (start .pre .0 .1) in
     let inside = row-in (arityIn counts) (turn .p) 0 (length counts) (omega arith) (omega arith) in
@@ -81,7 +79,6 @@ loop-again c =
     let start = c .before .before .before .before .before .before .before .before .before .before .before .before in
     let octet-production = c .before .before .before .octet-production in
     let turn = c .before .before .before .before .before .before .before .before .loop in
-    
     let counts = start .args .counts .now in
     let v : ℕ → ℕ → ℕ = λ p d. productionOctet (start .args .tables .now) (slot p d) (start .args .k) in
     let out′ = octet-production .last .1 .1 .1 .1 .1 .0 in

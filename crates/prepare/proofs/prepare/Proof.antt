@@ -21,7 +21,6 @@ production-count-requires c κs = search needs
 array-share-prefix-counts : tie.Need-array-share-prefix-counts
 array-share-prefix-counts c =
     let start = c .before .before .before .before in
-    
     let long : length (c .before .argument-counts .result) ≡ productionLimit = search needs in
     omega (arith, c .production-count .ensures, counts-few (start .args .tables .now) (start .pre .0))
 
@@ -29,7 +28,6 @@ slice-aggregate-prepare-by-counts : tie.Need-slice-aggregate-prepare-by-counts
 slice-aggregate-prepare-by-counts c =
     let start = c .before .before .before .before .before in
     let argument-counts = c .before .before .argument-counts in
-    
     let long : length (argument-counts .result) ≡ productionLimit = search needs in
     sym (length-take-le (c .before .production-count .result) (argument-counts .result) (omega (arith, c .before .production-count .ensures, counts-few (start .args .tables .now) (start .pre .0))))
 
@@ -38,7 +36,6 @@ prepare-by-counts-requires c κs =
     let start = c .before .before .before .before .before .before in
     let argument-counts = c .before .before .before .argument-counts in
     let production-count = c .before .before .production-count in
-    
     let long : length (argument-counts .result) ≡ productionLimit = search needs in
     (start .pre .0, (counts-copied (start .args .tables .now) (argument-counts .result) (production-count .result) (production-count .ensures) (omega (arith, production-count .ensures, counts-few (start .args .tables .now) (start .pre .0))) (argument-counts .ensures), start .pre .1))
 

@@ -68,7 +68,6 @@ part-copy-end-2 : tie.Need-part-copy-end-2
 part-copy-end-2 c =
     let copy = c .before .before .before .copy in
     let prepare-links = c .before .before .before .before .before .before .before .before .before .before .before .before .before .before .before .before .prepare-links in
-    
     let long : length (copy .last .1 .0) ≡ rowLimit = ap length (copy .ensures) ∙ c .before .before .before .before .before .before .before .before .settle-by-links .kept .1 .1 .1 .1 .0 ∙ c .before .before .before .before .before .before .before .before .before .before .before .before .before .zero-row .ensures .long in
     subst (λ (n : ℕ). preparedBytes ≤ n) (sym (cells-kept (c .before .before .before .before .before .before .before .before .before .before .before .before .before .before .before .before .before .before .before .before .before .args .tables .now) (prepare-links .last .1 .1 .0) (copy .last .1 .0) long (prepare-links .ensures) .long)) (le-refl preparedBytes)
 
@@ -77,7 +76,6 @@ copy-requires-2 c κs =
     let copy = c .before .before .before .before .copy in
     let settle-by-links = c .before .before .before .before .before .before .before .before .before .settle-by-links in
     let prepare-links = c .before .before .before .before .before .before .before .before .before .before .before .before .before .before .before .before .before .prepare-links in
-    
     let long : length (copy .last .1 .0) ≡ rowLimit = ap length (copy .ensures) ∙ settle-by-links .kept .1 .1 .1 .1 .0 ∙ c .before .before .before .before .before .before .before .before .before .before .before .before .before .before .zero-row .ensures .long in
     let cells = cells-kept (c .before .before .before .before .before .before .before .before .before .before .before .before .before .before .before .before .before .before .before .before .before .before .args .tables .now) (prepare-links .last .1 .1 .0) (copy .last .1 .0) long (prepare-links .ensures) in
     part-long backAt (preparedBytes - backAt) (putMid emptyAt (backAt - emptyAt) (prepare-links .last .1 .1 .0) (copy .last .1 .0)) (subst (λ (n : ℕ). preparedBytes ≤ n) (sym (cells .long)) (le-refl preparedBytes)) ∙ sym (settle-by-links .kept .1 .1 .1 .0 ∙ c .before .before .before .before .before .before .before .before .before .before .before .before .before .zero-row2 .ensures .long)
@@ -89,7 +87,6 @@ same-length c =
     let settle-by-links = c .before .before .before .before .before .before .before .before .before .before .before .before .settle-by-links in
     let copy2 = c .before .before .copy2 in
     let prepare-links = c .before .before .before .before .before .before .before .before .before .before .before .before .before .before .before .before .before .before .before .before .prepare-links in
-    
     let long : length (copy .last .1 .0) ≡ rowLimit = ap length (copy .ensures) ∙ settle-by-links .kept .1 .1 .1 .1 .0 ∙ c .before .before .before .before .before .before .before .before .before .before .before .before .before .before .before .before .before .zero-row .ensures .long in
     let long2 : length (copy2 .last .1 .0) ≡ rowLimit = ap length (copy2 .ensures) ∙ settle-by-links .kept .1 .1 .1 .0 ∙ c .before .before .before .before .before .before .before .before .before .before .before .before .before .before .before .before .zero-row2 .ensures .long in
     let all = all-prepared (start .args .tables .now) (prepare-links .last .1 .1 .0) (copy .last .1 .0) (copy2 .last .1 .0) long long2 (prepare-links .ensures) (subst₂ (EmptyRight (theoryOf (start .args .tables .now))) (sym (copy .ensures)) (sym (copy2 .ensures)) (settle-by-links .ensures)) in
@@ -102,7 +99,6 @@ returns c =
     let settle-by-links = c .before .before .before .before .before .before .before .before .before .before .before .before .settle-by-links in
     let copy2 = c .before .before .copy2 in
     let prepare-links = c .before .before .before .before .before .before .before .before .before .before .before .before .before .before .before .before .before .before .before .before .prepare-links in
-    
     let long : length (copy .last .1 .0) ≡ rowLimit = ap length (copy .ensures) ∙ settle-by-links .kept .1 .1 .1 .1 .0 ∙ c .before .before .before .before .before .before .before .before .before .before .before .before .before .before .before .before .before .zero-row .ensures .long in
     let long2 : length (copy2 .last .1 .0) ≡ rowLimit = ap length (copy2 .ensures) ∙ settle-by-links .kept .1 .1 .1 .0 ∙ c .before .before .before .before .before .before .before .before .before .before .before .before .before .before .before .before .zero-row2 .ensures .long in
     all-prepared (start .args .tables .now) (prepare-links .last .1 .1 .0) (copy .last .1 .0) (copy2 .last .1 .0) long long2 (prepare-links .ensures) (subst₂ (EmptyRight (theoryOf (start .args .tables .now))) (sym (copy .ensures)) (sym (copy2 .ensures)) (settle-by-links .ensures))

@@ -28,7 +28,6 @@ slice-aggregate-link-users c =
 link-users-requires : tie.Need-link-users-requires
 link-users-requires c κs =
     let start = c .before .before .before .before in
-    
     let few = subst⁻¹ (λ (l : List ℕ). length l ≤ productionLimit) (start .pre .1 .0) (counts-few (start .args .tables .now) (start .pre .0)) in
     let short = subst⁻¹ (λ (l : List ℕ). (p : ℕ) → arityIn l p ≤ argumentLimit) (start .pre .1 .0) (start .pre .0 .fewArguments) in
     ((few, short, start .pre .0 .long), front-zeros usesAt preparedBytes (start .args .prepared .now) (omega arith) (start .pre .1 .1))
@@ -46,7 +45,6 @@ link-uses-requires : tie.Need-link-uses-requires
 link-uses-requires c κs =
     let start = c .before .before .before .before .before .before .before .before in
     let link-users = c .before .before .before .link-users in
-    
     let few = subst⁻¹ (λ (l : List ℕ). length l ≤ productionLimit) (start .pre .1 .0) (counts-few (start .args .tables .now) (start .pre .0)) in
     let short = subst⁻¹ (λ (l : List ℕ). (p : ℕ) → arityIn l p ≤ argumentLimit) (start .pre .1 .0) (start .pre .0 .fewArguments) in
     let front = link-users .last .1 .1 .0 ++ drop usesAt (start .args .prepared .now) in
@@ -60,7 +58,6 @@ returns c =
     let start = c .before .before .before .before .before .before .before .before .before .before .before in
     let link-users = c .before .before .before .before .before .before .link-users in
     let link-uses = c .before .before .link-uses in
-    
     let users = subst (λ (l : List ℕ). UsersTo l (start .args .tables .now) (length l) (link-users .last .1 .1 .0)) (start .pre .1 .0) (link-users .ensures) in
     let uses = subst (λ (l : List ℕ). UsesTo l (start .args .tables .now) (length l) (link-uses .last .1 .1 .0)) (start .pre .1 .0) (link-uses .ensures) in
     linked (start .args .tables .now) (start .pre .0) (start .args .prepared .now) (link-users .last .1 .1 .0) (link-uses .last .1 .1 .0) (start .pre .1 .1 .long) users uses

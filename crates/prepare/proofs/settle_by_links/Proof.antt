@@ -32,7 +32,6 @@ part-settle-empty-end c = search needs
 settle-empty-requires : tie.Need-settle-empty-requires
 settle-empty-requires c κs =
     let start = c .before .before .before .before .before .before .before .before .before .before in
-    
     (subst⁻¹ (λ (l : List ℕ). Links l (usersIn (start .args .linked .now)) (usesIn (start .args .linked .now))) (start .pre .1 .0) (start .pre .1 .1 .0 .links), (start .pre .1 .1 .1 .0, start .pre .1 .1 .1 .1, c .before .before .before .before .row-count .ensures ∙ sym (ap (λ (l : List ℕ). rowCount (arityIn l) (length l)) (start .pre .1 .0))))
 
 same-length : tie.Need-same-length
@@ -45,7 +44,6 @@ returns : tie.Need-returns
 returns c =
     let start = c .before .before .before .before .before .before .before .before .before .before .before .before .before .before .before in
     let settle-empty = c .before .before .before .before .settle-empty in
-    
     let t = start .args .tables .now in
     let users = subst⁻¹ (λ (l : List ℕ). UsersAre l (usersIn (start .args .linked .now)) (λ (p d q : ℕ). takesProduction t (slot p d) q)) (start .pre .1 .0) (start .pre .1 .1 .0 .users) in
     subst (λ (l : List ℕ). EmptyRight (grammarOf l (λ (p d c : ℕ). takesChar t (slot p d) c) (λ (p d q : ℕ). takesProduction t (slot p d) q)) (settle-empty .last .1 .1 .1 .1 .1 .0) (settle-empty .last .1 .1 .1 .1 .0)) (start .pre .1 .0) (settle-empty .ensures (λ p d c. takesChar t (slot p d) c) (λ p d q. takesProduction t (slot p d) q) users)
