@@ -16,6 +16,7 @@ ghost use mathlib.Core.Bool.{true, false, _&&_, _||_};
 ghost use mathlib.Core.Logic.{_↔_};
 ghost use Prim.Native.Nat.{ℕ, _<_, _≤_};
 ghost use lib.ListN.{getD};
+ghost use Rattle.common.specs.Below.{anyBelow};
 ghost use Rattle.grammar.specs.Limits.{productionLimit};
 ghost use Rattle.grammar.specs.Formed.{WellFormed};
 ghost use Rattle.grammar.specs.Verdict.{firstRefusal};
@@ -138,8 +139,9 @@ pub fn closed(
     closure
 }
 
-// Whether a row may have a true entry: if not, no chain goes on from there.
+// Whether a row has a true entry: if not, no chain goes on from there.
 fn leads_on(row: [bool; PRODUCTION_LIMIT]) -> bool
+    ensures { λ r. ⌜ r ≡ anyBelow productionLimit (λ y. getD row y false) ⌝ }
     ensures { λ r. ⌜ (r ≡ false → (y : ℕ) → getD row y false ≡ false) ⌝ }
 {
     let mut found = false;

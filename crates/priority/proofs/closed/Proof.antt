@@ -45,7 +45,7 @@ loop-again c =
     let i = l .loop .inv .0 in
     ⊎-elim
     (λ w. ((λ x y. rw (w .2) (w .1 .ensures x y ∙ rw (i x y, i x m, i m y) (sym (through-next (entry t) m x y)))), omega arith))
-    (λ w. ((λ x y. rw (w .1) (i x y ∙ sym (through-same (entry t) m x y (sym (i m y) ∙ c .before .leads-on .ensures (w .0 .left) y)))), omega arith))
+    (λ w. ((λ x y. rw (w .1) (i x y ∙ sym (through-same (entry t) m x y (sym (i m y) ∙ c .before .leads-on .ensures .1 (w .0 .left) y)))), omega arith))
     (c .if1 .came)
 
 returns : tie.Need-returns Inv-loop μ-loop
