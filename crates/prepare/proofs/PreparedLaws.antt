@@ -1,6 +1,6 @@
 -- Laws of what is prepared: its parts, written one after the other.
 use Prim.Native.Nat.{ℕ, _+_, _-_, _≤_, _<_}
-use mathlib.Core.Path.{_≡_, refl, sym, _∙_, ap, subst, subst₂}
+use mathlib.Core.Path.{_≡_, sym, _∙_, ap, subst, subst₂}
 use mathlib.Core.List.{List, _++_}
 use mathlib.Core.Logic.{by-cases}
 use native.Mathlib.Omega.{arith}
@@ -11,13 +11,12 @@ use borrow.Rule.Slice.PartMut.{putMid, same-len-mid, take-put}
 use Rattle.chart.specs.Layout.{rowLimit}
 use Rattle.common.specs.Zeros.{AllZero}
 use Rattle.empty.specs.Empty.{EmptyRight}
-use Rattle.grammar.specs.Limits.{argumentLimit}
 use Rattle.links.proofs.LinkedLaws.{linked-links, linked-users}
 use Rattle.links.specs.Linked.{UsersTo, UsesTo}
-use Rattle.prepare.specs.Prepared.{usesAt, emptyAt, backAt, preparedBytes, usersIn, usesIn, emptyIn, backIn, Linked, Prepared}
+use Rattle.prepare.specs.Prepared.{usesAt, emptyAt, backAt, preparedBytes, usersIn, usesIn, Linked, Prepared}
 use Rattle.span.specs.Tables.{Links, UsersAre}
 use Rattle.tables.proofs.LayoutLaws.{counts-few}
-use Rattle.tables.specs.Layout.{slot, countsOf, arityIn, takesProduction, ParserTables}
+use Rattle.tables.specs.Layout.{slot, countsOf, takesProduction, ParserTables}
 use Rattle.tables.specs.Theory.{theoryOf}
 
 -- ---- parts of a list

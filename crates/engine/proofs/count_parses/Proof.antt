@@ -6,9 +6,6 @@ use Rattle.engine.proofs.EngineLaws.{fits-kept, filled-all, parses-coun
 use Rattle.theory.specs.Steps.{cap}
 use Rattle.engine.proofs.count_parses.Statement.{statement}
 use Rattle.engine.proofs.count_parses.Tie as tie
-use Rattle.chart.proofs.sums.capped.Reads as capped-reads
-use Rattle.engine.proofs.root_sum.Reads as root-sum-reads
-use Rattle.fill.proofs.fill.Reads as fill-reads
 
 fill-requires : tie.Need-fill-requires
 fill-requires c κs = search needs

@@ -7,8 +7,6 @@ use Rattle.engine.specs.Roots.{ParseBy}
 use Rattle.theory.specs.Counts.{Counts}
 use Rattle.engine.proofs.parse_prepared.Statement.{statement}
 use Rattle.engine.proofs.parse_prepared.Tie as tie
-use Rattle.engine.proofs.count_parses.Reads as count-parses-reads
-use Rattle.engine.proofs.write_parse.Reads as write-parse-reads
 
 count-parses-requires : tie.Need-count-parses-requires
 count-parses-requires c κs = search needs

@@ -7,10 +7,6 @@ use Rattle.engine.specs.Refusals.{textRefusal}
 use Rattle.engine.specs.Roots.{parsingBy, TablesOutcome}
 use Rattle.engine.proofs.parse_tables.Statement.{statement}
 use Rattle.engine.proofs.parse_tables.Tie as tie
-use Rattle.engine.proofs.check_input.Reads as check-input-reads
-use Rattle.engine.proofs.parse_prepared.Reads as parse-prepared-reads
-use Rattle.prepare.proofs.prepare.Reads as prepare-reads
-use Rattle.prepare.proofs.zero_prepared.Reads as zero-prepared-reads
 
 check-input-requires : tie.Need-check-input-requires
 check-input-requires c κs = search needs

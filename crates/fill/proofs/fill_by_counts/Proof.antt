@@ -16,10 +16,6 @@ use Rattle.tables.specs.Layout.{slot, arityIn, rowCount, takesChar, takesProduc
 use Rattle.tables.specs.Theory.{grammarOf}
 use Rattle.fill.proofs.fill_by_counts.Statement.{statement}
 use Rattle.fill.proofs.fill_by_counts.Tie as tie
-use Rattle.chart.proofs.by_ends.turn_rows.Reads as turn-rows-reads
-use Rattle.fill.proofs.fill_columns.Reads as fill-columns-reads
-use Rattle.fill.proofs.zero_sums.Reads as zero-sums-reads
-use Rattle.tables.proofs.row_count.Reads as row-count-reads
 
 row-count-requires : tie.Need-row-count-requires
 row-count-requires c κs = c .before .before .before .before .before .pre .0 .tables

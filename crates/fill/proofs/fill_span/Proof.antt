@@ -9,7 +9,6 @@ use borrow.Author.Needs.{needs}
 use borrow.Author.Tests.{eqb-true, eqb-false, not-true}
 use Rattle.chart.proofs.LayoutLaws.{rows-few}
 use Rattle.common.proofs.BoolLaws.{and-first-true, and-second-true}
-use Rattle.common.specs.Below.{bitOf}
 use Rattle.fill.proofs.FillSpanLaws.{zero-exact, zero-founded, span-further, span-skipped}
 use Rattle.fill.proofs.SmallLaws.{settled-small, small-stored, small-added}
 use Rattle.span.specs.Tables.{spanOf}

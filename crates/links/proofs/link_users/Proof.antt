@@ -8,8 +8,6 @@ use Rattle.links.specs.Linked.{UsersTo}
 use Rattle.tables.specs.Layout.{octetBits, productionOctets}
 use Rattle.links.proofs.link_users.Statement.{statement}
 use Rattle.links.proofs.link_users.Tie as tie
-use Rattle.links.proofs.row_octets.Reads as row-octets-reads
-use Rattle.links.proofs.turn_octets.Reads as turn-octets-reads
 
 abbrev Inv-loop : tie.InvT-loop
 Inv-loop counts tables users₀ k₀ users k = UsersTo counts tables (k * octetBits) users × (k ≤ productionOctets)

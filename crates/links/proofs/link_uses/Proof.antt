@@ -8,8 +8,6 @@ use Rattle.links.specs.Linked.{UsesTo}
 use Rattle.tables.specs.Layout.{octetBits, productionOctets}
 use Rattle.links.proofs.link_uses.Statement.{statement}
 use Rattle.links.proofs.link_uses.Tie as tie
-use Rattle.links.proofs.turn_octets.Reads as turn-octets-reads
-use Rattle.links.proofs.used_octets.Reads as used-octets-reads
 
 abbrev Inv-loop : tie.InvT-loop
 Inv-loop counts tables uses₀ k₀ uses k = UsesTo counts tables (k * octetBits) uses × (k ≤ productionOctets)

@@ -8,7 +8,6 @@ use Rattle.common.specs.Region.{Region}
 use Rattle.tables.specs.Layout.{slot, productionOctet}
 use Rattle.links.proofs.octet_production.Statement.{statement}
 use Rattle.links.proofs.octet_production.Tie as tie
-use Rattle.tables.proofs.class_octet.Reads as class-octet-reads
 
 Entry : List ℕ → ℕ → ℕ → ℕ → ℕ → Type 0
 Entry tables k p d v = v ≡ productionOctet tables (slot p d) k

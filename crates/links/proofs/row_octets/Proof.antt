@@ -13,9 +13,6 @@ use Rattle.common.specs.Region.{Region}
 use Rattle.tables.specs.Layout.{arityIn, slot, productionOctet}
 use Rattle.links.proofs.row_octets.Statement.{statement}
 use Rattle.links.proofs.row_octets.Tie as tie
-use Rattle.chart.proofs.sums.zero_row.Reads as zero-row-reads
-use Rattle.common.proofs.wide.Reads as wide-reads
-use Rattle.links.proofs.octet_production.Reads as octet-production-reads
 
 abbrev Inv-loop : tie.InvT-loop
 Inv-loop counts tables k out₀ base₀ p₀ out base p = RowsFilled (λ (p d : ℕ). productionOctet tables (slot p d) k) counts p out × (base ≡ rowOf (arityIn counts) p 0) × (p ≤ length counts)

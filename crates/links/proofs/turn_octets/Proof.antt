@@ -11,7 +11,6 @@ use Rattle.links.specs.Linked.{BitsTurned}
 use Rattle.tables.specs.Layout.{octetBits}
 use Rattle.links.proofs.turn_octets.Statement.{statement}
 use Rattle.links.proofs.turn_octets.Tie as tie
-use Rattle.links.proofs.put_bits.Reads as put-bits-reads
 
 abbrev Inv-loop : tie.InvT-loop
 Inv-loop octets from out₀ b₀ out b = BitsTurned octets from b out₀ out × (b ≤ octetBits)

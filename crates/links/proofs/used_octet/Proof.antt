@@ -8,7 +8,6 @@ use Rattle.links.specs.Linked.{Joined}
 use Rattle.tables.specs.Layout.{slot}
 use Rattle.links.proofs.used_octet.Statement.{statement}
 use Rattle.links.proofs.used_octet.Tie as tie
-use Rattle.tables.proofs.class_octet.Reads as class-octet-reads
 
 abbrev Inv-loop : tie.InvT-loop
 Inv-loop tables k p arity all₀ d₀ all d = Joined tables p k d all × (d ≤ arity)

@@ -8,8 +8,6 @@ use Rattle.links.proofs.LinkedLaws.{used-none, used-more}
 use Rattle.links.specs.Linked.{Joined, UsedOctets}
 use Rattle.links.proofs.used_octets.Statement.{statement}
 use Rattle.links.proofs.used_octets.Tie as tie
-use Rattle.common.proofs.wide.Reads as wide-reads
-use Rattle.links.proofs.used_octet.Reads as used-octet-reads
 
 abbrev Inv-loop : tie.InvT-loop
 Inv-loop counts tables k out₀ p₀ out p = UsedOctets counts tables k p out × (p ≤ length counts)

@@ -8,9 +8,6 @@ use Rattle.grammar.specs.Limits.{productionLimit}
 use Rattle.tables.proofs.LayoutLaws.{counts-few, counts-copied}
 use Rattle.prepare.proofs.prepare.Statement.{statement}
 use Rattle.prepare.proofs.prepare.Tie as tie
-use Rattle.prepare.proofs.prepare_by_counts.Reads as prepare-by-counts-reads
-use Rattle.tables.proofs.argument_counts.Reads as argument-counts-reads
-use Rattle.tables.proofs.production_count.Reads as production-count-reads
 
 argument-counts-requires : tie.Need-argument-counts-requires
 argument-counts-requires c κs = search needs

@@ -13,10 +13,6 @@ use Rattle.prepare.specs.Prepared.{emptyAt, backAt, preparedBytes}
 use Rattle.tables.specs.Theory.{theoryOf}
 use Rattle.prepare.proofs.prepare_by_counts.Statement.{statement}
 use Rattle.prepare.proofs.prepare_by_counts.Tie as tie
-use Rattle.chart.proofs.sums.zero_row.Reads as zero-row-reads
-use Rattle.prepare.proofs.copy.Reads as copy-reads
-use Rattle.prepare.proofs.prepare_links.Reads as prepare-links-reads
-use Rattle.prepare.proofs.settle_by_links.Reads as settle-by-links-reads
 
 prepare-links-requires : tie.Need-prepare-links-requires
 prepare-links-requires c κs = search needs

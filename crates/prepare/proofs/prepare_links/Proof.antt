@@ -14,8 +14,6 @@ use Rattle.tables.proofs.LayoutLaws.{counts-few}
 use Rattle.tables.specs.Layout.{arityIn}
 use Rattle.prepare.proofs.prepare_links.Statement.{statement}
 use Rattle.prepare.proofs.prepare_links.Tie as tie
-use Rattle.links.proofs.link_users.Reads as link-users-reads
-use Rattle.links.proofs.link_uses.Reads as link-uses-reads
 
 slice-relend-prefix-link-users : tie.Need-slice-relend-prefix-link-users
 slice-relend-prefix-link-users c = search needs

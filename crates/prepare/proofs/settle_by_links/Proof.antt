@@ -11,8 +11,6 @@ use Rattle.tables.specs.Layout.{slot, arityIn, rowCount, takesChar, takesProduc
 use Rattle.tables.specs.Theory.{grammarOf}
 use Rattle.prepare.proofs.settle_by_links.Statement.{statement}
 use Rattle.prepare.proofs.settle_by_links.Tie as tie
-use Rattle.empty.proofs.settle_empty.Reads as settle-empty-reads
-use Rattle.tables.proofs.row_count.Reads as row-count-reads
 
 row-count-requires : tie.Need-row-count-requires
 row-count-requires c κs = search needs

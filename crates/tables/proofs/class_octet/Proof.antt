@@ -6,9 +6,6 @@ use Rattle.tables.proofs.LayoutLaws.{class-in}
 use Rattle.tables.specs.Layout.{productionOctet}
 use Rattle.tables.proofs.class_octet.Statement.{statement}
 use Rattle.tables.proofs.class_octet.Tie as tie
-use Rattle.tables.proofs.byte.Reads as byte-reads
-use Rattle.tables.proofs.number.Reads as number-reads
-use Rattle.tables.proofs.slot_at.Reads as slot-at-reads
 
 mul-first : tie.Need-mul-first
 mul-first c = search needs
