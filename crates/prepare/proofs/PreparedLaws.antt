@@ -11,9 +11,10 @@ use borrow.Rule.Slice.PartMut.{putMid, same-len-mid, take-put}
 use Rattle.chart.specs.Layout.{rowLimit}
 use Rattle.common.specs.Zeros.{AllZero}
 use Rattle.empty.specs.Empty.{EmptyRight}
+use Rattle.grammar.specs.Limits.{productionLimit}
 use Rattle.links.proofs.LinkedLaws.{linked-links, linked-users}
 use Rattle.links.specs.Linked.{UsersTo, UsesTo}
-use Rattle.prepare.specs.Prepared.{usesAt, emptyAt, backAt, preparedBytes, usersIn, usesIn, Linked, Prepared}
+use Rattle.prepare.specs.Prepared.{usesAt, countsAt, emptyAt, backAt, preparedBytes, usersIn, usesIn, countsIn, emptyIn, Linked, Prepared}
 use Rattle.span.specs.Tables.{Links, UsersAre}
 use Rattle.tables.proofs.LayoutLaws.{counts-few}
 use Rattle.tables.specs.Layout.{slot, countsOf, takesProduction, ParserTables}
@@ -68,56 +69,93 @@ module _ (t : List ℕ) (parsed : ParserTables t) (b users uses : List ℕ) (lon
   front-long = length-append users (drop usesAt b) ∙ omega (arith, u .long, length-drop usesAt b)
 
   both : List ℕ
-  both = putMid usesAt (emptyAt - usesAt) front uses
+  both = putMid usesAt (countsAt - usesAt) front uses
 
-  inside : usesAt + (emptyAt - usesAt) ≤ length front
+  inside : usesAt + (countsAt - usesAt) ≤ length front
   unfolding front
   inside = omega (arith, front-long)
 
   users-same : usersIn both ≡ users
   unfolding front both
-  users-same = part-before usesAt (emptyAt - usesAt) front uses inside (s .long) 0 usesAt (omega arith) ∙ take-at users (drop usesAt b) usesAt (u .long)
+  users-same = part-before usesAt (countsAt - usesAt) front uses inside (s .long) 0 usesAt (omega arith) ∙ take-at users (drop usesAt b) usesAt (u .long)
 
   uses-same : usesIn both ≡ uses
   unfolding both
-  uses-same = part-here usesAt (emptyAt - usesAt) front uses inside (s .long)
+  uses-same = part-here usesAt (countsAt - usesAt) front uses inside (s .long)
 
-  pub linked : Linked t (putMid usesAt (emptyAt - usesAt) (users ++ drop usesAt b) uses)
+  pub linked : Linked t (putMid usesAt (countsAt - usesAt) (users ++ drop usesAt b) uses)
   unfolding front both
   linked =
       record {
-        long = put-long usesAt (emptyAt - usesAt) front uses inside (s .long) ∙ front-long;
+        long = put-long usesAt (countsAt - usesAt) front uses inside (s .long) ∙ front-long;
         links = subst₂ (Links (countsOf t)) (sym users-same) (sym uses-same) (linked-links (countsOf t) t (counts-few t parsed) (parsed .fewArguments) users uses u s);
         users = subst (λ (x : List ℕ). UsersAre (countsOf t) x (λ (p d q : ℕ). takesProduction t (slot p d) q)) (sym users-same) (linked-users (countsOf t) t (counts-few t parsed) (parsed .fewArguments) users uses u s);
       }
 
 -- a part behind the links
-pub linked-kept : (t b ys : List ℕ) (a k : ℕ) → emptyAt ≤ a → a + k ≤ preparedBytes → length ys ≡ k → Linked t b → Linked t (putMid a k b ys)
+pub linked-kept : (t b ys : List ℕ) (a k : ℕ) → countsAt ≤ a → a + k ≤ preparedBytes → length ys ≡ k → Linked t b → Linked t (putMid a k b ys)
 linked-kept t b ys a k l h e r =
     let inside : a + k ≤ length b = omega (arith, r .long) in
     let users : usersIn (putMid a k b ys) ≡ usersIn b = part-before a k b ys inside e 0 usesAt (omega arith) in
-    let uses : usesIn (putMid a k b ys) ≡ usesIn b = part-before a k b ys inside e usesAt (emptyAt - usesAt) (omega arith) in
+    let uses : usesIn (putMid a k b ys) ≡ usesIn b = part-before a k b ys inside e usesAt (countsAt - usesAt) (omega arith) in
     record {
       long = put-long a k b ys inside e ∙ r .long;
       links = subst₂ (Links (countsOf t)) (sym users) (sym uses) (r .links);
       users = subst (λ (x : List ℕ). UsersAre (countsOf t) x (λ (p d q : ℕ). takesProduction t (slot p d) q)) (sym users) (r .users);
     }
 
--- the cells of the empty span, put behind them
-pub cells-kept : (t b empty : List ℕ) → length empty ≡ rowLimit → Linked t b → Linked t (putMid emptyAt (backAt - emptyAt) b empty)
-cells-kept t b empty e l = linked-kept t b empty emptyAt (backAt - emptyAt) (omega arith) (omega arith) e l
+-- the argument counts, put behind them
+module _ (t : List ℕ) (few : length (countsOf t) ≤ productionLimit) (b counts : List ℕ) (are : counts ≡ countsOf t) (n : ℕ) (many : n ≡ length counts) (l : Linked t b) where
+  counted : List ℕ
+  counted = putMid countsAt (countsAt + n - countsAt) b counts
 
--- and the arguments behind the cells
-pub all-prepared : (t b empty back : List ℕ) → length empty ≡ rowLimit → length back ≡ rowLimit → Linked t b → EmptyRight (theoryOf t) empty back
-    → Prepared t (putMid backAt (preparedBytes - backAt) (putMid emptyAt (backAt - emptyAt) b empty) back)
-all-prepared t b empty back e k l r =
-    let b′ = putMid emptyAt (backAt - emptyAt) b empty in
-    let l′ = cells-kept t b empty e l in
-    let inside : emptyAt + (backAt - emptyAt) ≤ length b = omega (arith, l .long) in
-    let inside′ : backAt + (preparedBytes - backAt) ≤ length b′ = omega (arith, l′ .long) in
-    let cells = part-before backAt (preparedBytes - backAt) b′ back inside′ k emptyAt (backAt - emptyAt) (omega arith) ∙ part-here emptyAt (backAt - emptyAt) b empty inside e in
-    let args = part-here backAt (preparedBytes - backAt) b′ back inside′ k in
-    record {
-      linked = linked-kept t b′ back backAt (preparedBytes - backAt) (omega arith) (omega arith) k l′;
-      empty = subst₂ (EmptyRight (theoryOf t)) (sym cells) (sym args) r;
-    }
+  counts-long : length counts ≡ countsAt + n - countsAt
+  counts-long = omega (arith, many)
+
+  counts-inside : countsAt + (countsAt + n - countsAt) ≤ length b
+  counts-inside = omega (arith, l .long, many, ap length are)
+
+  pub counts-kept : Linked t (putMid countsAt (countsAt + n - countsAt) b counts)
+  counts-kept = linked-kept t b counts countsAt (countsAt + n - countsAt) (omega arith) (omega (arith, many, ap length are)) counts-long l
+
+  module _ (empty : List ℕ) (e : length empty ≡ rowLimit) where
+    with-cells : List ℕ
+    with-cells = putMid emptyAt (backAt - emptyAt) (putMid countsAt (countsAt + n - countsAt) b counts) empty
+
+    cells-inside : emptyAt + (backAt - emptyAt) ≤ length (putMid countsAt (countsAt + n - countsAt) b counts)
+    cells-inside = omega (arith, counts-kept .long)
+
+    pub cells-kept : Linked t (putMid emptyAt (backAt - emptyAt) (putMid countsAt (countsAt + n - countsAt) b counts) empty)
+    cells-kept = linked-kept t (putMid countsAt (countsAt + n - countsAt) b counts) empty emptyAt (backAt - emptyAt) (omega arith) (omega arith) e counts-kept
+
+    module _ (back : List ℕ) (k : length back ≡ rowLimit) where
+      all : List ℕ
+      all = putMid backAt (preparedBytes - backAt) with-cells back
+
+      back-inside : backAt + (preparedBytes - backAt) ≤ length with-cells
+      unfolding with-cells
+      back-inside = omega (arith, cells-kept .long)
+
+      -- the argument counts stay
+      counts-same : countsIn n all ≡ counts
+      unfolding all with-cells
+      counts-same =
+          part-before backAt (preparedBytes - backAt) with-cells back back-inside k countsAt (countsAt + n - countsAt) (omega (arith, many, ap length are))
+          ∙ part-before emptyAt (backAt - emptyAt) (putMid countsAt (countsAt + n - countsAt) b counts) empty cells-inside e countsAt (countsAt + n - countsAt) (omega (arith, many, ap length are))
+          ∙ part-here countsAt (countsAt + n - countsAt) b counts counts-inside counts-long
+
+      cells-same : emptyIn all ≡ empty
+      unfolding all with-cells
+      cells-same =
+          part-before backAt (preparedBytes - backAt) with-cells back back-inside k emptyAt (backAt - emptyAt) (omega arith)
+          ∙ part-here emptyAt (backAt - emptyAt) (putMid countsAt (countsAt + n - countsAt) b counts) empty cells-inside e
+
+      pub all-prepared : EmptyRight (theoryOf t) empty back
+          → Prepared t (putMid backAt (preparedBytes - backAt) (putMid emptyAt (backAt - emptyAt) (putMid countsAt (countsAt + n - countsAt) b counts) empty) back)
+      unfolding all with-cells
+      all-prepared r =
+          record {
+            linked = linked-kept t with-cells back backAt (preparedBytes - backAt) (omega arith) (omega arith) k cells-kept;
+            counts = ap (λ (m : ℕ). countsIn m all) (sym (many ∙ ap length are)) ∙ counts-same ∙ are;
+            empty = subst₂ (EmptyRight (theoryOf t)) (sym cells-same) (sym (part-here backAt (preparedBytes - backAt) with-cells back back-inside k)) r;
+          }

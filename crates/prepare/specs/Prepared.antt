@@ -1,9 +1,10 @@
--- What is prepared once for the flat tables and serves every text: four parts of one list of bytes.
+-- What is prepared once for the flat tables and serves every text: five parts of one list of bytes.
 use Prim.Native.Nat.{ℕ, _+_, _-_}
 use mathlib.Core.Path.{_≡_}
 use mathlib.Core.List.{List}
 use lib.ListN.{length, take, drop}
 use Rattle.chart.specs.Layout.{rowLimit}
+use Rattle.grammar.specs.Limits.{productionLimit}
 use Rattle.empty.specs.Empty.{EmptyRight}
 use Rattle.span.specs.Tables.{userBytes, useBytes, Links, UsersAre}
 use Rattle.tables.specs.Layout.{slot, countsOf, takesProduction}
@@ -13,8 +14,11 @@ use Rattle.tables.specs.Theory.{theoryOf}
 abbrev pub usesAt : ℕ
 usesAt = userBytes
 
+abbrev pub countsAt : ℕ
+countsAt = usesAt + useBytes
+
 abbrev pub emptyAt : ℕ
-emptyAt = usesAt + useBytes
+emptyAt = countsAt + productionLimit
 
 abbrev pub backAt : ℕ
 backAt = emptyAt + rowLimit
@@ -28,7 +32,11 @@ usersIn b = take usesAt b
 
 -- which productions have such a row
 abbrev pub usesIn : List ℕ → List ℕ
-usesIn b = take (emptyAt - usesAt) (drop usesAt b)
+usesIn b = take (countsAt - usesAt) (drop usesAt b)
+
+-- the argument counts of the first n productions
+abbrev pub countsIn : ℕ → List ℕ → List ℕ
+countsIn n b = take (countsAt + n - countsAt) (drop countsAt b)
 
 -- the cells of the empty span
 abbrev pub emptyIn : List ℕ → List ℕ
@@ -44,7 +52,8 @@ pub record Linked (t b : List ℕ) : Type 0 where
   pub links : Links (countsOf t) (usersIn b) (usesIn b)
   pub users : UsersAre (countsOf t) (usersIn b) (λ p d q. takesProduction t (slot p d) q)
 
--- So is the empty span.
+-- So are the argument counts and the empty span.
 pub record Prepared (t b : List ℕ) : Type 0 where
   pub linked : Linked t b
+  pub counts : countsIn (length (countsOf t)) b ≡ countsOf t
   pub empty : EmptyRight (theoryOf t) (emptyIn b) (backIn b)

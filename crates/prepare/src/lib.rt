@@ -1,5 +1,5 @@
 // What is prepared once for the flat tables and serves every text, as one array of bytes: which rows take a production (users), which productions have such a
-// row (uses), and the empty span, its cells and the arguments behind them.
+// row (uses), how many arguments each production has (counts), and the empty span, its cells and the arguments behind them.
 use chart::layout::ROW_LIMIT;
 use chart::sums::zero_row;
 use empty::settle_empty;
@@ -21,7 +21,9 @@ ghost use Rattle.prepare.specs.Prepared.{preparedBytes, Linked, Prepared
 // Where the parts stand, the users first.
 pub const USES_AT: usize = PRODUCTION_LIMIT * ROW_LIMIT;
 
-pub const EMPTY_AT: usize = USES_AT + PRODUCTION_LIMIT * PRODUCTION_LIMIT;
+pub const COUNTS_AT: usize = USES_AT + PRODUCTION_LIMIT * PRODUCTION_LIMIT;
+
+pub const EMPTY_AT: usize = COUNTS_AT + PRODUCTION_LIMIT;
 
 pub const BACK_AT: usize = EMPTY_AT + ROW_LIMIT;
 // The length of it all.
@@ -56,6 +58,7 @@ fn prepare_by_counts(counts: &[u8], tables: &[u64], prepared: &mut [u8])
     let mut empty = zero_row();
     let mut back = zero_row();
     settle_by_links(counts, tables, prepared, &mut back, &mut empty);
+    copy(counts, &mut prepared[COUNTS_AT..COUNTS_AT + counts.len()]);
     copy(&empty, &mut prepared[EMPTY_AT..BACK_AT]);
     copy(&back, &mut prepared[BACK_AT..PREPARED]);
 }
@@ -68,7 +71,7 @@ fn prepare_links(counts: &[u8], tables: &[u64], prepared: &mut [u8])
     ensures { λ _. ⌜ Linked (now (tables .entry)) (now (prepared .exit)) ⌝ }
 {
     link_users(counts, tables, &mut prepared[..USES_AT]);
-    link_uses(counts, tables, &mut prepared[USES_AT..EMPTY_AT]);
+    link_uses(counts, tables, &mut prepared[USES_AT..COUNTS_AT]);
 }
 
 // The empty span, settled by the links, over zeros.
@@ -83,7 +86,7 @@ fn settle_by_links(counts: &[u8], tables: &[u64], linked: &[u8], back: &mut [u8]
         counts,
         row_count(tables),
         &linked[..USES_AT],
-        &linked[USES_AT..EMPTY_AT],
+        &linked[USES_AT..COUNTS_AT],
         back,
         empty,
     );

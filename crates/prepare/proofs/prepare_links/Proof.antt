@@ -9,7 +9,7 @@ use borrow.Author.Needs.{needs}
 use Rattle.grammar.specs.Limits.{productionLimit, argumentLimit}
 use Rattle.links.specs.Linked.{UsersTo, UsesTo}
 use Rattle.prepare.proofs.PreparedLaws.{front-zeros, linked}
-use Rattle.prepare.specs.Prepared.{usesAt, emptyAt, preparedBytes}
+use Rattle.prepare.specs.Prepared.{usesAt, countsAt, preparedBytes}
 use Rattle.tables.proofs.LayoutLaws.{counts-few}
 use Rattle.tables.specs.Layout.{arityIn}
 use Rattle.prepare.proofs.prepare_links.Statement.{statement}
@@ -46,7 +46,7 @@ link-uses-requires c κs =
     let few = subst⁻¹ (λ (l : List ℕ). length l ≤ productionLimit) (start .pre .1 .0) (counts-few (start .args .tables .now) (start .pre .0)) in
     let short = subst⁻¹ (λ (l : List ℕ). (p : ℕ) → arityIn l p ≤ argumentLimit) (start .pre .1 .0) (start .pre .0 .fewArguments) in
     let front = link-users .last .1 .1 .0 ++ drop usesAt (start .args .prepared .now) in
-    ((few, short, start .pre .0 .long), length-take-le (emptyAt - usesAt) (drop usesAt front) (omega (arith, length-drop usesAt front, length-append (link-users .last .1 .1 .0) (drop usesAt (start .args .prepared .now)), length-drop usesAt (start .args .prepared .now), link-users .ensures .long, start .pre .1 .1 .long)))
+    ((few, short, start .pre .0 .long), length-take-le (countsAt - usesAt) (drop usesAt front) (omega (arith, length-drop usesAt front, length-append (link-users .last .1 .1 .0) (drop usesAt (start .args .prepared .now)), length-drop usesAt (start .args .prepared .now), link-users .ensures .long, start .pre .1 .1 .long)))
 
 same-length : tie.Need-same-length
 same-length c = search needs
