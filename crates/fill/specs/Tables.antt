@@ -1,39 +1,48 @@
--- The tables by which a chart is filled, and what filling a part of it promises.
-use Prim.Native.Nat.{ℕ, _*_, _≤_}
+-- What a chart is filled by, and what filling a part of it promises.
+use Prim.Native.Nat.{ℕ, _+_, _*_}
 use mathlib.Core.Path.{_≡_}
-use mathlib.Core.Bool.{Bool}
 use mathlib.Core.List.{List}
-use lib.ListN.{length}
-use Rattle.tables.specs.Layout.{slot, takesChar, tableWords, arityIn, rowCount}
-use Rattle.chart.specs.Layout.{textLimit, places, rowLimit, spanCount}
-use Rattle.empty.specs.Empty.{EmptyRight}
-use Rattle.fill.specs.Filling.{Filling, Summing}
-use Rattle.span.specs.Tables.{UsersAre}
-use Rattle.tables.specs.Theory.{grammarOf}
-use Rattle.theory.specs.Grammar.{Grammar}
+use mathlib.Core.Bool.{_&&_}
+use lib.Dec.{eqb}
+use lib.ListN.{length, getD}
+use Rattle.common.specs.Below.{bitOf}
+use Rattle.tables.specs.Layout.{slot, countsOf, arityIn, rowCount, takesChar}
+use Rattle.tables.specs.Theory.{theoryOf}
+use Rattle.chart.specs.Layout.{places, rowLimit, ChartFits}
+use Rattle.chart.specs.Rows.{RowsFilled}
+use Rattle.prepare.specs.Prepared.{usersIn, emptyIn, backIn, Prepared}
+use Rattle.span.specs.Tables.{spanOf, Settled}
+use Rattle.fill.specs.Filling.{SmallCells, SmallSums, Filling, Summing}
 
--- The grammar of the tables, whichever way it is kept which productions may stand where, with these argument counts.
-abbrev pub grammarBy : (counts tables : List ℕ) → (ℕ → ℕ → ℕ → Bool) → Grammar
-grammarBy counts tables subs = grammarOf counts (λ p d c. takesChar tables (slot p d) c) subs
+-- how many rows the tables t have
+abbrev pub rowsOf : List ℕ → ℕ
+rowsOf t = rowCount (arityIn (countsOf t)) (length (countsOf t))
 
--- The tables have the right lengths, the text is within its limit and the chart long enough.
-pub record Ready (counts tables empty args sums live w chart : List ℕ) (rows : ℕ) : Type 0 where
-  pub short : length w ≤ textLimit
-  pub rowsAre : rows ≡ rowCount (arityIn counts) (length counts)
-  pub longEnough : rows * spanCount (length w) ≤ length chart
-  pub tablesLong : length tables ≡ tableWords
-  pub emptyLong : length empty ≡ rowLimit
-  pub argsLong : length args ≡ rowLimit
+-- The tables t and what is prepared for them, b, are right; the text w is within its limit, the chart long enough, and a column's sums have their lengths.
+pub record Ready (t b w chart sums live : List ℕ) : Type 0 where
+  pub fits : ChartFits t (length w) chart
+  pub prepared : Prepared t b
   pub sumsLong : length sums ≡ rowLimit * places
   pub liveLong : length live ≡ places
 
+-- No cell of the columns up to j and no sum of column j is above 2.
+pub record Small (t w chart sums : List ℕ) (j : ℕ) : Type 0 where
+  pub cells : SmallCells (length w) (rowsOf t) (j + 1) chart
+  pub little : SmallSums (rowsOf t) j sums
+
+-- For each row 1 if the text from i to j is a character that may stand as its next argument, else 0.
+pub record CharArgs (t w : List ℕ) (i j : ℕ) (args : List ℕ) : Type 0 where
+  pub filled : RowsFilled (λ p d. bitOf (eqb (i + 1) j && takesChar t (slot p d) (getD w i 0))) (countsOf t) (length (countsOf t)) args
+
+-- A span is settled: from the bare arguments args and the zeros x come arguments args′ and cells x′.
+pub record SpanSettled (t b inner args x args′ x′ : List ℕ) : Type 0 where
+  pub settled : Settled (spanOf (countsOf t) (usersIn b) inner (emptyIn b) (backIn b) (λ k. getD args k 0)) x args′ x′
+
 -- From a chart filled up to start i of column j comes one filled up to start i′ of that column.
-pub record Further (counts tables users empty args w chart sums live : List ℕ) (i j : ℕ) (chart′ sums′ live′ : List ℕ) (i′ : ℕ) : Type 0 where
-  pub further : (subs : ℕ → ℕ → ℕ → Bool) → UsersAre counts users subs → EmptyRight (grammarBy counts tables subs) empty args → (before : List ℕ)
-      → Filling (grammarBy counts tables subs) w empty before chart i j → Summing (grammarBy counts tables subs) w empty chart sums live i j
-      → Filling (grammarBy counts tables subs) w empty before chart′ i′ j × Summing (grammarBy counts tables subs) w empty chart′ sums′ live′ i′ j
+pub record Further (t b w chart sums live : List ℕ) (i j : ℕ) (chart′ sums′ live′ : List ℕ) (i′ : ℕ) : Type 0 where
+  pub further : (before : List ℕ) → Filling (theoryOf t) w (emptyIn b) before chart i j → Summing (theoryOf t) w (emptyIn b) chart sums live i j
+      → Filling (theoryOf t) w (emptyIn b) before chart′ i′ j × Summing (theoryOf t) w (emptyIn b) chart′ sums′ live′ i′ j
 
 -- From a chart whose columns before j are filled comes one whose columns before j′ are.
-pub record Onward (counts tables users empty args w chart : List ℕ) (j : ℕ) (chart′ : List ℕ) (j′ : ℕ) : Type 0 where
-  pub onward : (subs : ℕ → ℕ → ℕ → Bool) → UsersAre counts users subs → EmptyRight (grammarBy counts tables subs) empty args → (before : List ℕ)
-      → Filling (grammarBy counts tables subs) w empty before chart j j → Filling (grammarBy counts tables subs) w empty before chart′ j′ j′
+pub record Onward (t b w chart : List ℕ) (j : ℕ) (chart′ : List ℕ) (j′ : ℕ) : Type 0 where
+  pub onward : (before : List ℕ) → Filling (theoryOf t) w (emptyIn b) before chart j j → Filling (theoryOf t) w (emptyIn b) before chart′ j′ j′

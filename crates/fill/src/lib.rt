@@ -10,11 +10,11 @@ use column::clear_column;
 use column::store_cells;
 use column::sums_at;
 use prepare::BACK_AT;
+use prepare::COUNTS_AT;
 use prepare::EMPTY_AT;
 use prepare::PREPARED;
 use prepare::USES_AT;
 use span::settle;
-use tables::argument_counts;
 use tables::production_count;
 use tables::row_count;
 ghost use mathlib.Core.Path.{_≡_};
@@ -23,15 +23,14 @@ ghost use lib.Dec.{eqb};
 ghost use Prim.Native.Nat.{ℕ, _+_, _*_, _<_, _≤_};
 ghost use lib.ListN.{length, getD};
 ghost use Rattle.common.specs.Zeros.{AllZero};
-ghost use Rattle.tables.specs.Layout.{countsOf};
+ghost use Rattle.tables.specs.Layout.{ParserTables};
 ghost use Rattle.tables.specs.Theory.{theoryOf};
 ghost use Rattle.chart.specs.Layout.{rowLimit, places, chartNeed, ChartFits};
 ghost use Rattle.chart.specs.Counted.{CountedBy};
 ghost use Rattle.theory.specs.Steps.{everything};
-ghost use Rattle.span.specs.Tables.{Links};
 ghost use Rattle.prepare.specs.Prepared.{Prepared};
-ghost use Rattle.fill.specs.Filling.{SmallCells, SmallSums};
-ghost use Rattle.fill.specs.Tables.{Ready, Further, Onward};
+ghost use Rattle.fill.specs.Filling.{SmallCells};
+ghost use Rattle.fill.specs.Tables.{rowsOf, CharArgs, SpanSettled, Ready, Small, Further, Onward};
 
 // No split lies inside the span, and it is no character: nothing spells it.
 fn is_dead(live: &[u8], i: usize, j: usize) -> bool
@@ -44,48 +43,72 @@ fn is_dead(live: &[u8], i: usize, j: usize) -> bool
     live[i] == 0
 }
 
+// Settles a span, whose inner splits are summed up, by what is prepared.
+fn settle_span(tables: &[u64], prepared: &[u8], inner: &[u8], args: &mut [u8], cells: &mut [u8])
+    requires { ⌜ ParserTables (now tables) × Prepared (now tables) (now prepared) ⌝ }
+    requires { ⌜ (length (now inner) ≡ rowLimit) × (length (now args) ≡ rowLimit) × AllZero rowLimit (now cells) ⌝ }
+    requires { ⌜ ((r : ℕ) → getD (now args) r 0 ≤ 1) ⌝ }
+    ensures { λ _. ⌜ SpanSettled (now (tables .entry)) (now (prepared .entry)) (now (inner .entry)) (now (args .entry)) (now (cells .entry)) (now (args .exit)) (now (cells .exit)) ⌝ }
+{
+    let count = production_count(tables);
+    settle(
+        &prepared[COUNTS_AT..COUNTS_AT + count],
+        row_count(tables),
+        &prepared[..USES_AT],
+        &prepared[USES_AT..COUNTS_AT],
+        inner,
+        &prepared[EMPTY_AT..BACK_AT],
+        &prepared[BACK_AT..PREPARED],
+        args,
+        cells,
+    );
+}
+
+// Writes for each row, over zeros, 1 if the text from i to j is a character that may stand as its next argument.
+fn char_args(text: &[u8], tables: &[u64], prepared: &[u8], i: usize, j: usize, args: &mut [u8])
+    requires { ⌜ ParserTables (now tables) × Prepared (now tables) (now prepared) ⌝ }
+    requires { ⌜ (i < j) × (j ≤ length (now text)) ⌝ }
+    requires { ⌜ AllZero rowLimit (now args) ⌝ }
+    ensures { λ _. ⌜ CharArgs (now (tables .entry)) (now (text .entry)) i j (now (args .exit)) ⌝ }
+{
+    let count = production_count(tables);
+    bare_args(
+        text,
+        &prepared[COUNTS_AT..COUNTS_AT + count],
+        tables,
+        i,
+        j,
+        args,
+    );
+}
+
 // One span: it is settled, its cells are stored, and its arguments are added to the sums of the starts before it.
 fn fill_span(
     chart: &mut [u8],
     text: &[u8],
-    counts: &[u8],
     tables: &[u64],
-    users: &[u8],
-    uses: &[u8],
-    rows: usize,
-    empty: &[u8],
-    back: &[u8],
+    prepared: &[u8],
     sums: &mut [u8],
     live: &mut [u8],
     i: usize,
     j: usize,
 )
-    requires { ⌜ Links (now counts) (now users) (now uses) ⌝ }
-    requires { ⌜ Ready (now counts) (now tables) (now empty) (now back) (now sums) (now live) (now text) (now chart) rows ⌝ }
+    requires { ⌜ Ready (now tables) (now prepared) (now text) (now chart) (now sums) (now live) ⌝ }
     requires { ⌜ (i < j) × (j ≤ length (now text)) ⌝ }
-    requires { ⌜ SmallCells (length (now text)) rows (j + 1) (now chart) × SmallSums rows j (now sums) ⌝ }
-    ensures { λ _. ⌜ Further (now (counts .entry)) (now (tables .entry)) (now (users .entry)) (now (empty .entry)) (now (back .entry)) (now (text .entry)) (now (chart .entry)) (now (sums .entry)) (now (live .entry)) (i + 1) j (now (chart .exit)) (now (sums .exit)) (now (live .exit)) i ⌝ }
-    ensures { λ _. ⌜ SmallCells (length (now (text .entry))) rows (j + 1) (now (chart .exit)) × SmallSums rows j (now (sums .exit)) ⌝ }
+    requires { ⌜ Small (now tables) (now text) (now chart) (now sums) j ⌝ }
+    ensures { λ _. ⌜ Further (now (tables .entry)) (now (prepared .entry)) (now (text .entry)) (now (chart .entry)) (now (sums .entry)) (now (live .entry)) (i + 1) j (now (chart .exit)) (now (sums .exit)) (now (live .exit)) i ⌝ }
+    ensures { λ _. ⌜ Small (now (tables .entry)) (now (text .entry)) (now (chart .exit)) (now (sums .exit)) j ⌝ }
 {
     if is_dead(live, i, j) {
         return;
     }
+    let rows = row_count(tables);
     let mut inner = zero_row();
     sums_at(sums, rows, i, &mut inner);
     let mut cells = zero_row();
     let mut args = zero_row();
-    bare_args(text, counts, tables, i, j, &mut args);
-    settle(
-        counts,
-        rows,
-        users,
-        uses,
-        &inner,
-        empty,
-        back,
-        &mut args,
-        &mut cells,
-    );
+    char_args(text, tables, prepared, i, j, &mut args);
+    settle_span(tables, prepared, &inner, &mut args, &mut cells);
     store_cells(chart, text.len(), rows, i, j, &cells);
     add_splits(chart, text.len(), rows, i, &args, sums, live);
 }
@@ -94,42 +117,22 @@ fn fill_span(
 fn fill_spans(
     chart: &mut [u8],
     text: &[u8],
-    counts: &[u8],
     tables: &[u64],
-    users: &[u8],
-    uses: &[u8],
-    rows: usize,
-    empty: &[u8],
-    back: &[u8],
+    prepared: &[u8],
     sums: &mut [u8],
     live: &mut [u8],
     j: usize,
 )
-    requires { ⌜ Links (now counts) (now users) (now uses) ⌝ }
-    requires { ⌜ Ready (now counts) (now tables) (now empty) (now back) (now sums) (now live) (now text) (now chart) rows ⌝ }
+    requires { ⌜ Ready (now tables) (now prepared) (now text) (now chart) (now sums) (now live) ⌝ }
     requires { ⌜ j ≤ length (now text) ⌝ }
-    requires { ⌜ SmallCells (length (now text)) rows (j + 1) (now chart) × SmallSums rows j (now sums) ⌝ }
-    ensures { λ _. ⌜ Further (now (counts .entry)) (now (tables .entry)) (now (users .entry)) (now (empty .entry)) (now (back .entry)) (now (text .entry)) (now (chart .entry)) (now (sums .entry)) (now (live .entry)) j j (now (chart .exit)) (now (sums .exit)) (now (live .exit)) 0 ⌝ }
-    ensures { λ _. ⌜ SmallCells (length (now (text .entry))) rows (j + 1) (now (chart .exit)) ⌝ }
+    requires { ⌜ Small (now tables) (now text) (now chart) (now sums) j ⌝ }
+    ensures { λ _. ⌜ Further (now (tables .entry)) (now (prepared .entry)) (now (text .entry)) (now (chart .entry)) (now (sums .entry)) (now (live .entry)) j j (now (chart .exit)) (now (sums .exit)) (now (live .exit)) 0 ⌝ }
+    ensures { λ _. ⌜ Small (now (tables .entry)) (now (text .entry)) (now (chart .exit)) (now (sums .exit)) j ⌝ }
 {
     let mut i = j;
     while 0 < i {
         i -= 1;
-        fill_span(
-            chart,
-            text,
-            counts,
-            tables,
-            users,
-            uses,
-            rows,
-            empty,
-            back,
-            sums,
-            live,
-            i,
-            j,
-        );
+        fill_span(chart, text, tables, prepared, sums, live, i, j);
     }
 }
 
@@ -137,79 +140,42 @@ fn fill_spans(
 fn fill_column(
     chart: &mut [u8],
     text: &[u8],
-    counts: &[u8],
     tables: &[u64],
-    users: &[u8],
-    uses: &[u8],
-    rows: usize,
-    empty: &[u8],
-    back: &[u8],
+    prepared: &[u8],
     sums: &mut [u8],
     live: &mut [u8],
     j: usize,
 )
-    requires { ⌜ Links (now counts) (now users) (now uses) ⌝ }
-    requires { ⌜ Ready (now counts) (now tables) (now empty) (now back) (now sums) (now live) (now text) (now chart) rows ⌝ }
+    requires { ⌜ Ready (now tables) (now prepared) (now text) (now chart) (now sums) (now live) ⌝ }
     requires { ⌜ j ≤ length (now text) ⌝ }
-    requires { ⌜ SmallCells (length (now text)) rows j (now chart) ⌝ }
-    ensures { λ _. ⌜ Onward (now (counts .entry)) (now (tables .entry)) (now (users .entry)) (now (empty .entry)) (now (back .entry)) (now (text .entry)) (now (chart .entry)) j (now (chart .exit)) (j + 1) ⌝ }
-    ensures { λ _. ⌜ SmallCells (length (now (text .entry))) rows (j + 1) (now (chart .exit)) ⌝ }
+    requires { ⌜ SmallCells (length (now text)) (rowsOf (now tables)) j (now chart) ⌝ }
+    ensures { λ _. ⌜ Onward (now (tables .entry)) (now (prepared .entry)) (now (text .entry)) (now (chart .entry)) j (now (chart .exit)) (j + 1) ⌝ }
+    ensures { λ _. ⌜ SmallCells (length (now (text .entry))) (rowsOf (now (tables .entry))) (j + 1) (now (chart .exit)) ⌝ }
 {
+    let rows = row_count(tables);
     clear_column(chart, text.len(), rows, j);
     clear(sums, 0, rows * PLACES);
     clear(live, 0, j);
-    fill_spans(
-        chart,
-        text,
-        counts,
-        tables,
-        users,
-        uses,
-        rows,
-        empty,
-        back,
-        sums,
-        live,
-        j,
-    );
-    store_cells(chart, text.len(), rows, j, j, empty);
+    fill_spans(chart, text, tables, prepared, sums, live, j);
+    store_cells(chart, text.len(), rows, j, j, &prepared[EMPTY_AT..BACK_AT]);
 }
 
 // All columns.
 fn fill_columns(
     chart: &mut [u8],
     text: &[u8],
-    counts: &[u8],
     tables: &[u64],
-    users: &[u8],
-    uses: &[u8],
-    rows: usize,
-    empty: &[u8],
-    back: &[u8],
+    prepared: &[u8],
     sums: &mut [u8],
     live: &mut [u8],
 )
-    requires { ⌜ Links (now counts) (now users) (now uses) ⌝ }
-    requires { ⌜ Ready (now counts) (now tables) (now empty) (now back) (now sums) (now live) (now text) (now chart) rows ⌝ }
-    ensures { λ _. ⌜ Onward (now (counts .entry)) (now (tables .entry)) (now (users .entry)) (now (empty .entry)) (now (back .entry)) (now (text .entry)) (now (chart .entry)) 0 (now (chart .exit)) (length (now (text .entry)) + 1) ⌝ }
-    ensures { λ _. ⌜ SmallCells (length (now (text .entry))) rows (length (now (text .entry)) + 1) (now (chart .exit)) ⌝ }
+    requires { ⌜ Ready (now tables) (now prepared) (now text) (now chart) (now sums) (now live) ⌝ }
+    ensures { λ _. ⌜ Onward (now (tables .entry)) (now (prepared .entry)) (now (text .entry)) (now (chart .entry)) 0 (now (chart .exit)) (length (now (text .entry)) + 1) ⌝ }
+    ensures { λ _. ⌜ SmallCells (length (now (text .entry))) (rowsOf (now (tables .entry))) (length (now (text .entry)) + 1) (now (chart .exit)) ⌝ }
 {
     let mut j = 0;
     while j <= text.len() {
-        fill_column(
-            chart,
-            text,
-            counts,
-            tables,
-            users,
-            uses,
-            rows,
-            empty,
-            back,
-            sums,
-            live,
-            j,
-        );
+        fill_column(chart, text, tables, prepared, sums, live, j);
         j += 1;
     }
 }
@@ -227,34 +193,8 @@ pub fn fill(chart: &mut [u8], text: &[u8], tables: &[u64], prepared: &[u8])
     ensures { λ _. ⌜ CountedBy (theoryOf (now (tables .entry))) (now (text .entry)) everything (now (chart .exit)) ⌝ }
     ensures { λ _. ⌜ ((k : ℕ) → chartNeed (now (tables .entry)) (length (now (text .entry))) ≤ k → getD (now (chart .exit)) k 0 ≡ getD (now (chart .entry)) k 0) ⌝ }
 {
-    let counts = argument_counts(tables);
-    let count = production_count(tables);
-    fill_by_counts(chart, text, &counts[..count], tables, prepared);
-}
-
-// The same with the argument counts as bytes.
-fn fill_by_counts(chart: &mut [u8], text: &[u8], counts: &[u8], tables: &[u64], prepared: &[u8])
-    requires { ⌜ ChartFits (now tables) (length (now text)) (now chart) ⌝ }
-    requires { ⌜ Prepared (now tables) (now prepared) ⌝ }
-    requires { ⌜ now counts ≡ countsOf (now tables) ⌝ }
-    ensures { λ _. ⌜ CountedBy (theoryOf (now (tables .entry))) (now (text .entry)) everything (now (chart .exit)) ⌝ }
-    ensures { λ _. ⌜ ((k : ℕ) → chartNeed (now (tables .entry)) (length (now (text .entry))) ≤ k → getD (now (chart .exit)) k 0 ≡ getD (now (chart .entry)) k 0) ⌝ }
-{
-    let rows = row_count(tables);
     let mut sums = zero_sums();
     let mut live = [0; PLACES];
-    fill_columns(
-        chart,
-        text,
-        counts,
-        tables,
-        &prepared[..USES_AT],
-        &prepared[USES_AT..EMPTY_AT],
-        rows,
-        &prepared[EMPTY_AT..BACK_AT],
-        &prepared[BACK_AT..PREPARED],
-        &mut sums,
-        &mut live,
-    );
-    turn_rows(chart, text.len(), rows);
+    fill_columns(chart, text, tables, prepared, &mut sums, &mut live);
+    turn_rows(chart, text.len(), row_count(tables));
 }

@@ -159,3 +159,7 @@ module _ (t : List ℕ) (few : length (countsOf t) ≤ productionLimit) (b count
             counts = ap (λ (m : ℕ). countsIn m all) (sym (many ∙ ap length are)) ∙ counts-same ∙ are;
             empty = subst₂ (EmptyRight (theoryOf t)) (sym cells-same) (sym (part-here backAt (preparedBytes - backAt) with-cells back back-inside k)) r;
           }
+
+-- the argument counts, as code reads them
+pub counts-read : (t b : List ℕ) (n : ℕ) → n ≡ length (countsOf t) → Prepared t b → countsIn n b ≡ countsOf t
+counts-read t b n e p = ap (λ (m : ℕ). countsIn m b) e ∙ p .counts

@@ -1,56 +1,61 @@
--- `fill` meets its contract: the first of the copied counts are those of the tables.
-use mathlib.Core.Path.{_≡_, sym}
+-- `fill` meets its contract: all columns filled and the rows turned, the chart counts.
+use Prim.Native.Nat.{ℕ, _*_}
+use mathlib.Core.Path.{ap, subst}
 use native.Mathlib.Omega.{arith}
-use lib.ListN.{length}
-use lib.Seq.{length-take-le}
+use lib.ListN.{length, length-replicate}
 use borrow.Author.Needs.{needs}
-use Rattle.grammar.specs.Limits.{productionLimit}
-use Rattle.tables.proofs.LayoutLaws.{counts-few, counts-copied}
+use Rattle.chart.proofs.LayoutLaws.{table-rows-few}
+use Rattle.chart.specs.Layout.{spanCount, places}
+use Rattle.chart.specs.ByEnds.{Turned}
+use Rattle.fill.proofs.FurtherLaws.{filled-counts, filled-beyond}
 use Rattle.fill.proofs.fill.Statement.{statement}
 use Rattle.fill.proofs.fill.Tie as tie
 
-argument-counts-requires : tie.Need-argument-counts-requires
-argument-counts-requires c κs = search needs
+zero-sums-requires : tie.Need-zero-sums-requires
+zero-sums-requires c κs = search needs
 
-production-count-requires : tie.Need-production-count-requires
-production-count-requires c κs = search needs
+slice-aggregate-fill-columns : tie.Need-slice-aggregate-fill-columns
+slice-aggregate-fill-columns c = search needs
 
-array-share-prefix-counts : tie.Need-array-share-prefix-counts
-array-share-prefix-counts c =
-    let start = c .before .before .before .before .before .before .before in
-    let long : length (c .before .before .argument-counts .result) ≡ productionLimit = search needs in
-    omega (arith, c .before .production-count .ensures, counts-few (start .args .tables .now) (start .pre .0 .tables))
+slice-aggregate-fill-columns-2 : tie.Need-slice-aggregate-fill-columns-2
+slice-aggregate-fill-columns-2 c = search needs
 
-slice-aggregate-fill-by-counts : tie.Need-slice-aggregate-fill-by-counts
-slice-aggregate-fill-by-counts c =
+fill-columns-requires : tie.Need-fill-columns-requires
+fill-columns-requires c κs =
     let start = c .before .before .before .before .before .before .before .before in
-    let argument-counts = c .before .before .before .argument-counts in
-    let production-count = c .before .before .production-count in
-    let long : length (argument-counts .result) ≡ productionLimit = search needs in
-    sym (length-take-le (production-count .result) (argument-counts .result) (omega (arith, production-count .ensures, counts-few (start .args .tables .now) (start .pre .0 .tables))))
+    record { fits = start .pre .0; prepared = start .pre .1; sumsLong = c .before .before .before .zero-sums .ensures .long; liveLong = length-replicate {A = ℕ} places 0 }
 
-fill-by-counts-requires : tie.Need-fill-by-counts-requires
-fill-by-counts-requires c κs =
-    let start = c .before .before .before .before .before .before .before .before in
-    let argument-counts = c .before .before .before .argument-counts in
-    let production-count = c .before .before .production-count in
-    let long : length (argument-counts .result) ≡ productionLimit = search needs in
-    (start .pre .0, (start .pre .1, counts-copied (start .args .tables .now) (argument-counts .result) (production-count .result) (production-count .ensures) (omega (arith, production-count .ensures, counts-few (start .args .tables .now) (start .pre .0 .tables))) (argument-counts .ensures)))
+row-count-requires : tie.Need-row-count-requires
+row-count-requires c κs = c .before .before .before .before .before .before .before .before .before .before .before .before .before .before .pre .0 .tables
+
+turn-rows-requires : tie.Need-turn-rows-requires
+turn-rows-requires c κs =
+    let start = c .before .before .before .before .before .before .before .before .before .before .before .before .before .before .before in
+    let few = table-rows-few (start .args .tables .now) (start .pre .0 .tables) in
+    ((start .pre .0 .short, omega (arith, c .row-count .ensures)), omega (arith, c .before .before .before .before .before .before .fill-columns .kept .0, ap (λ (n : ℕ). n * spanCount (length (start .args .text .now))) (c .row-count .ensures), start .pre .0 .longEnough))
 
 same-length : tie.Need-same-length
 same-length c = search needs
 
 returns : tie.Need-returns
-returns c = search needs
+returns c =
+    let start = c .before .before .before .before .before .before .before .before .before .before .before .before .before .before .before .before .before .before in
+    let fill-columns = c .before .before .before .before .before .before .before .before .before .fill-columns in
+    let turn-rows = c .before .before .turn-rows in
+    let turn = subst (λ (n : ℕ). Turned (length (start .args .text .now)) n (fill-columns .last .0) (turn-rows .last .0)) (c .before .before .before .row-count .ensures) (turn-rows .ensures) in (
+      filled-counts (start .args .tables .now) (start .args .prepared .now) (start .args .text .now) (start .args .chart .now) (fill-columns .last .0) (turn-rows .last .0) (start .pre .1) (fill-columns .ensures .0) (fill-columns .ensures .1) turn,
+      filled-beyond (start .args .tables .now) (start .args .prepared .now) (start .args .text .now) (start .args .chart .now) (fill-columns .last .0) (turn-rows .last .0) (start .pre .1) (fill-columns .ensures .0) (fill-columns .ensures .1) turn,
+    )
 
 pub fill-spec : {M : Type 1} → statement M
 fill-spec =
     tie.close
     (tie.spec
-    argument-counts-requires
-    production-count-requires
-    array-share-prefix-counts
-    slice-aggregate-fill-by-counts
-    fill-by-counts-requires
+    zero-sums-requires
+    slice-aggregate-fill-columns
+    slice-aggregate-fill-columns-2
+    fill-columns-requires
+    row-count-requires
+    turn-rows-requires
     same-length
     returns)

@@ -7,23 +7,21 @@ use Rattle.fill.proofs.fill_columns.Statement.{statement}
 use Rattle.fill.proofs.fill_columns.Tie as tie
 
 abbrev Inv-loop : tie.InvT-loop
-Inv-loop chart₀ text counts tables users uses rows empty back sums₀ live₀ j₀ chart sums live j = ColumnsDone counts tables users empty back text chart₀ sums₀ live₀ rows chart sums live j
+Inv-loop chart₀ text tables prepared sums₀ live₀ j₀ chart sums live j = ColumnsDone tables prepared text chart₀ sums₀ live₀ chart sums live j
 
 abbrev μ-loop : tie.MeasureT-loop
-μ-loop chart₀ text counts tables users uses rows empty back sums₀ live₀ j₀ chart sums live j = length text + 1 - j
+μ-loop chart₀ text tables prepared sums₀ live₀ j₀ chart sums live j = length text + 1 - j
 
 loop-holds : tie.Need-loop-holds Inv-loop μ-loop
 loop-holds c = columns-none
 
 fill-column-requires : tie.Need-fill-column-requires Inv-loop μ-loop
 fill-column-requires c κs =
-    let start = c .before .before .before .before .before .before .before .before .before .before .before .before .before .before .before in
     let turn = c .before .before .before .before .loop in
-    let done = turn .inv in
-    (start .pre .0, (ready-kept (turn .sums) (turn .live) (turn .chart) (done .sumsLong) (done .liveLong) (done .chartLong) (start .pre .1), (omega arith, done .cells)))
+    (ready-kept (turn .chart) (turn .sums) (turn .live) (turn .inv .chartLong) (turn .inv .sumsLong) (turn .inv .liveLong) (c .before .before .before .before .before .before .before .before .before .before .before .pre), (omega arith, turn .inv .cells))
 
 add-j : tie.Need-add-j Inv-loop μ-loop
-add-j c = omega (arith, c .before .before .before .before .before .before .before .before .before .before .before .before .before .before .before .before .before .before .before .before .before .before .pre .1 .short)
+add-j c = omega (arith, c .before .before .before .before .before .before .before .before .before .before .before .before .before .before .before .before .before .before .pre .fits .short)
 
 loop-less : tie.Need-loop-less Inv-loop μ-loop
 loop-less c = omega arith
@@ -32,8 +30,7 @@ loop-again : tie.Need-loop-again Inv-loop μ-loop
 loop-again c =
     let turn = c .before .before .before .before .before .before .before .before .before .before .before .loop in
     let fill-column = c .before .before .before .before .before .before .fill-column in
-    columns-more (turn .chart) (turn .sums) (turn .live) (fill-column .last .0) (fill-column .last .1 .1 .1 .1 .1 .1 .1 .1 .1 .0) (fill-column .last .1 .1 .1 .1 .1 .1 .1 .1 .1 .1 .0) (turn .j) (omega arith) (turn .inv) (fill-column .ensures .0)
-    (fill-column .kept .0) (fill-column .kept .1 .1 .1 .1 .1 .1 .1 .1 .1 .0) (fill-column .kept .1 .1 .1 .1 .1 .1 .1 .1 .1 .1 .0) (fill-column .ensures .1)
+    columns-more (turn .chart) (turn .sums) (turn .live) (fill-column .last .0) (fill-column .last .1 .1 .1 .1 .0) (fill-column .last .1 .1 .1 .1 .1 .0) (turn .j) (omega arith) (turn .inv) (fill-column .ensures .0) (fill-column .kept .0) (fill-column .kept .1 .1 .1 .1 .0) (fill-column .kept .1 .1 .1 .1 .1 .0) (fill-column .ensures .1)
 
 same-length : tie.Need-same-length Inv-loop μ-loop
 same-length c = c .before .loop .inv .chartLong

@@ -1,37 +1,39 @@
 -- `fill_span` meets its contract: dead, or settled, stored and added, the span is filled.
-use Prim.Native.Nat.{ℕ, _+_}
+use Prim.Native.Nat.{ℕ, _+_, _*_}
 use mathlib.Core.Bool.{true, not, _&&_}
-use mathlib.Core.Path.{_≡_, sym, _∙_}
+use mathlib.Core.Path.{_≡_, refl, sym, _∙_, ap}
 use native.Mathlib.Omega.{arith}
 use lib.Dec.{eqb}
 use lib.ListN.{length, getD}
-use borrow.Author.Needs.{needs}
 use borrow.Author.Tests.{eqb-true, eqb-false, not-true}
-use Rattle.chart.proofs.LayoutLaws.{rows-few}
+use borrow.Author.Needs.{needs}
+use Rattle.chart.proofs.LayoutLaws.{table-rows-few}
+use Rattle.chart.specs.Layout.{spanCount}
 use Rattle.common.proofs.BoolLaws.{and-first-true, and-second-true}
-use Rattle.fill.proofs.FillSpanLaws.{zero-exact, zero-founded, span-further, span-skipped}
-use Rattle.fill.proofs.SmallLaws.{settled-small, small-stored, small-added}
-use Rattle.span.specs.Tables.{spanOf}
-use Rattle.tables.specs.Layout.{arityIn, slot, takesChar}
+use Rattle.fill.proofs.FillSpanLaws.{char-args-small, cells-small, span-small, span-further, span-skipped}
+use Rattle.fill.specs.Tables.{rowsOf}
 use Rattle.fill.proofs.fill_span.Statement.{statement}
 use Rattle.fill.proofs.fill_span.Tie as tie
 
 is-dead-requires : tie.Need-is-dead-requires
 is-dead-requires c κs =
-    let start = c .before .before .before .before .before .before .before .before .before .before .before in
-    let ready = start .pre .1 .0 in ((start .pre .1 .1 .0 .0), omega (arith, start .pre .1 .1 .0 .1, ready .short, ready .liveLong))
+    let start = c .before .before .before .before .before .before .before in
+    (start .pre .1 .0 .0, omega (arith, start .pre .1 .0 .1, start .pre .0 .fits .short, start .pre .0 .liveLong))
 
 same-length : tie.Need-same-length
 same-length c = search needs
 
 returns : tie.Need-returns
 returns c =
-    let start = c .before .before .before .before .before .before .before .before .before .before .before .before .before in
-    let a = (start .args) in
+    let start = c .before .before .before .before .before .before .before .before .before in
+    let a = start .args in
     let e : (not (eqb (a .i + 1) (a .j)) && eqb (getD (a .live .now) (a .i) 0) 0) ≡ true = sym (c .before .is-dead .ensures) ∙ c .if1 .taken in
     let apart = eqb-false (a .i + 1) (a .j) (not-true (eqb (a .i + 1) (a .j)) (and-first-true (not (eqb (a .i + 1) (a .j))) (eqb (getD (a .live .now) (a .i) 0) 0) e)) in
     let dead = eqb-true (getD (a .live .now) (a .i) 0) 0 (and-second-true (not (eqb (a .i + 1) (a .j))) (eqb (getD (a .live .now) (a .i) 0) 0) e) in
-    (span-skipped (a .counts .now) (a .tables .now) (a .users .now) (a .uses .now) (a .empty .now) (a .back .now) (a .text .now) (a .chart .now) (a .sums .now) (a .live .now) (a .rows) (a .i) (a .j) (start .pre .0) (start .pre .1 .0) (start .pre .1 .1 .0 .0) (start .pre .1 .1 .0 .1) apart dead (start .pre .1 .1 .1 .1), start .pre .1 .1 .1)
+    (span-skipped (a .tables .now) (a .prepared .now) (a .text .now) (a .chart .now) (a .sums .now) (a .live .now) (rowsOf (a .tables .now)) (a .i) (a .j) refl (start .pre .0) (start .pre .1 .0 .0) (start .pre .1 .0 .1) apart dead (start .pre .1 .1 .little), start .pre .1 .1)
+
+row-count-requires : tie.Need-row-count-requires
+row-count-requires c κs = c .before .before .before .before .before .before .before .before .before .pre .0 .fits .tables
 
 zero-row-requires : tie.Need-zero-row-requires
 zero-row-requires c κs = search needs
@@ -41,11 +43,9 @@ slice-aggregate-sums-at c = search needs
 
 sums-at-requires : tie.Need-sums-at-requires
 sums-at-requires c κs =
-    let start = c .before .before .before .before .before .before .before .before .before .before .before .before .before .before .before .before in
-    let ready = start .pre .1 .0 in
-    let a = (start .args) in
-    let few = rows-few (arityIn (a .counts .now)) (length (a .counts .now)) (start .pre .0 .fewProductions) (start .pre .0 .fewArguments) in
-    (ready .sumsLong, omega (arith, ready .rowsAre), omega (arith, ready .short, start .pre .1 .1 .0 .0, start .pre .1 .1 .0 .1), c .before .before .zero-row .ensures .long)
+    let start = c .before .before .before .before .before .before .before .before .before .before .before .before .before in
+    let few = table-rows-few (start .args .tables .now) (start .pre .0 .fits .tables) in
+    (start .pre .0 .sumsLong, omega (arith, c .before .before .before .row-count .ensures), omega (arith, start .pre .0 .fits .short, start .pre .1 .0 .0, start .pre .1 .0 .1), c .before .before .zero-row .ensures .long)
 
 zero-row-requires-2 : tie.Need-zero-row-requires-2
 zero-row-requires-2 c κs = search needs
@@ -53,36 +53,31 @@ zero-row-requires-2 c κs = search needs
 zero-row-requires-3 : tie.Need-zero-row-requires-3
 zero-row-requires-3 c κs = search needs
 
-slice-aggregate-bare-args : tie.Need-slice-aggregate-bare-args
-slice-aggregate-bare-args c = search needs
+slice-aggregate-char-args : tie.Need-slice-aggregate-char-args
+slice-aggregate-char-args c = search needs
 
-bare-args-requires : tie.Need-bare-args-requires
-bare-args-requires c κs = search needs
+char-args-requires : tie.Need-char-args-requires
+char-args-requires c κs =
+    let start = c .before .before .before .before .before .before .before .before .before .before .before .before .before .before .before .before .before .before in
+    ((start .pre .0 .fits .tables, start .pre .0 .prepared), (start .pre .1 .0, c .before .zero-row3 .ensures))
 
-slice-aggregate-settle : tie.Need-slice-aggregate-settle
-slice-aggregate-settle c = search needs
+slice-aggregate-settle-span : tie.Need-slice-aggregate-settle-span
+slice-aggregate-settle-span c = search needs
 
-slice-aggregate-settle-2 : tie.Need-slice-aggregate-settle-2
-slice-aggregate-settle-2 c = search needs
+slice-aggregate-settle-span-2 : tie.Need-slice-aggregate-settle-span-2
+slice-aggregate-settle-span-2 c = search needs
 
-slice-aggregate-settle-3 : tie.Need-slice-aggregate-settle-3
-slice-aggregate-settle-3 c = search needs
+slice-aggregate-settle-span-3 : tie.Need-slice-aggregate-settle-span-3
+slice-aggregate-settle-span-3 c = search needs
 
-settle-requires : tie.Need-settle-requires
-settle-requires c κs =
-    let start = c .before .before .before .before .before .before .before .before .before .before .before .before .before .before .before .before .before .before .before .before .before .before .before .before .before .before in
-    let sums-at = c .before .before .before .before .before .before .before .before .before .sums-at in
-    let bare-args = c .before .before .before .before .bare-args in
-    let zero-row2 = c .before .before .before .before .before .before .before .zero-row2 in
-    let ready = start .pre .1 .0 in
-    let a = (start .args) in (
-      start .pre .0,
+settle-span-requires : tie.Need-settle-span-requires
+settle-span-requires c κs =
+    let start = c .before .before .before .before .before .before .before .before .before .before .before .before .before .before .before .before .before .before .before .before .before .before .before in
+    let char-args = c .before .before .before .before .char-args in (
+      (start .pre .0 .fits .tables, start .pre .0 .prepared),
       (
-        record { innerLong = sums-at .kept .1 .1 .1 .0 ∙ c .before .before .before .before .before .before .before .before .before .before .before .before .zero-row .ensures .long; frontLong = ready .emptyLong; backLong = ready .argsLong; argsLong = bare-args .ensures .long; cellsLong = zero-row2 .ensures .long },
-        (
-          zero-founded (λ (p d : ℕ). eqb (a .i + 1) (a .j) && takesChar (a .tables .now) (slot p d) (getD (a .text .now) (a .i) 0)) (a .counts .now) (a .users .now) (sums-at .last .1 .1 .1 .0) (a .empty .now) (a .back .now) (bare-args .last .1 .1 .1 .1 .1 .0) (zero-row2 .result) (bare-args .ensures) (zero-row2 .ensures),
-          ready .rowsAre,
-        ),
+        (c .before .before .before .before .before .before .before .before .before .sums-at .kept .1 .1 .1 .0 ∙ c .before .before .before .before .before .before .before .before .before .before .before .before .zero-row .ensures .long, char-args .kept .1 .1 .1 .1 .1 .0 ∙ c .before .before .before .before .before .before .zero-row3 .ensures .long, c .before .before .before .before .before .before .before .zero-row2 .ensures),
+        char-args-small (start .args .tables .now) (start .args .text .now) (start .args .i) (start .args .j) (char-args .last .1 .1 .1 .1 .1 .0) (char-args .ensures),
       ),
     )
 
@@ -91,35 +86,30 @@ slice-aggregate-store-cells c = search needs
 
 store-cells-requires : tie.Need-store-cells-requires
 store-cells-requires c κs =
-    let start = c .before .before .before .before .before .before .before .before .before .before .before .before .before .before .before .before .before .before .before .before .before .before .before .before .before .before .before .before .before .before .before in
-    let ready = start .pre .1 .0 in
-    let a = (start .args) in
-    let few = rows-few (arityIn (a .counts .now)) (length (a .counts .now)) (start .pre .0 .fewProductions) (start .pre .0 .fewArguments) in
-    ((ready .short, omega (arith, ready .rowsAre), omega (arith, start .pre .1 .1 .0 .0), start .pre .1 .1 .0 .1), (ready .longEnough, c .before .before .before .before .settle .kept .1 .1 .1 .1 .1 .1 .1 .1 .0 ∙ c .before .before .before .before .before .before .before .before .before .before .before .before .zero-row2 .ensures .long))
+    let start = c .before .before .before .before .before .before .before .before .before .before .before .before .before .before .before .before .before .before .before .before .before .before .before .before .before .before .before .before in
+    let row-count = c .before .before .before .before .before .before .before .before .before .before .before .before .before .before .before .before .before .before .row-count in
+    let few = table-rows-few (start .args .tables .now) (start .pre .0 .fits .tables) in
+    ((start .pre .0 .fits .short, omega (arith, row-count .ensures), omega (arith, start .pre .1 .0 .0), start .pre .1 .0 .1), (omega (arith, start .pre .0 .fits .longEnough, ap (λ (n : ℕ). n * spanCount (length (start .args .text .now))) (row-count .ensures)), c .before .before .before .before .settle-span .kept .1 .1 .1 .1 .0 ∙ c .before .before .before .before .before .before .before .before .before .before .before .before .zero-row2 .ensures .long))
 
 slice-aggregate-add-splits : tie.Need-slice-aggregate-add-splits
 slice-aggregate-add-splits c = search needs
 
 add-splits-requires : tie.Need-add-splits-requires
 add-splits-requires c κs =
-    let start = c .before .before .before .before .before .before .before .before .before .before .before .before .before .before .before .before .before .before .before .before .before .before .before .before .before .before .before .before .before .before .before .before .before .before .before .before .before .before in
-    let bare-args = c .before .before .before .before .before .before .before .before .before .before .before .before .before .before .before .before .bare-args in
-    let settle′ = c .before .before .before .before .before .before .before .before .before .before .before .settle in
-    let sums-at = c .before .before .before .before .before .before .before .before .before .before .before .before .before .before .before .before .before .before .before .before .before .sums-at in
+    let start = c .before .before .before .before .before .before .before .before .before .before .before .before .before .before .before .before .before .before .before .before .before .before .before .before .before .before .before .before .before .before .before .before .before .before .before in
+    let settle-span = c .before .before .before .before .before .before .before .before .before .before .before .settle-span in
+    let row-count = c .before .before .before .before .before .before .before .before .before .before .before .before .before .before .before .before .before .before .before .before .before .before .before .before .before .row-count in
+    let char-args = c .before .before .before .before .before .before .before .before .before .before .before .before .before .before .before .before .char-args in
     let zero-row2 = c .before .before .before .before .before .before .before .before .before .before .before .before .before .before .before .before .before .before .before .zero-row2 in
     let store-cells = c .before .before .before .before .before .before .store-cells in
-    let ready = start .pre .1 .0 in
-    let a = (start .args) in
-    let few = rows-few (arityIn (a .counts .now)) (length (a .counts .now)) (start .pre .0 .fewProductions) (start .pre .0 .fewArguments) in
-    let args₀ = bare-args .last .1 .1 .1 .1 .1 .0 in
-    let x = settle′ .last .1 .1 .1 .1 .1 .1 .1 .1 .0 in
-    let settled = settle′ .ensures (λ k. getD args₀ k 0) (zero-exact (a .counts .now) (a .users .now) (sums-at .last .1 .1 .1 .0) (a .empty .now) (a .back .now) args₀ (zero-row2 .result) (zero-row2 .ensures)) in
-    let small = settled-small (spanOf (a .counts .now) (a .users .now) (sums-at .last .1 .1 .1 .0) (a .empty .now) (a .back .now) (λ k. getD args₀ k 0)) (zero-row2 .result) (settle′ .last .1 .1 .1 .1 .1 .1 .1 .0) x (zero-row2 .ensures) settled in
-    let cells = small-stored (length (a .text .now)) (a .rows) (a .j) (start .pre .1 .1 .0 .1) (a .i) x (a .chart .now) (store-cells .last .0) (omega (arith, start .pre .1 .1 .0 .0)) small (store-cells .ensures) (start .pre .1 .1 .1 .0) in (
-      (ready .short, omega (arith, ready .rowsAre), omega (arith, start .pre .1 .1 .0 .0, start .pre .1 .1 .0 .1), settle′ .kept .1 .1 .1 .1 .1 .1 .1 .0 ∙ bare-args .ensures .long),
+    let few = table-rows-few (start .args .tables .now) (start .pre .0 .fits .tables) in
+    let x = settle-span .last .1 .1 .1 .1 .0 in
+    let args = settle-span .last .1 .1 .1 .0 in
+    let cells = cells-small (start .args .tables .now) (start .args .prepared .now) (start .args .text .now) (start .args .chart .now) (start .args .sums .now) (start .args .live .now) (row-count .result) (start .args .i) (start .args .j) (row-count .ensures) (start .pre .0) (start .pre .1 .0 .0) (start .pre .1 .0 .1) (c .before .before .before .before .before .before .before .before .before .before .before .before .before .before .before .before .before .before .before .before .before .sums-at .last .1 .1 .1 .0) (char-args .last .1 .1 .1 .1 .1 .0) (zero-row2 .result) x args (store-cells .last .0) (zero-row2 .ensures) (settle-span .ensures) (store-cells .ensures) (start .pre .1 .1 .cells) in (
+      (start .pre .0 .fits .short, omega (arith, row-count .ensures), omega (arith, start .pre .1 .0 .0, start .pre .1 .0 .1), settle-span .kept .1 .1 .1 .0 ∙ char-args .kept .1 .1 .1 .1 .1 .0 ∙ c .before .before .before .before .before .before .before .before .before .before .before .before .before .before .before .before .before .before .zero-row3 .ensures .long),
       (
-        (omega (arith, ready .longEnough, store-cells .kept .0), ready .sumsLong, ready .liveLong),
-        ((λ r k lr lk. start .pre .1 .1 .1 .1 .smallSums r k lr (omega (arith, start .pre .1 .1 .0 .0))), (λ r k lr lk. cells .smallCells r k (a .i) lr lk (omega (arith, start .pre .1 .1 .0 .0)))),
+        (omega (arith, start .pre .0 .fits .longEnough, store-cells .kept .0, ap (λ (n : ℕ). n * spanCount (length (start .args .text .now))) (row-count .ensures)), start .pre .0 .sumsLong, start .pre .0 .liveLong),
+        ((λ r k lr lk. start .pre .1 .1 .little .smallSums r k (omega (arith, row-count .ensures)) (omega (arith, start .pre .1 .0 .0))), (λ r k lr lk. cells .smallCells r k (start .args .i) (omega (arith, row-count .ensures)) lk (omega (arith, start .pre .1 .0 .0)))),
       ),
     )
 
@@ -134,27 +124,18 @@ same-length-4 c = search needs
 
 returns-2 : tie.Need-returns-2
 returns-2 c =
-    let start = c .before .before .before .before .before .before .before .before .before .before .before .before .before .before .before .before .before .before .before .before .before .before .before .before .before .before .before .before .before .before .before .before .before .before .before .before .before .before .before .before .before .before .before in
-    let bare-args = c .before .before .before .before .before .before .before .before .before .before .before .before .before .before .before .before .before .before .before .before .before .bare-args in
+    let start = c .before .before .before .before .before .before .before .before .before .before .before .before .before .before .before .before .before .before .before .before .before .before .before .before .before .before .before .before .before .before .before .before .before .before .before .before .before .before .before .before in
+    let settle-span = c .before .before .before .before .before .before .before .before .before .before .before .before .before .before .before .before .settle-span in
+    let row-count = c .before .before .before .before .before .before .before .before .before .before .before .before .before .before .before .before .before .before .before .before .before .before .before .before .before .before .before .before .before .before .row-count in
     let sums-at = c .before .before .before .before .before .before .before .before .before .before .before .before .before .before .before .before .before .before .before .before .before .before .before .before .before .before .sums-at in
-    let settle′ = c .before .before .before .before .before .before .before .before .before .before .before .before .before .before .before .before .settle in
+    let char-args = c .before .before .before .before .before .before .before .before .before .before .before .before .before .before .before .before .before .before .before .before .before .char-args in
     let zero-row2 = c .before .before .before .before .before .before .before .before .before .before .before .before .before .before .before .before .before .before .before .before .before .before .before .before .zero-row2 in
     let store-cells = c .before .before .before .before .before .before .before .before .before .before .before .store-cells in
     let add-splits = c .before .before .before .before .add-splits in
-    let ready = start .pre .1 .0 in
-    let a = (start .args) in
-    let args₀ = bare-args .last .1 .1 .1 .1 .1 .0 in
-    let inner = sums-at .last .1 .1 .1 .0 in
-    let x = settle′ .last .1 .1 .1 .1 .1 .1 .1 .1 .0 in
-    let args = settle′ .last .1 .1 .1 .1 .1 .1 .1 .0 in
-    let settled = settle′ .ensures (λ k. getD args₀ k 0) (zero-exact (a .counts .now) (a .users .now) inner (a .empty .now) (a .back .now) args₀ (zero-row2 .result) (zero-row2 .ensures)) in
-    let small = settled-small (spanOf (a .counts .now) (a .users .now) inner (a .empty .now) (a .back .now) (λ k. getD args₀ k 0)) (zero-row2 .result) args x (zero-row2 .ensures) settled in (
-      span-further (a .counts .now) (a .tables .now) (a .users .now) (a .uses .now) (a .empty .now) (a .back .now) (a .text .now) (a .chart .now) (a .sums .now) (a .live .now) (a .rows) (a .i) (a .j) (start .pre .0) ready (start .pre .1 .1 .0 .0) (start .pre .1 .1 .0 .1)
-          inner args₀ (zero-row2 .result) x args (store-cells .last .0) (add-splits .last .1 .1 .1 .1 .1 .0) (add-splits .last .1 .1 .1 .1 .1 .1 .0) (sums-at .ensures .0) (bare-args .ensures) (zero-row2 .ensures) settled (store-cells .ensures) (add-splits .ensures),
-      (
-        small-stored (length (a .text .now)) (a .rows) (a .j) (start .pre .1 .1 .0 .1) (a .i) x (a .chart .now) (store-cells .last .0) (omega (arith, start .pre .1 .1 .0 .0)) small (store-cells .ensures) (start .pre .1 .1 .1 .0),
-        small-added (length (a .text .now)) (a .rows) (a .i) (a .j) (store-cells .last .0) args (a .sums .now) (a .live .now) (add-splits .last .1 .1 .1 .1 .1 .0) (add-splits .last .1 .1 .1 .1 .1 .1 .0) (omega (arith, ready .short, start .pre .1 .1 .0 .0, start .pre .1 .1 .0 .1)) (omega (arith, ready .short, start .pre .1 .1 .0 .1)) (add-splits .ensures) (start .pre .1 .1 .1 .1),
-      ),
+    let x = settle-span .last .1 .1 .1 .1 .0 in
+    let args = settle-span .last .1 .1 .1 .0 in (
+      span-further (start .args .tables .now) (start .args .prepared .now) (start .args .text .now) (start .args .chart .now) (start .args .sums .now) (start .args .live .now) (row-count .result) (start .args .i) (start .args .j) (row-count .ensures) (start .pre .0) (start .pre .1 .0 .0) (start .pre .1 .0 .1) (sums-at .last .1 .1 .1 .0) (char-args .last .1 .1 .1 .1 .1 .0) (zero-row2 .result) x args (store-cells .last .0) (zero-row2 .ensures) (settle-span .ensures) (store-cells .ensures) (add-splits .last .1 .1 .1 .1 .1 .0) (add-splits .last .1 .1 .1 .1 .1 .1 .0) (sums-at .ensures .0) (char-args .ensures) (add-splits .ensures),
+      span-small (start .args .tables .now) (start .args .prepared .now) (start .args .text .now) (start .args .chart .now) (start .args .sums .now) (start .args .live .now) (row-count .result) (start .args .i) (start .args .j) (row-count .ensures) (start .pre .0) (start .pre .1 .0 .0) (start .pre .1 .0 .1) (sums-at .last .1 .1 .1 .0) (char-args .last .1 .1 .1 .1 .1 .0) (zero-row2 .result) x args (store-cells .last .0) (zero-row2 .ensures) (settle-span .ensures) (store-cells .ensures) (add-splits .last .1 .1 .1 .1 .1 .0) (add-splits .last .1 .1 .1 .1 .1 .1 .0) (sums-at .ensures .0) (char-args .ensures) (add-splits .ensures) (start .pre .1 .1),
     )
 
 pub fill-span-spec : {M : Type 1} → statement M
@@ -164,17 +145,18 @@ fill-span-spec =
     is-dead-requires
     same-length
     returns
+    row-count-requires
     zero-row-requires
     slice-aggregate-sums-at
     sums-at-requires
     zero-row-requires-2
     zero-row-requires-3
-    slice-aggregate-bare-args
-    bare-args-requires
-    slice-aggregate-settle
-    slice-aggregate-settle-2
-    slice-aggregate-settle-3
-    settle-requires
+    slice-aggregate-char-args
+    char-args-requires
+    slice-aggregate-settle-span
+    slice-aggregate-settle-span-2
+    slice-aggregate-settle-span-3
+    settle-span-requires
     slice-aggregate-store-cells
     store-cells-requires
     slice-aggregate-add-splits

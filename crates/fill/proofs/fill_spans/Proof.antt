@@ -5,25 +5,24 @@ use Rattle.fill.proofs.fill_spans.Statement.{statement}
 use Rattle.fill.proofs.fill_spans.Tie as tie
 
 abbrev Inv-loop : tie.InvT-loop
-Inv-loop chart₀ text counts tables users uses rows empty back sums₀ live₀ j i₀ chart sums live i = SpansDone counts tables users empty back text chart₀ sums₀ live₀ rows j chart sums live i
+Inv-loop chart₀ text tables prepared sums₀ live₀ j i₀ chart sums live i = SpansDone tables prepared text chart₀ sums₀ live₀ j chart sums live i
 
 abbrev μ-loop : tie.MeasureT-loop
-μ-loop chart₀ text counts tables users uses rows empty back sums₀ live₀ j i₀ chart sums live i = i
+μ-loop chart₀ text tables prepared sums₀ live₀ j i₀ chart sums live i = i
 
 loop-holds : tie.Need-loop-holds Inv-loop μ-loop
 loop-holds c =
-    let start = c .before .before .before .before .before .before .before .before .before .before in
-    spans-none (start .args .j) (start .pre .1 .1 .1 .0) (start .pre .1 .1 .1 .1)
+    let start = c .before .before .before .before .before .before in
+    spans-none (start .args .j) (start .pre .1 .1)
 
 sub-i : tie.Need-sub-i Inv-loop μ-loop
 sub-i c = omega arith
 
 fill-span-requires : tie.Need-fill-span-requires Inv-loop μ-loop
 fill-span-requires c κs =
-    let start = c .before .before .before .before .before .before .before .before .before .before .before .before .before .before .before in
+    let start = c .before .before .before .before .before .before .before .before .before .before .before in
     let turn = c .before .before .before .before .loop in
-    let done = turn .inv in
-    (start .pre .0, (ready-kept (turn .sums) (turn .live) (turn .chart) (done .sumsLong) (done .liveLong) (done .chartLong) (start .pre .1 .0), ((omega arith, start .pre .1 .1 .0), (done .cells, done .little))))
+    (ready-kept (turn .chart) (turn .sums) (turn .live) (turn .inv .chartLong) (turn .inv .sumsLong) (turn .inv .liveLong) (start .pre .0), ((omega (arith, turn .inv .within), start .pre .1 .0), turn .inv .small))
 
 loop-less : tie.Need-loop-less Inv-loop μ-loop
 loop-less c = omega arith
@@ -32,8 +31,7 @@ loop-again : tie.Need-loop-again Inv-loop μ-loop
 loop-again c =
     let turn = c .before .before .before .before .before .before .before .before .before .before .before .loop in
     let fill-span = c .before .before .before .before .before .before .fill-span in
-    spans-more (c .before .before .before .before .before .before .before .before .before .before .before .before .before .before .before .before .before .before .before .before .before .before .args .j) (turn .chart) (turn .sums) (turn .live) (fill-span .last .0) (fill-span .last .1 .1 .1 .1 .1 .1 .1 .1 .1 .0) (fill-span .last .1 .1 .1 .1 .1 .1 .1 .1 .1 .1 .0) (turn .i) (c .before .before .before .before .before .before .before .before .before .before .loop-test .taken) (turn .inv) (fill-span .ensures .0)
-    (fill-span .kept .0) (fill-span .kept .1 .1 .1 .1 .1 .1 .1 .1 .1 .0) (fill-span .kept .1 .1 .1 .1 .1 .1 .1 .1 .1 .1 .0) (fill-span .ensures .1 .0) (fill-span .ensures .1 .1)
+    spans-more (c .before .before .before .before .before .before .before .before .before .before .before .before .before .before .before .before .before .before .args .j) (turn .chart) (turn .sums) (turn .live) (fill-span .last .0) (fill-span .last .1 .1 .1 .1 .0) (fill-span .last .1 .1 .1 .1 .1 .0) (turn .i) (c .before .before .before .before .before .before .before .before .before .before .loop-test .taken) (turn .inv) (fill-span .ensures .0) (fill-span .kept .0) (fill-span .kept .1 .1 .1 .1 .0) (fill-span .kept .1 .1 .1 .1 .1 .0) (fill-span .ensures .1)
 
 same-length : tie.Need-same-length Inv-loop μ-loop
 same-length c = c .before .loop .inv .chartLong
@@ -45,7 +43,7 @@ same-length-3 : tie.Need-same-length-3 Inv-loop μ-loop
 same-length-3 c = c .before .loop .inv .liveLong
 
 returns : tie.Need-returns Inv-loop μ-loop
-returns c = (spans-all (c .before .before .before .before .before .before .before .before .before .before .before .before .args .j) (c .before .loop .chart) (c .before .loop .sums) (c .before .loop .live) (c .before .loop .i) (omega arith) (c .before .loop .inv), c .before .loop .inv .cells)
+returns c = (spans-all (c .before .before .before .before .before .before .before .before .args .j) (c .before .loop .chart) (c .before .loop .sums) (c .before .loop .live) (c .before .loop .i) (omega arith) (c .before .loop .inv), c .before .loop .inv .small)
 
 pub fill-spans-spec : {M : Type 1} → statement M
 fill-spans-spec =

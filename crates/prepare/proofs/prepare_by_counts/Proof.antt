@@ -53,7 +53,6 @@ copy-requires : tie.Need-copy-requires
 copy-requires c κs =
     let start = c .before .before .before .before .before .before .before .before .before .before .before .before .before .before .before .before in
     let prepare-links = c .before .before .before .before .before .before .before .before .before .before .before .prepare-links in
-    
     let n = length (start .args .counts .now) in
     part-long countsAt (countsAt + n - countsAt) (prepare-links .last .1 .1 .0) (omega (arith, prepare-links .ensures .long, ap length (start .pre .1 .0), counts-few (start .args .tables .now) (start .pre .0))) ∙ omega arith
 
@@ -71,7 +70,6 @@ part-copy-end-2 c =
     let start = c .before .before .before .before .before .before .before .before .before .before .before .before .before .before .before .before .before .before .before .before in
     let prepare-links = c .before .before .before .before .before .before .before .before .before .before .before .before .before .before .before .prepare-links in
     let copy = c .before .before .before .copy in
-    
     let kept = counts-kept (start .args .tables .now) (counts-few (start .args .tables .now) (start .pre .0)) (prepare-links .last .1 .1 .0) (copy .last .1 .0) (copy .ensures ∙ start .pre .1 .0) (length (start .args .counts .now)) (sym (ap length (copy .ensures))) (prepare-links .ensures) in
     subst (λ (m : ℕ). backAt ≤ m) (sym (kept .long)) (omega arith)
 
@@ -80,7 +78,6 @@ copy-requires-2 c κs =
     let start = c .before .before .before .before .before .before .before .before .before .before .before .before .before .before .before .before .before .before .before .before .before in
     let prepare-links = c .before .before .before .before .before .before .before .before .before .before .before .before .before .before .before .before .prepare-links in
     let copy = c .before .before .before .before .copy in
-    
     let n = length (start .args .counts .now) in
     let kept = counts-kept (start .args .tables .now) (counts-few (start .args .tables .now) (start .pre .0)) (prepare-links .last .1 .1 .0) (copy .last .1 .0) (copy .ensures ∙ start .pre .1 .0) n (sym (ap length (copy .ensures))) (prepare-links .ensures) in
     part-long emptyAt (backAt - emptyAt) (putMid countsAt (countsAt + n - countsAt) (prepare-links .last .1 .1 .0) (copy .last .1 .0)) (subst (λ (m : ℕ). backAt ≤ m) (sym (kept .long)) (omega arith)) ∙ sym (c .before .before .before .before .before .before .before .before .settle-by-links .kept .1 .1 .1 .1 .0 ∙ c .before .before .before .before .before .before .before .before .before .before .before .before .before .zero-row .ensures .long)
@@ -100,7 +97,6 @@ part-copy-end-3 c =
     let copy2 = c .before .before .before .copy2 in
     let prepare-links = c .before .before .before .before .before .before .before .before .before .before .before .before .before .before .before .before .before .before .before .before .prepare-links in
     let copy = c .before .before .before .before .before .before .before .before .copy in
-    
     let long : length (copy2 .last .1 .0) ≡ rowLimit = ap length (copy2 .ensures) ∙ c .before .before .before .before .before .before .before .before .before .before .before .before .settle-by-links .kept .1 .1 .1 .1 .0 ∙ c .before .before .before .before .before .before .before .before .before .before .before .before .before .before .before .before .before .zero-row .ensures .long in
     let kept = cells-kept (start .args .tables .now) (counts-few (start .args .tables .now) (start .pre .0)) (prepare-links .last .1 .1 .0) (copy .last .1 .0) (copy .ensures ∙ start .pre .1 .0) (length (start .args .counts .now)) (sym (ap length (copy .ensures))) (prepare-links .ensures) (copy2 .last .1 .0) long in
     subst (λ (m : ℕ). preparedBytes ≤ m) (sym (kept .long)) (le-refl preparedBytes)
@@ -112,7 +108,6 @@ copy-requires-3 c κs =
     let settle-by-links = c .before .before .before .before .before .before .before .before .before .before .before .before .before .settle-by-links in
     let prepare-links = c .before .before .before .before .before .before .before .before .before .before .before .before .before .before .before .before .before .before .before .before .before .prepare-links in
     let copy = c .before .before .before .before .before .before .before .before .before .copy in
-    
     let n = length (start .args .counts .now) in
     let long : length (copy2 .last .1 .0) ≡ rowLimit = ap length (copy2 .ensures) ∙ settle-by-links .kept .1 .1 .1 .1 .0 ∙ c .before .before .before .before .before .before .before .before .before .before .before .before .before .before .before .before .before .before .zero-row .ensures .long in
     let kept = cells-kept (start .args .tables .now) (counts-few (start .args .tables .now) (start .pre .0)) (prepare-links .last .1 .1 .0) (copy .last .1 .0) (copy .ensures ∙ start .pre .1 .0) n (sym (ap length (copy .ensures))) (prepare-links .ensures) (copy2 .last .1 .0) long in
@@ -126,7 +121,6 @@ same-length c =
     let copy3 = c .before .before .copy3 in
     let prepare-links = c .before .before .before .before .before .before .before .before .before .before .before .before .before .before .before .before .before .before .before .before .before .before .before .before .prepare-links in
     let copy = c .before .before .before .before .before .before .before .before .before .before .before .before .copy in
-    
     let long : length (copy2 .last .1 .0) ≡ rowLimit = ap length (copy2 .ensures) ∙ settle-by-links .kept .1 .1 .1 .1 .0 ∙ c .before .before .before .before .before .before .before .before .before .before .before .before .before .before .before .before .before .before .before .before .before .zero-row .ensures .long in
     let behind : length (copy3 .last .1 .0) ≡ rowLimit = ap length (copy3 .ensures) ∙ settle-by-links .kept .1 .1 .1 .0 ∙ c .before .before .before .before .before .before .before .before .before .before .before .before .before .before .before .before .before .before .before .before .zero-row2 .ensures .long in
     let right = subst₂ (EmptyRight (theoryOf (start .args .tables .now))) (sym (copy2 .ensures)) (sym (copy3 .ensures)) (settle-by-links .ensures) in
@@ -141,7 +135,6 @@ returns c =
     let copy3 = c .before .before .copy3 in
     let prepare-links = c .before .before .before .before .before .before .before .before .before .before .before .before .before .before .before .before .before .before .before .before .before .before .before .before .prepare-links in
     let copy = c .before .before .before .before .before .before .before .before .before .before .before .before .copy in
-    
     let long : length (copy2 .last .1 .0) ≡ rowLimit = ap length (copy2 .ensures) ∙ settle-by-links .kept .1 .1 .1 .1 .0 ∙ c .before .before .before .before .before .before .before .before .before .before .before .before .before .before .before .before .before .before .before .before .before .zero-row .ensures .long in
     let behind : length (copy3 .last .1 .0) ≡ rowLimit = ap length (copy3 .ensures) ∙ settle-by-links .kept .1 .1 .1 .0 ∙ c .before .before .before .before .before .before .before .before .before .before .before .before .before .before .before .before .before .before .before .before .zero-row2 .ensures .long in
     let right = subst₂ (EmptyRight (theoryOf (start .args .tables .now))) (sym (copy2 .ensures)) (sym (copy3 .ensures)) (settle-by-links .ensures) in
