@@ -27,7 +27,7 @@ test:
 	$(MAKE) cases check-books unused
 	sh tests/ci.sh $(BUILD)
 	$(MAKE) lib
-	$(MAKE) viewer check-examples second stack programs
+	$(MAKE) -j2 viewer check-examples second stack programs
 	@cat $(BUILD)/ci.last
 
 # the programs flat and reading, run

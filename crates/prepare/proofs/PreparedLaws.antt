@@ -1,12 +1,12 @@
 -- Laws of what is prepared: its parts, written one after the other.
 use Prim.Native.Nat.{ℕ, _+_, _-_, _≤_, _<_}
-use mathlib.Core.Path.{_≡_, sym, _∙_, ap, subst, subst₂}
-use mathlib.Core.List.{List, _++_}
+use mathlib.Core.Path.{_≡_, refl, sym, _∙_, ap, subst, subst₂}
+use mathlib.Core.List.{List, _++_, append-assoc}
 use mathlib.Core.Logic.{by-cases}
 use native.Mathlib.Omega.{arith}
 use native.Mathlib.Decide.{decLt}
 use lib.ListN.{length, getD, take, drop, length-drop, length-append, List·getD-eq-default}
-use lib.Seq.{length-take-le, getD-take, getD-drop, ext-getD, take-at, drop-at}
+use lib.Seq.{sets, sets-eq, length-sets, drop-drop, length-take-le, getD-take, getD-drop, ext-getD, take-at, drop-at}
 use borrow.Rule.Slice.PartMut.{putMid, same-len-mid, take-put}
 use Rattle.chart.specs.Layout.{rowLimit}
 use Rattle.common.specs.Zeros.{AllZero}
@@ -14,7 +14,7 @@ use Rattle.empty.specs.Empty.{EmptyRight}
 use Rattle.grammar.specs.Limits.{productionLimit}
 use Rattle.links.proofs.LinkedLaws.{linked-links, linked-users}
 use Rattle.links.specs.Linked.{UsersTo, UsesTo}
-use Rattle.prepare.specs.Prepared.{usesAt, countsAt, emptyAt, backAt, preparedBytes, usersIn, usesIn, countsIn, emptyIn, Linked, Prepared}
+use Rattle.prepare.specs.Prepared.{usesAt, countsAt, emptyAt, backAt, preparedBytes, usersIn, usesIn, countsIn, emptyIn, backIn, Linked, Prepared}
 use Rattle.span.specs.Tables.{Links, UsersAre}
 use Rattle.tables.proofs.LayoutLaws.{counts-few}
 use Rattle.tables.specs.Layout.{slot, countsOf, takesProduction, ParserTables}
@@ -43,6 +43,17 @@ module _ (a k : ℕ) (xs ys : List ℕ) (inside : a + k ≤ length xs) (long : l
       let whole′ : length (take k′ (drop a′ xs)) ≡ k′ = part-long a′ k′ xs (omega arith) in
       ext-getD 0 (take k′ (drop a′ (putMid a k xs ys))) (take k′ (drop a′ xs)) (whole ∙ sym whole′)
       (λ i h. getD-take k′ (drop a′ (putMid a k xs ys)) i 0 (omega arith) ∙ getD-drop a′ (putMid a k xs ys) i 0 ∙ before (a′ + i) (omega arith) ∙ sym (getD-drop a′ xs i 0) ∙ sym (getD-take k′ (drop a′ xs) i 0 (omega arith)))
+
+-- what is put at a place takes the place of as much
+sets-mid : (a : ℕ) (xs ys : List ℕ) → a + length ys ≤ length xs → sets xs a ys ≡ putMid a (length ys) xs ys
+sets-mid a xs ys inside = sets-eq ys xs a inside ∙ ap (λ (l : List ℕ). take a xs ++ ys ++ l) (sym (drop-drop (length ys) a xs)) ∙ append-assoc (take a xs) ys (drop (length ys) (drop a xs))
+
+module _ (a : ℕ) (xs ys : List ℕ) (inside : a + length ys ≤ length xs) where
+  pub put-here : take (length ys) (drop a (sets xs a ys)) ≡ ys
+  put-here = ap (λ (l : List ℕ). take (length ys) (drop a l)) (sets-mid a xs ys inside) ∙ part-here a (length ys) xs ys inside refl
+
+  pub put-before : (a′ k′ : ℕ) → a′ + k′ ≤ a → take k′ (drop a′ (sets xs a ys)) ≡ take k′ (drop a′ xs)
+  put-before a′ k′ l = ap (λ (m : List ℕ). take k′ (drop a′ m)) (sets-mid a xs ys inside) ∙ part-before a (length ys) xs ys inside refl a′ k′ l
 
 -- a first part of zeros
 pub front-zeros : (n m : ℕ) (b : List ℕ) → n ≤ m → AllZero m b → AllZero n (take n b)
@@ -92,73 +103,72 @@ module _ (t : List ℕ) (parsed : ParserTables t) (b users uses : List ℕ) (lon
         users = subst (λ (x : List ℕ). UsersAre (countsOf t) x (λ (p d q : ℕ). takesProduction t (slot p d) q)) (sym users-same) (linked-users (countsOf t) t (counts-few t parsed) (parsed .fewArguments) users uses u s);
       }
 
--- a part behind the links
-pub linked-kept : (t b ys : List ℕ) (a k : ℕ) → countsAt ≤ a → a + k ≤ preparedBytes → length ys ≡ k → Linked t b → Linked t (putMid a k b ys)
-linked-kept t b ys a k l h e r =
-    let inside : a + k ≤ length b = omega (arith, r .long) in
-    let users : usersIn (putMid a k b ys) ≡ usersIn b = part-before a k b ys inside e 0 usesAt (omega arith) in
-    let uses : usesIn (putMid a k b ys) ≡ usesIn b = part-before a k b ys inside e usesAt (countsAt - usesAt) (omega arith) in
+-- what is put behind the links
+pub linked-kept : (t b ys : List ℕ) (a : ℕ) → countsAt ≤ a → a + length ys ≤ preparedBytes → Linked t b → Linked t (sets b a ys)
+linked-kept t b ys a l h r =
+    let inside : a + length ys ≤ length b = omega (arith, r .long) in
+    let users : usersIn (sets b a ys) ≡ usersIn b = put-before a b ys inside 0 usesAt (omega arith) in
+    let uses : usesIn (sets b a ys) ≡ usesIn b = put-before a b ys inside usesAt (countsAt - usesAt) (omega arith) in
     record {
-      long = put-long a k b ys inside e ∙ r .long;
+      long = length-sets b a ys ∙ r .long;
       links = subst₂ (Links (countsOf t)) (sym users) (sym uses) (r .links);
       users = subst (λ (x : List ℕ). UsersAre (countsOf t) x (λ (p d q : ℕ). takesProduction t (slot p d) q)) (sym users) (r .users);
     }
 
--- the argument counts, put behind them
-module _ (t : List ℕ) (few : length (countsOf t) ≤ productionLimit) (b counts : List ℕ) (are : counts ≡ countsOf t) (n : ℕ) (many : n ≡ length counts) (l : Linked t b) where
+-- the argument counts, the empty span, and what is behind it, put one after the other
+module _ (t b counts empty back : List ℕ) (few : length (countsOf t) ≤ productionLimit) (are : counts ≡ countsOf t) (e : length empty ≡ rowLimit) (k : length back ≡ rowLimit)
+    (l : Linked t b) where
   counted : List ℕ
-  counted = putMid countsAt (countsAt + n - countsAt) b counts
+  counted = sets b countsAt counts
 
-  counts-long : length counts ≡ countsAt + n - countsAt
-  counts-long = omega (arith, many)
+  with-cells : List ℕ
+  with-cells = sets counted emptyAt empty
 
-  counts-inside : countsAt + (countsAt + n - countsAt) ≤ length b
-  counts-inside = omega (arith, l .long, many, ap length are)
+  all : List ℕ
+  all = sets with-cells backAt back
 
-  pub counts-kept : Linked t (putMid countsAt (countsAt + n - countsAt) b counts)
-  counts-kept = linked-kept t b counts countsAt (countsAt + n - countsAt) (omega arith) (omega (arith, many, ap length are)) counts-long l
+  l₁ : Linked t counted
+  unfolding counted
+  l₁ = linked-kept t b counts countsAt (omega arith) (omega (arith, ap length are)) l
 
-  module _ (empty : List ℕ) (e : length empty ≡ rowLimit) where
-    with-cells : List ℕ
-    with-cells = putMid emptyAt (backAt - emptyAt) (putMid countsAt (countsAt + n - countsAt) b counts) empty
+  l₂ : Linked t with-cells
+  unfolding with-cells
+  l₂ = linked-kept t counted empty emptyAt (omega arith) (omega arith) l₁
 
-    cells-inside : emptyAt + (backAt - emptyAt) ≤ length (putMid countsAt (countsAt + n - countsAt) b counts)
-    cells-inside = omega (arith, counts-kept .long)
+  inside₀ : countsAt + length counts ≤ length b
+  inside₀ = omega (arith, l .long, ap length are)
 
-    pub cells-kept : Linked t (putMid emptyAt (backAt - emptyAt) (putMid countsAt (countsAt + n - countsAt) b counts) empty)
-    cells-kept = linked-kept t (putMid countsAt (countsAt + n - countsAt) b counts) empty emptyAt (backAt - emptyAt) (omega arith) (omega arith) e counts-kept
+  inside₁ : emptyAt + length empty ≤ length counted
+  inside₁ = omega (arith, l₁ .long)
 
-    module _ (back : List ℕ) (k : length back ≡ rowLimit) where
-      all : List ℕ
-      all = putMid backAt (preparedBytes - backAt) with-cells back
+  inside₂ : backAt + length back ≤ length with-cells
+  inside₂ = omega (arith, l₂ .long)
 
-      back-inside : backAt + (preparedBytes - backAt) ≤ length with-cells
-      unfolding with-cells
-      back-inside = omega (arith, cells-kept .long)
+  counts-same : countsIn (length counts) all ≡ counts
+  unfolding counted with-cells all
+  counts-same =
+      let n : countsAt + length counts - countsAt ≡ length counts = omega arith in
+      ap (λ (m : ℕ). take m (drop countsAt all)) n ∙ put-before backAt with-cells back inside₂ countsAt (length counts) (omega (arith, ap length are))
+      ∙ put-before emptyAt counted empty inside₁ countsAt (length counts) (omega (arith, ap length are)) ∙ put-here countsAt b counts inside₀
 
-      -- the argument counts stay
-      counts-same : countsIn n all ≡ counts
-      unfolding all with-cells
-      counts-same =
-          part-before backAt (preparedBytes - backAt) with-cells back back-inside k countsAt (countsAt + n - countsAt) (omega (arith, many, ap length are))
-          ∙ part-before emptyAt (backAt - emptyAt) (putMid countsAt (countsAt + n - countsAt) b counts) empty cells-inside e countsAt (countsAt + n - countsAt) (omega (arith, many, ap length are))
-          ∙ part-here countsAt (countsAt + n - countsAt) b counts counts-inside counts-long
+  cells-same : emptyIn all ≡ empty
+  unfolding with-cells all
+  cells-same =
+      put-before backAt with-cells back inside₂ emptyAt (backAt - emptyAt) (omega arith)
+      ∙ ap (λ (m : ℕ). take m (drop emptyAt with-cells)) (sym e) ∙ put-here emptyAt counted empty inside₁
 
-      cells-same : emptyIn all ≡ empty
-      unfolding all with-cells
-      cells-same =
-          part-before backAt (preparedBytes - backAt) with-cells back back-inside k emptyAt (backAt - emptyAt) (omega arith)
-          ∙ part-here emptyAt (backAt - emptyAt) (putMid countsAt (countsAt + n - countsAt) b counts) empty cells-inside e
+  back-same : backIn all ≡ back
+  unfolding all
+  back-same = ap (λ (m : ℕ). take m (drop backAt all)) (sym k) ∙ put-here backAt with-cells back inside₂
 
-      pub all-prepared : EmptyRight (theoryOf t) empty back
-          → Prepared t (putMid backAt (preparedBytes - backAt) (putMid emptyAt (backAt - emptyAt) (putMid countsAt (countsAt + n - countsAt) b counts) empty) back)
-      unfolding all with-cells
-      all-prepared r =
-          record {
-            linked = linked-kept t with-cells back backAt (preparedBytes - backAt) (omega arith) (omega arith) k cells-kept;
-            counts = ap (λ (m : ℕ). countsIn m all) (sym (many ∙ ap length are)) ∙ counts-same ∙ are;
-            empty = subst₂ (EmptyRight (theoryOf t)) (sym cells-same) (sym (part-here backAt (preparedBytes - backAt) with-cells back back-inside k)) r;
-          }
+  pub all-prepared : EmptyRight (theoryOf t) empty back → Prepared t (sets (sets (sets b countsAt counts) emptyAt empty) backAt back)
+  unfolding counted with-cells all
+  all-prepared r =
+      record {
+        linked = linked-kept t with-cells back backAt (omega arith) (omega arith) l₂;
+        counts = ap (λ (m : ℕ). countsIn m all) (sym (ap length are)) ∙ counts-same ∙ are;
+        empty = subst₂ (EmptyRight (theoryOf t)) (sym cells-same) (sym back-same) r;
+      }
 
 -- the argument counts, as code reads them
 pub counts-read : (t b : List ℕ) (n : ℕ) → n ≡ length (countsOf t) → Prepared t b → countsIn n b ≡ countsOf t

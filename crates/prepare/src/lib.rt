@@ -10,7 +10,9 @@ use tables::argument_counts;
 use tables::production_count;
 use tables::row_count;
 ghost use mathlib.Core.Path.{_≡_};
+ghost use Prim.Native.Nat.{_+_, _≤_};
 ghost use lib.ListN.{length};
+ghost use lib.Seq.{sets};
 ghost use Rattle.common.specs.Zeros.{AllZero};
 ghost use Rattle.tables.specs.Layout.{countsOf, ParserTables};
 ghost use Rattle.tables.specs.Theory.{theoryOf};
@@ -58,9 +60,9 @@ fn prepare_by_counts(counts: &[u8], tables: &[u64], prepared: &mut [u8])
     let mut empty = zero_row();
     let mut back = zero_row();
     settle_by_links(counts, tables, prepared, &mut back, &mut empty);
-    copy(counts, &mut prepared[COUNTS_AT..COUNTS_AT + counts.len()]);
-    copy(&empty, &mut prepared[EMPTY_AT..BACK_AT]);
-    copy(&back, &mut prepared[BACK_AT..PREPARED]);
+    put(prepared, COUNTS_AT, counts);
+    put(prepared, EMPTY_AT, &empty);
+    put(prepared, BACK_AT, &back);
 }
 
 // The users and the uses.
@@ -92,14 +94,14 @@ fn settle_by_links(counts: &[u8], tables: &[u64], linked: &[u8], back: &mut [u8]
     );
 }
 
-// Copies bytes to a part of the same length.
-fn copy(bytes: &[u8], out: &mut [u8])
-    requires { ⌜ length (now out) ≡ length (now bytes) ⌝ }
-    ensures { λ _. ⌜ now (out .exit) ≡ now (bytes .entry) ⌝ }
+// Copies bytes to a place.
+fn put(out: &mut [u8], at: usize, bytes: &[u8])
+    requires { ⌜ at + length (now bytes) ≤ length (now out) ⌝ }
+    ensures { λ _. ⌜ now (out .exit) ≡ sets (now (out .entry)) at (now (bytes .entry)) ⌝ }
 {
     let mut k = 0;
     while k < bytes.len() {
-        out[k] = bytes[k];
+        out[at + k] = bytes[k];
         k += 1;
     }
 }
