@@ -75,7 +75,7 @@ module _ (t b w chart sums live : List ℕ) (rows i j : ℕ) (rowsAre : rows ≡
 
   -- ---- after it is settled and stored
 
-  module _ (inner args₀ x₀ x args chart′ : List ℕ) (zeros : AllZero rowLimit x₀) (done : SpanSettled t b inner args₀ x₀ args x)
+  module _ (inner args₀ x₀ x args chart′ : List ℕ) (zeros : AllZero rowLimit x₀) (done : SpanSettled t b inner (emptyIn b) (backIn b) args₀ x₀ args x)
       (stored : Scattered (λ (r : ℕ). placeAt (length w) r i j) (λ (r : ℕ). getD x r 0) rows chart chart′) where
     stored-all : Scattered (λ (r : ℕ). placeAt (length w) r i j) (λ (r : ℕ). getD x r 0) (rowsOf t) chart chart′
     stored-all = subst (λ (n : ℕ). Scattered (λ (r : ℕ). placeAt (length w) r i j) (λ (r : ℕ). getD x r 0) n chart chart′) rowsAre stored

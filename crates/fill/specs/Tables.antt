@@ -10,7 +10,7 @@ use Rattle.tables.specs.Layout.{slot, countsOf, arityIn, rowCount, takesChar}
 use Rattle.tables.specs.Theory.{theoryOf}
 use Rattle.chart.specs.Layout.{places, rowLimit, ChartFits}
 use Rattle.chart.specs.Rows.{RowsFilled}
-use Rattle.prepare.specs.Prepared.{usersIn, emptyIn, backIn, Prepared}
+use Rattle.prepare.specs.Prepared.{usersIn, emptyIn, Prepared}
 use Rattle.span.specs.Tables.{spanOf, Settled}
 use Rattle.fill.specs.Filling.{SmallCells, SmallSums, Filling, Summing}
 
@@ -34,9 +34,9 @@ pub record Small (t w chart sums : List ℕ) (j : ℕ) : Type 0 where
 pub record CharArgs (t w : List ℕ) (i j : ℕ) (args : List ℕ) : Type 0 where
   pub filled : RowsFilled (λ p d. bitOf (eqb (i + 1) j && takesChar t (slot p d) (getD w i 0))) (countsOf t) (length (countsOf t)) args
 
--- A span is settled: from the bare arguments args and the zeros x come arguments args′ and cells x′.
-pub record SpanSettled (t b inner args x args′ x′ : List ℕ) : Type 0 where
-  pub settled : Settled (spanOf (countsOf t) (usersIn b) inner (emptyIn b) (backIn b) (λ k. getD args k 0)) x args′ x′
+-- A span is settled by the links of b and an empty span's cells and arguments: from the bare arguments args and the zeros x come arguments args′ and cells x′.
+pub record SpanSettled (t b inner front back args x args′ x′ : List ℕ) : Type 0 where
+  pub settled : Settled (spanOf (countsOf t) (usersIn b) inner front back (λ k. getD args k 0)) x args′ x′
 
 -- From a chart filled up to start i of column j comes one filled up to start i′ of that column.
 pub record Further (t b w chart sums live : List ℕ) (i j : ℕ) (chart′ sums′ live′ : List ℕ) (i′ : ℕ) : Type 0 where

@@ -28,7 +28,8 @@ ghost use Rattle.tables.specs.Theory.{theoryOf};
 ghost use Rattle.chart.specs.Layout.{rowLimit, places, chartNeed, ChartFits};
 ghost use Rattle.chart.specs.Counted.{CountedBy};
 ghost use Rattle.theory.specs.Steps.{everything};
-ghost use Rattle.prepare.specs.Prepared.{Prepared};
+ghost use Rattle.prepare.specs.Prepared.{Prepared, emptyIn, backIn};
+ghost use Rattle.span.specs.Tables.{Loads};
 ghost use Rattle.fill.specs.Filling.{SmallCells};
 ghost use Rattle.fill.specs.Tables.{rowsOf, CharArgs, SpanSettled, Ready, Small, Further, Onward};
 
@@ -43,12 +44,20 @@ fn is_dead(live: &[u8], i: usize, j: usize) -> bool
     live[i] == 0
 }
 
-// Settles a span, whose inner splits are summed up, by what is prepared.
-fn settle_span(tables: &[u64], prepared: &[u8], inner: &[u8], args: &mut [u8], cells: &mut [u8])
+// Settles a span, whose inner splits are summed up, by the prepared links and an empty span's cells and arguments, front and back.
+fn settle_by_links(
+    tables: &[u64],
+    prepared: &[u8],
+    inner: &[u8],
+    front: &[u8],
+    back: &[u8],
+    args: &mut [u8],
+    cells: &mut [u8],
+)
     requires { ⌜ ParserTables (now tables) × Prepared (now tables) (now prepared) ⌝ }
-    requires { ⌜ (length (now inner) ≡ rowLimit) × (length (now args) ≡ rowLimit) × AllZero rowLimit (now cells) ⌝ }
+    requires { ⌜ Loads (now inner) (now front) (now back) (now args) (now cells) × AllZero rowLimit (now cells) ⌝ }
     requires { ⌜ ((r : ℕ) → getD (now args) r 0 ≤ 1) ⌝ }
-    ensures { λ _. ⌜ SpanSettled (now (tables .entry)) (now (prepared .entry)) (now (inner .entry)) (now (args .entry)) (now (cells .entry)) (now (args .exit)) (now (cells .exit)) ⌝ }
+    ensures { λ _. ⌜ SpanSettled (now (tables .entry)) (now (prepared .entry)) (now (inner .entry)) (now (front .entry)) (now (back .entry)) (now (args .entry)) (now (cells .entry)) (now (args .exit)) (now (cells .exit)) ⌝ }
 {
     let count = production_count(tables);
     settle(
@@ -56,6 +65,24 @@ fn settle_span(tables: &[u64], prepared: &[u8], inner: &[u8], args: &mut [u8], c
         row_count(tables),
         &prepared[..USES_AT],
         &prepared[USES_AT..COUNTS_AT],
+        inner,
+        front,
+        back,
+        args,
+        cells,
+    );
+}
+
+// Settles a span by all that is prepared.
+fn settle_span(tables: &[u64], prepared: &[u8], inner: &[u8], args: &mut [u8], cells: &mut [u8])
+    requires { ⌜ ParserTables (now tables) × Prepared (now tables) (now prepared) ⌝ }
+    requires { ⌜ (length (now inner) ≡ rowLimit) × (length (now args) ≡ rowLimit) × AllZero rowLimit (now cells) ⌝ }
+    requires { ⌜ ((r : ℕ) → getD (now args) r 0 ≤ 1) ⌝ }
+    ensures { λ _. ⌜ SpanSettled (now (tables .entry)) (now (prepared .entry)) (now (inner .entry)) (emptyIn (now (prepared .entry))) (backIn (now (prepared .entry))) (now (args .entry)) (now (cells .entry)) (now (args .exit)) (now (cells .exit)) ⌝ }
+{
+    settle_by_links(
+        tables,
+        prepared,
         inner,
         &prepared[EMPTY_AT..BACK_AT],
         &prepared[BACK_AT..PREPARED],

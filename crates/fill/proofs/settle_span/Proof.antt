@@ -1,84 +1,39 @@
 -- `settle_span` meets its contract.
-use Prim.Native.Nat.{ℕ, _-_}
-use mathlib.Core.List.{List}
-use mathlib.Core.Path.{sym, _∙_, ap, subst, subst⁻¹}
+use Prim.Native.Nat.{_-_}
 use native.Mathlib.Omega.{arith}
-use lib.ListN.{length, getD}
 use borrow.Author.Needs.{needs}
-use Rattle.fill.proofs.FillSpanLaws.{zero-exact, zero-founded}
-use Rattle.prepare.proofs.PreparedLaws.{part-long, counts-read}
-use Rattle.prepare.specs.Prepared.{emptyAt, backAt, preparedBytes, usersIn, usesIn, countsIn, emptyIn, backIn}
-use Rattle.span.specs.Tables.{spanOf, Links, Settled}
-use Rattle.tables.proofs.LayoutLaws.{counts-few}
-use Rattle.tables.specs.Layout.{arityIn, rowCount}
+use Rattle.prepare.proofs.PreparedLaws.{part-long}
+use Rattle.prepare.specs.Prepared.{emptyAt, backAt, preparedBytes}
 use Rattle.fill.proofs.settle_span.Statement.{statement}
 use Rattle.fill.proofs.settle_span.Tie as tie
 
-production-count-requires : tie.Need-production-count-requires
-production-count-requires c κs = c .before .before .before .before .before .pre .0 .0
+sub-settle-by-links : tie.Need-sub-settle-by-links
+sub-settle-by-links c = search needs
 
-add-settle : tie.Need-add-settle
-add-settle c = search needs
+part-settle-by-links-start : tie.Need-part-settle-by-links-start
+part-settle-by-links-start c = search needs
 
-sub-settle : tie.Need-sub-settle
-sub-settle c = search needs
+part-settle-by-links-end : tie.Need-part-settle-by-links-end
+part-settle-by-links-end c = search needs
 
-part-settle-start : tie.Need-part-settle-start
-part-settle-start c = search needs
+sub-settle-by-links-2 : tie.Need-sub-settle-by-links-2
+sub-settle-by-links-2 c = search needs
 
-part-settle-end : tie.Need-part-settle-end
-part-settle-end c =
-    let start = c .before .before .before .before .before .before in
-    omega (arith, c .production-count .ensures, counts-few (start .args .tables .now) (start .pre .0 .0), start .pre .0 .1 .linked .long)
+part-settle-by-links-start-2 : tie.Need-part-settle-by-links-start-2
+part-settle-by-links-start-2 c = search needs
 
-row-count-requires : tie.Need-row-count-requires
-row-count-requires c κs = c .before .before .before .before .before .before .before .pre .0 .0
+part-settle-by-links-end-2 : tie.Need-part-settle-by-links-end-2
+part-settle-by-links-end-2 c = omega (arith, c .before .before .before .before .before .before .pre .0 .1 .linked .long)
 
-slice-aggregate-settle : tie.Need-slice-aggregate-settle
-slice-aggregate-settle c = search needs
-
-sub-settle-2 : tie.Need-sub-settle-2
-sub-settle-2 c = search needs
-
-part-settle-start-2 : tie.Need-part-settle-start-2
-part-settle-start-2 c = search needs
-
-part-settle-end-2 : tie.Need-part-settle-end-2
-part-settle-end-2 c = search needs
-
-sub-settle-3 : tie.Need-sub-settle-3
-sub-settle-3 c = search needs
-
-part-settle-start-3 : tie.Need-part-settle-start-3
-part-settle-start-3 c = search needs
-
-part-settle-end-3 : tie.Need-part-settle-end-3
-part-settle-end-3 c = search needs
-
-sub-settle-4 : tie.Need-sub-settle-4
-sub-settle-4 c = search needs
-
-part-settle-start-4 : tie.Need-part-settle-start-4
-part-settle-start-4 c = search needs
-
-part-settle-end-4 : tie.Need-part-settle-end-4
-part-settle-end-4 c = omega (arith, c .before .before .before .before .before .before .before .before .before .before .before .pre .0 .1 .linked .long)
-
-settle-requires : tie.Need-settle-requires
-settle-requires c κs =
-    let start = c .before .before .before .before .before .before .before .before .before .before .before .before .before .before in
-    let production-count = c .before .before .before .before .before .before .before .before .production-count in
+settle-by-links-requires : tie.Need-settle-by-links-requires
+settle-by-links-requires c κs =
+    let start = c .before .before .before .before .before .before .before .before .before in
     let b = start .args .prepared .now in
-    let n = production-count .result in
-    let long = start .pre .0 .1 .linked .long in
-    let same = counts-read (start .args .tables .now) b n (production-count .ensures) (start .pre .0 .1) in (
-      subst⁻¹ (λ (l : List ℕ). Links l (usersIn b) (usesIn b)) same (start .pre .0 .1 .linked .links),
+    let long = start .pre .0 .1 .linked .long in (
+      start .pre .0,
       (
-        record { innerLong = start .pre .1 .0 .0; frontLong = part-long emptyAt (backAt - emptyAt) b (omega (arith, long)); backLong = part-long backAt (preparedBytes - backAt) b (omega (arith, long)); argsLong = start .pre .1 .0 .1; cellsLong = start .pre .1 .0 .2 .long },
-        (
-          zero-founded (countsIn n b) (usersIn b) (start .args .inner .now) (emptyIn b) (backIn b) (start .args .args .now) (start .args .cells .now) (start .pre .1 .1) (start .pre .1 .0 .2),
-          c .before .before .before .before .before .before .row-count .ensures ∙ sym (ap (λ (l : List ℕ). rowCount (arityIn l) (length l)) same),
-        ),
+        (record { innerLong = start .pre .1 .0 .0; frontLong = part-long emptyAt (backAt - emptyAt) b (omega (arith, long)); backLong = part-long backAt (preparedBytes - backAt) b (omega (arith, long)); argsLong = start .pre .1 .0 .1; cellsLong = start .pre .1 .0 .2 .long }, start .pre .1 .0 .2),
+        start .pre .1 .1,
       ),
     )
 
@@ -89,37 +44,19 @@ same-length-2 : tie.Need-same-length-2
 same-length-2 c = search needs
 
 returns : tie.Need-returns
-returns c =
-    let start = c .before .before .before .before .before .before .before .before .before .before .before .before .before .before .before .before .before .before .before in
-    let production-count = c .before .before .before .before .before .before .before .before .before .before .before .before .before .production-count in
-    let settle = c .before .before .before .before .settle in
-    let b = start .args .prepared .now in
-    let n = production-count .result in
-    let same = counts-read (start .args .tables .now) b n (production-count .ensures) (start .pre .0 .1) in
-    let exact = zero-exact (countsIn n b) (usersIn b) (start .args .inner .now) (emptyIn b) (backIn b) (start .args .args .now) (start .args .cells .now) (start .pre .1 .0 .2) in
-    record { settled = subst (λ (l : List ℕ). Settled (spanOf l (usersIn b) (start .args .inner .now) (emptyIn b) (backIn b) (λ k. getD (start .args .args .now) k 0)) (start .args .cells .now) (settle .last .1 .1 .1 .1 .1 .1 .1 .0) (settle .last .1 .1 .1 .1 .1 .1 .1 .1 .0)) same (settle .ensures (λ k. getD (start .args .args .now) k 0) exact) }
+returns c = search needs
 
 pub settle-span-spec : {M : Type 1} → statement M
 settle-span-spec =
     tie.close
     (tie.spec
-    production-count-requires
-    add-settle
-    sub-settle
-    part-settle-start
-    part-settle-end
-    row-count-requires
-    slice-aggregate-settle
-    sub-settle-2
-    part-settle-start-2
-    part-settle-end-2
-    sub-settle-3
-    part-settle-start-3
-    part-settle-end-3
-    sub-settle-4
-    part-settle-start-4
-    part-settle-end-4
-    settle-requires
+    sub-settle-by-links
+    part-settle-by-links-start
+    part-settle-by-links-end
+    sub-settle-by-links-2
+    part-settle-by-links-start-2
+    part-settle-by-links-end-2
+    settle-by-links-requires
     same-length
     same-length-2
     returns)
