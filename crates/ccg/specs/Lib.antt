@@ -1,10 +1,6 @@
--- What the contracts of the character class grammar cite.
-pub mod Trees
-pub mod Reading
+-- What the contracts of the written form cite.
 pub mod Ccg
-pub mod Flat
-pub mod Tables
 pub mod Text
 pub mod Written
 pub mod Put
-pub mod Visser
+pub mod Tables

@@ -2,17 +2,11 @@
 use Prim.Native.Nat.{ℕ, zero, suc, _+_, _*_, _/_, _%_}
 use mathlib.Core.Bool.{cond}
 use mathlib.Core.List.{List, [], _∷_, _++_}
-use lib.Dec.{leb, ltb, eqb}
-use lib.ListN.{length}
+use lib.Dec.{ltb, eqb}
 use Rattle.ccg.specs.Ccg.{Class, Line}
-use Rattle.ccg.specs.Flat.{flatGrammar}
-use Rattle.ccg.specs.declared.FlatAnswer.{FlatAnswer}
-use Rattle.ccg.specs.declared.FlatAnswer.the-variants.{Written, Refused}
 use Rattle.charset.specs.Runs.{Range, runs}
-use Rattle.common.specs.Lists.{overwritten, joined}
+use Rattle.common.specs.Lists.{joined}
 use Rattle.grammar.specs.Limits.{productionLimit}
-use Rattle.grammar.specs.Verdict.{unlessRefused}
-use Rattle.priority.specs.Check.{checked}
 use Rattle.theory.specs.Tree.{productionNumber}
 
 -- ---- the bytes between the numbers
@@ -94,18 +88,3 @@ lineText l = argumentsText (l .arguments) ++ resultText (l .result)
 
 unfoldable pub grammarText : List Line → List ℕ
 grammarText g = joined lineText g
-
--- ---- the operation "writing a character class grammar" (01's writing a flat book)
-
--- 21 if the text is longer than the buffer; the place is how many bytes it needs
-unfoldable pub writeAnswer : ℕ → ℕ → FlatAnswer
-writeAnswer needed room = cond (leb needed room) (Written needed) (Refused 21 needed)
-
--- the refusals of the grammar, then this
-unfoldable pub flatAnswer : List ℕ → ℕ → FlatAnswer
-flatAnswer b room = unlessRefused Refused (checked b) (writeAnswer (length (grammarText (flatGrammar b))) room)
-
--- what the lent buffer holds afterwards: the text and, beyond it, what it held; unchanged by a refusal
-abbrev pub bufferAfter : FlatAnswer → List ℕ → List ℕ → List ℕ
-bufferAfter (Written n) text buffer = overwritten text buffer
-bufferAfter (Refused number place) text buffer = buffer

@@ -1,6 +1,6 @@
 // Reads a grammar (01's book) from standard input and prints its character class grammar (01's flat book), or why it is refused.
-use ccg::FlatAnswer;
-use ccg::write_flat;
+use flatten::FlatAnswer;
+use flatten::write_flat;
 use libc::STDIN_FILENO;
 use report::print_refusal;
 use report::print_start;

@@ -1,8 +1,8 @@
 // Writes the character class grammar of each grammar of its input and prints it, or why it is refused.
 // A case is two fields: the grammar, and two bytes with the length of the buffer, low byte first.
-use ccg::FlatAnswer;
-use ccg::write_flat;
 use common::two_bytes;
+use flatten::FlatAnswer;
+use flatten::write_flat;
 use libc::STDIN_FILENO;
 use records::field_at;
 use report::print_refusal;

@@ -7,8 +7,8 @@ use mathlib.Core.Logic.{_↔_}
 use native.Mathlib.Omega.{arith}
 use lib.ListN.{length, getD, take, drop}
 use lib.Seq.{take-at}
-use Rattle.ccg.proofs.FlatLaws.{flat-length, flat-result, flat-trees}
-use Rattle.ccg.specs.Flat.{flatGrammar, plainClass}
+use Rattle.flatten.proofs.FlatLaws.{flat-length, flat-result, flat-trees}
+use Rattle.flatten.specs.Flat.{flatGrammar, plainClass}
 use Rattle.charset.specs.Set.{characters}
 use Rattle.common.specs.Lists.{overwritten, joined}
 use Rattle.extract.proofs.WrittenLaws.{bytes-long}
@@ -26,7 +26,7 @@ use Rattle.listing.specs.Answer.{byteLimit, badListing, judged, listingA
 use Rattle.listing.specs.Numbers.{numbersOf}
 use Rattle.listing.specs.declared.ListingAnswer.the-variants.{Right, Refused}
 use Rattle.engine.specs.Refusals.{tooLong}
-use Rattle.ccg.specs.Reading.{Reading}
+use Rattle.flatten.specs.Reading.{Reading}
 use Rattle.priority.proofs.CheckLaws.{accepted-formed}
 use Rattle.priority.specs.Check.{checked}
 use Rattle.theory.specs.Tree.{Tree, listing}

@@ -10,7 +10,7 @@ use native.Mathlib.Nat.{le-refl}
 use lib.ListN.{length, getD, take, drop, length-append, drop-of-length-le}
 use lib.Seq.{take-length, take-suc, drop-cons, append-snoc}
 use borrow.Author.Tests.{eqb-true, eq-eqb}
-use Rattle.ccg.proofs.FlatLaws.{production-of-number}
+use Rattle.flatten.proofs.FlatLaws.{production-of-number}
 use Rattle.ccg.specs.Ccg.{Class, Line, noLine, noClass, isTerminal, Generated, Each}
 use Rattle.common.proofs.BoolLaws.{and-first-true, and-second-true, true-or-false}
 use Rattle.listing.proofs.TerminalLaws.{OwnNumbers, production-no-terminal, no-terminal-production}

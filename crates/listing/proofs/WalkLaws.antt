@@ -11,9 +11,11 @@ use lib.Dec.{leb, ltb, eqb}
 use lib.ListN.{length, getD, drop, drop-of-length-le}
 use lib.Seq.{drop-cons, drop-drop}
 use borrow.Author.Tests.{ltb-true, leb-true, lt-ltb, le-ltb, le-leb, lt-leb, ne-eqb}
-use Rattle.ccg.proofs.TableTextLaws.{table-of-character, table-between, table-of-production, table-root, table-grammar}
+use Rattle.ccg.proofs.TableClassLaws.{table-of-character, table-between, table-of-production}
+use Rattle.flatten.proofs.TableTextLaws.{table-root, table-grammar}
 use Rattle.ccg.specs.Ccg.{Class, Line, noLine, noClass}
-use Rattle.ccg.specs.Tables.{FlatTables, tableClass, tableLine, tableGrammar}
+use Rattle.ccg.specs.Tables.{tableClass, tableLine, tableGrammar}
+use Rattle.flatten.specs.Tables.{FlatTables}
 use Rattle.charset.specs.Set.{characters}
 use Rattle.common.proofs.BoolLaws.{and-first-true, and-second-true, not-both}
 use Rattle.common.proofs.ListLaws.{length-tabulate, getD-tabulate}

@@ -4,7 +4,7 @@ use mathlib.Core.Bool.{_||_}
 use mathlib.Core.List.{List, [], _∷_}
 use lib.Dec.{ltb, eqb}
 use lib.ListN.{length}
-use Rattle.ccg.specs.Flat.{flatGrammar, plainClass}
+use Rattle.flatten.specs.Flat.{flatGrammar, plainClass}
 use Rattle.grammar.specs.Layout.{startSort}
 use Rattle.grammar.specs.Verdict.{refuseIf, inOrder, unlessRefused}
 use Rattle.grammar.specs.declared.Verdict.{Verdict}

@@ -1,9 +1,9 @@
 // The operation "checking a listing": whether numbers are the listing of a parse of a text, and if not, where they go wrong.
-use ccg::flat::flatten;
 use charset::CHARACTERS;
 use common::two_bytes;
 use common::wide;
 use engine::check_text;
+use flatten::flat::flatten;
 use grammar::Verdict;
 use grammar::limits::ARGUMENT_LIMIT;
 use priority::check_grammar;

@@ -20,10 +20,10 @@ use Rattle.grammar.specs.declared.Verdict.{Verdict}
 use Rattle.grammar.specs.declared.Verdict.the-variants.{Accepted, Refused}
 use Rattle.marked.proofs.CaseTests.{same, allBytes, starts, grammarOf, derives, derivesAt, parses, Spans, chartOf, emptyTest, stepTest, parseSum, accepts, refuses, Given, tests, every, Shown, caseOf, caseTest, tableTest}
 use Rattle.marked.specs.Cases.{Expected, noReading, oneReading, severalReadings, badGrammar, refused, Says, Statement, All}
-use Rattle.ccg.proofs.TestsLaws.{TestsAre, tests-parses}
+use Rattle.flatten.proofs.TestsLaws.{TestsAre, tests-parses}
 use Rattle.engine.specs.Refusals.{tooLong}
 use Rattle.parse.specs.Outcome.{tooShort, refusal}
-use Rattle.ccg.specs.Reading.{Reading}
+use Rattle.flatten.specs.Reading.{Reading}
 use Rattle.priority.proofs.CheckLaws.{accepted-formed}
 use Rattle.priority.specs.Check.{checked}
 use Rattle.theory.proofs.ClosedLaws.{everything-due, stands-counted, stands-same}

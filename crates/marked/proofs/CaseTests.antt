@@ -4,7 +4,7 @@ use mathlib.Core.Bool.{Bool, false, true, cond, not, _&&_}
 use mathlib.Core.List.{List, [], _∷_, _++_}
 use lib.Dec.{leb, ltb, eqb}
 use lib.ListN.{length, getD, replicate}
-use Rattle.ccg.specs.Flat.{mayStand}
+use Rattle.flatten.specs.Flat.{mayStand}
 use Rattle.charset.specs.Set.{characters}
 use Rattle.common.specs.Below.{allBelow, bitOf}
 use Rattle.grammar.specs.Classes.{isClass, classHas}

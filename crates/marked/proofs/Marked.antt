@@ -3,7 +3,7 @@ use Prim.Native.Nat.{ℕ}
 use mathlib.Core.Path.{_≡_, refl}
 use mathlib.Core.Bool.{true}
 use mathlib.Core.List.{List, [], _∷_}
-use Rattle.ccg.specs.Flat.{mayStand}
+use Rattle.flatten.specs.Flat.{mayStand}
 use Rattle.charset.specs.Set.{inRange}
 use Rattle.chart.specs.Layout.{spanCount}
 use Rattle.tables.specs.Layout.{rowCount}

@@ -13,7 +13,7 @@ use Rattle.parse.proofs.AnswerLaws.{refused-outcome, accepted-outcome}
 use Rattle.parse.proofs.RefusalLaws.{refusal-grammar}
 use Rattle.engine.specs.Refusals.{chartTooShort}
 use Rattle.parse.specs.Outcome.{refusal, Outcome}
-use Rattle.ccg.specs.Reading.{Reading}
+use Rattle.flatten.specs.Reading.{Reading}
 use Rattle.priority.proofs.RefusalLaws.{checked-number}
 
 -- of the chart only the length decides on a refusal

@@ -9,7 +9,7 @@ use Rattle.engine.specs.declared.Answer.the-variants.{None, One, Several, Refus
 use Rattle.extract.specs.Written.{bytesOf}
 use Rattle.grammar.specs.declared.Verdict.the-variants.{Accepted, Refused}
 use Rattle.parse.specs.Outcome.{refusal, Outcome}
-use Rattle.ccg.specs.Reading.{Reading}
+use Rattle.flatten.specs.Reading.{Reading}
 use Rattle.priority.specs.Check.{checked}
 use Rattle.theory.specs.Counts.{Only, Two}
 use Rattle.theory.specs.Tree.{Tree, listing}

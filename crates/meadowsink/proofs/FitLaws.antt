@@ -8,9 +8,10 @@ use lib.Dec.{ltb, eqb}
 use lib.ListN.{length}
 use borrow.Author.Tests.{ltb-false}
 use Rattle.ccg.proofs.TextLaws.{tabulate-text-short}
-use Rattle.ccg.specs.Flat.{flatClass, flatLine, flatGrammar, plainClass}
-use Rattle.ccg.specs.Text.{grammarText, flatAnswer}
-use Rattle.ccg.specs.declared.FlatAnswer.the-variants.{Refused as NotWritten}
+use Rattle.flatten.specs.Flat.{flatClass, flatLine, flatGrammar, plainClass}
+use Rattle.ccg.specs.Text.{grammarText}
+use Rattle.flatten.specs.Answer.{flatAnswer}
+use Rattle.flatten.specs.declared.FlatAnswer.the-variants.{Refused as NotWritten}
 use Rattle.chart.specs.Layout.{textLimit}
 use Rattle.common.proofs.BoolLaws.{or-second-false}
 use Rattle.common.proofs.ListLaws.{length-tabulate}

@@ -1,12 +1,13 @@
 // Writing a character class grammar.
-use ccg::write_flat;
+use flatten::write_flat;
 use reply::flat::flat_reply;
 use reply::number;
 use reply::place;
 ghost use mathlib.Core.Path.{_≡_};
 ghost use lib.ListN.{length};
-ghost use Rattle.ccg.specs.Flat.{flatGrammar};
-ghost use Rattle.ccg.specs.Text.{grammarText, flatAnswer, bufferAfter};
+ghost use Rattle.flatten.specs.Flat.{flatGrammar};
+ghost use Rattle.ccg.specs.Text.{grammarText};
+ghost use Rattle.flatten.specs.Answer.{flatAnswer, bufferAfter};
 ghost use Rattle.reply.specs.Answers.{flatReply};
 ghost use Rattle.reply.specs.Reply.{numberOf, placeOf};
 

@@ -14,7 +14,7 @@ use Rattle.grammar.specs.declared.Verdict.{Verdict}
 use Rattle.grammar.specs.declared.Verdict.the-variants.{Accepted, Refused as Rejected}
 use Rattle.parse.proofs.RefusalLaws.{refusal-grammar, refusal-ten, refusal-twenty, Readable, readable-accepted}
 use Rattle.parse.specs.Outcome.{needed, refusal, Outcome, readingBy}
-use Rattle.ccg.specs.Reading.{Reading}
+use Rattle.flatten.specs.Reading.{Reading}
 use Rattle.priority.specs.Check.{checked}
 
 rejected : (n k m j : ℕ) → Refused n k ≡ Refused m j → Rejected n k ≡ Rejected m j

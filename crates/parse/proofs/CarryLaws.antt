@@ -6,9 +6,9 @@ use mathlib.Core.List.{List, [], _∷_}
 use mathlib.Core.Logic.{_↔_}
 use native.Mathlib.Omega.{arith}
 use lib.ListN.{length, getD}
-use Rattle.ccg.proofs.BookLaws.{book-lists, book-parses}
-use Rattle.ccg.specs.Reading.{Reading, EntryList}
-use Rattle.ccg.specs.Tables.{FlatTables}
+use Rattle.flatten.proofs.BookLaws.{book-lists, book-parses}
+use Rattle.flatten.specs.Reading.{Reading, EntryList}
+use Rattle.flatten.specs.Tables.{FlatTables}
 use Rattle.charset.specs.Set.{characters}
 use Rattle.chart.specs.Counted.{entryOf}
 use Rattle.chart.specs.Layout.{rowOf, spanCount, cellAt, chartNeed, entryAt}

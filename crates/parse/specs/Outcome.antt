@@ -9,7 +9,7 @@ use Rattle.engine.specs.declared.Answer.{Answer}
 use Rattle.grammar.specs.Layout.{productions, argumentCount}
 use Rattle.grammar.specs.Verdict.{inOrder}
 use Rattle.grammar.specs.declared.Verdict.{Verdict}
-use Rattle.ccg.specs.Reading.{Reading, EntryList}
+use Rattle.flatten.specs.Reading.{Reading, EntryList}
 use Rattle.priority.specs.Check.{checked}
 
 -- how many bytes the chart of a text of n characters needs: 01's A × (n + 1) × (n + 2) / 2

@@ -6,8 +6,8 @@ use native.Mathlib.Omega.{arith}
 use lib.Dec.{leb}
 use lib.ListN.{length}
 use Rattle.ccg.specs.Ccg.{Class, Line}
-use Rattle.ccg.specs.Text.{writeAnswer}
-use Rattle.ccg.specs.declared.FlatAnswer.the-variants.{Written, Refused as NotWritten}
+use Rattle.flatten.specs.Answer.{writeAnswer}
+use Rattle.flatten.specs.declared.FlatAnswer.the-variants.{Written, Refused as NotWritten}
 use Rattle.engine.specs.Outcome.{Parsing, Answered}
 use Rattle.engine.specs.declared.Answer.{Answer}
 use Rattle.engine.specs.declared.Answer.the-variants.{None, One, Several, Refused as NotRead}

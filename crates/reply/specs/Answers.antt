@@ -1,6 +1,6 @@
 -- What each answer of an operation is for programs in C (include/meadowsink.h): its kind, its value and, of a refusal, its place.
-use Rattle.ccg.specs.declared.FlatAnswer.{FlatAnswer}
-use Rattle.ccg.specs.declared.FlatAnswer.the-variants.{Written}
+use Rattle.flatten.specs.declared.FlatAnswer.{FlatAnswer}
+use Rattle.flatten.specs.declared.FlatAnswer.the-variants.{Written}
 use Rattle.engine.specs.declared.Answer.{Answer}
 use Rattle.engine.specs.declared.Answer.the-variants.{None, One, Several}
 use Rattle.grammar.specs.declared.Verdict.{Verdict}
@@ -13,7 +13,7 @@ use Rattle.reply.specs.Reply.{answered, refused}
 use Rattle.reply.specs.declared.Reply.{Reply}
 use Rattle.grammar.specs.declared.Verdict.the-variants.{Refused as Rejected}
 use Rattle.engine.specs.declared.Answer.the-variants.{Refused as NotRead}
-use Rattle.ccg.specs.declared.FlatAnswer.the-variants.{Refused as NotWritten}
+use Rattle.flatten.specs.declared.FlatAnswer.the-variants.{Refused as NotWritten}
 use Rattle.priority.specs.declared.ConflictAnswer.the-variants.{Refused as NotAsked}
 use Rattle.listing.specs.declared.ListingAnswer.the-variants.{Refused as NotChecked}
 

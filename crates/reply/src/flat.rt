@@ -2,7 +2,7 @@
 use crate::Reply;
 use crate::answer;
 use crate::refusal;
-use ccg::FlatAnswer;
+use flatten::FlatAnswer;
 ghost use mathlib.Core.Path.{_≡_};
 ghost use Rattle.reply.specs.Answers.{flatReply};
 

@@ -15,7 +15,7 @@ use Rattle.listing.specs.Answer.{byteLimit, listingAnswer}
 use Rattle.listing.specs.declared.ListingAnswer.the-variants.{Right}
 use Rattle.engine.specs.Refusals.{tooLong}
 use Rattle.parse.specs.Outcome.{tooShort, refusal, readingBy, Outcome}
-use Rattle.ccg.specs.Reading.{Reading}
+use Rattle.flatten.specs.Reading.{Reading}
 use Rattle.priority.specs.Check.{checked}
 use Rattle.listing.proofs.ReadingLaws.{reading-written}
 

@@ -4,13 +4,14 @@ use mathlib.Core.Path.{_≡_, refl, sym, subst, subst⁻¹, fun-ext}
 use mathlib.Core.Logic.{⊎-elim}
 use mathlib.Core.List.{List}
 use lib.ListN.{length}
-use Rattle.ccg.proofs.FlatAnswerLaws.{flat-fits, flat-too-long, flat-grammar}
-use Rattle.ccg.proofs.FlatClassLaws.{flat-any, flat-argument}
-use Rattle.ccg.proofs.FlatLaws.{flat-trees}
-use Rattle.ccg.proofs.VisserLaws.{flat-completed, flat-visser}
-use Rattle.ccg.proofs.WrittenLaws.{text-determines, flat-written}
+use Rattle.flatten.proofs.FlatAnswerLaws.{flat-fits, flat-too-long, flat-grammar}
+use Rattle.flatten.proofs.FlatClassLaws.{flat-any, flat-argument}
+use Rattle.flatten.proofs.FlatLaws.{flat-trees}
+use Rattle.flatten.proofs.VisserLaws.{flat-completed, flat-visser}
+use Rattle.ccg.proofs.WrittenLaws.{text-determines}
+use Rattle.flatten.proofs.FlatWrittenLaws.{flat-written}
 use Rattle.ccg.specs.Ccg.{Class, Line, Generated}
-use Rattle.ccg.specs.Flat.{flatGrammar, plainClass}
+use Rattle.flatten.specs.Flat.{flatGrammar, plainClass}
 use Rattle.engine.proofs.AnswerLaws.{none-exactly, none-buffer, several-exactly, several-buffer, one-exactly, one-buffer, long-exactly, long-buffer, refused-is-long}
 use Rattle.extract.specs.Written.{room}
 use Rattle.grammar.specs.Layout.{startSort}
@@ -19,7 +20,7 @@ use Rattle.listing.proofs.RefusedLaws.{grammar-exactly as listing-grammar, ten-
 use Rattle.marked.proofs.Marked.{marked-outcomes}
 use Rattle.parse.proofs.AnswerLaws.{parsed-outcome, refused-unchanged, grammar-exactly, ten-exactly, twenty-exactly}
 use Rattle.parse.proofs.OutcomeLaws.{outcome-unique}
-use Rattle.ccg.specs.Reading.{Reading}
+use Rattle.flatten.specs.Reading.{Reading}
 use Rattle.priority.proofs.CheckLaws.{accepted-formed}
 use Rattle.priority.proofs.ConflictAnswerLaws.{conflict-yes, conflict-no, conflict-absent, conflict-refused}
 use Rattle.priority.proofs.DeclarationLaws.{accepted-declares}

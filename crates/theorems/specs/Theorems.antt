@@ -4,15 +4,15 @@
 -- before a call, chart and l afterwards. The contracts of the operations, none of which asks anything of its input, say that
 --     priority::check_grammar      answers  checked b
 --     priority::conflict::conflict answers  conflictAnswer b p i q
---     ccg::write_flat              answers  flatAnswer b (how long its buffer is), and leaves there  bufferAfter
+--     flatten::write_flat          answers  flatAnswer b (how long its buffer is), and leaves there  bufferAfter
 --     parse::parse                 answers some r and leaves some chart and l with  Outcome b w chart₀ l₀ r chart l
 --     listing::check_listing       answers  listingAnswer b w l
 -- A call that is proved ends.
 --
 -- Words. A tree (theory/specs/Tree) is a character or a production (rule) with a list of trees; `yield` is what it spells and `listing` its numbers, a
 -- production's number, 258 + p, before its arguments'. `Built b x t`: t is a tree of the grammar at argument byte x, conflicts (clashes) let through
--- (ccg/specs/Trees); `Conflict b p i q`: production q as argument i of p is a pattern of Definition 2.6 (priority/specs/Conflict); `ConflictFree`: no subtree's root
--- has one. `Reading b w t`: t is built at the start sort, has no conflict and spells w (parse/specs/Reading); `EntryList b w p d i j f`: f has such trees for the first
+-- (flatten/specs/Trees); `Conflict b p i q`: production q as argument i of p is a pattern of Definition 2.6 (priority/specs/Conflict); `ConflictFree`: no subtree's root
+-- has one. `Reading b w t`: t is built at the start sort, has no conflict and spells w (flatten/specs/Reading); `EntryList b w p d i j f`: f has such trees for the first
 -- d arguments of p, and they spell w from i to j. `Generated g cc t`: t is a tree of the character class grammar g (a list of lines) in the class cc (ccg/specs/Ccg).
 -- `Only P t`: P holds of t and of nothing else; `Two P`: of two different things; `Counts P v`: of none, one or two, as v is 0, 1 or 2 (theory/specs/Counts).
 use Prim.Native.Nat.{ℕ, _*_, _/_, _%_, _≤_, _<_}
@@ -22,12 +22,13 @@ use mathlib.Core.List.{List, _++_}
 use mathlib.Core.Logic.{_↔_, _⊎_}
 use lib.ListN.{length, getD, take, drop}
 use Rattle.ccg.specs.Ccg.{Class, Line, Generated}
-use Rattle.ccg.specs.Flat.{flatClass, flatGrammar, plainClass}
-use Rattle.ccg.specs.Text.{grammarText, flatAnswer, bufferAfter}
-use Rattle.ccg.specs.Trees.{Built, ConflictFree, Apart}
-use Rattle.ccg.specs.Visser.{visserGrammar, completedGrammar, SingleHigher}
+use Rattle.flatten.specs.Flat.{flatClass, flatGrammar, plainClass}
+use Rattle.ccg.specs.Text.{grammarText}
+use Rattle.flatten.specs.Answer.{flatAnswer, bufferAfter}
+use Rattle.flatten.specs.Trees.{Built, ConflictFree, Apart}
+use Rattle.flatten.specs.Visser.{visserGrammar, completedGrammar, SingleHigher}
 use Rattle.ccg.specs.Written.{WrittenForm}
-use Rattle.ccg.specs.declared.FlatAnswer.the-variants.{Written, Refused as NotWritten}
+use Rattle.flatten.specs.declared.FlatAnswer.the-variants.{Written, Refused as NotWritten}
 use Rattle.charset.specs.Set.{characters}
 use Rattle.chart.specs.Counted.{entryOf}
 use Rattle.chart.specs.Layout.{textLimit, chartBytes}
@@ -41,7 +42,7 @@ use Rattle.listing.specs.Numbers.{numbersOf}
 use Rattle.listing.specs.declared.ListingAnswer.the-variants.{Right, Refused as NotChecked}
 use Rattle.marked.specs.Cases.{All, Promised, table}
 use Rattle.parse.specs.Outcome.{needed, Outcome}
-use Rattle.ccg.specs.Reading.{Reading, EntryList}
+use Rattle.flatten.specs.Reading.{Reading, EntryList}
 use Rattle.priority.specs.Check.{checked}
 use Rattle.priority.specs.Conflict.{Conflict, There, conflictAnswer}
 use Rattle.priority.specs.Priorities.{PriorityDeclaration}
