@@ -3,8 +3,8 @@
 use common::wide;
 use libc::STDIN_FILENO;
 use libc::STDOUT_FILENO;
-use priority::ConflictAnswer;
-use priority::conflict::conflict;
+use question::ConflictAnswer;
+use question::conflict;
 use records::field_at;
 use report::print_refusal;
 ghost use Prim.Native.Nat.{_≤_};

@@ -29,8 +29,9 @@ use Rattle.parse.proofs.NumberLaws.{largestNumber, Numbered, grammar-numbered}
 use Rattle.engine.specs.Refusals.{tooLong}
 use Rattle.priority.proofs.CheckLaws.{accepted-formed}
 use Rattle.priority.specs.Check.{checked}
-use Rattle.priority.specs.Conflict.{conflicts, isThere, conflictAnswer}
-use Rattle.priority.specs.declared.ConflictAnswer.the-variants.{Refused as NotAsked}
+use Rattle.priority.specs.Conflict.{conflicts}
+use Rattle.question.specs.Answer.{isThere, conflictAnswer}
+use Rattle.question.specs.declared.ConflictAnswer.the-variants.{Refused as NotAsked}
 use Rattle.reply.proofs.AnswersLaws.{own-conflict-fits, write-fits, judge-fits}
 use Rattle.reply.proofs.ReplyLaws.{answered-fits, refused-fits}
 use Rattle.reply.specs.Answers.{checkReply, conflictReply, flatReply, listingReply}

@@ -1,10 +1,10 @@
 // The conflict question.
-use priority::conflict::conflict;
+use question::conflict;
 use reply::conflict::conflict_reply;
 use reply::number;
 use reply::place;
 ghost use mathlib.Core.Path.{_≡_};
-ghost use Rattle.priority.specs.Conflict.{conflictAnswer};
+ghost use Rattle.question.specs.Answer.{conflictAnswer};
 ghost use Rattle.reply.specs.Answers.{conflictReply};
 ghost use Rattle.reply.specs.Reply.{numberOf, placeOf};
 

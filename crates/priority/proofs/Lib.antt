@@ -8,5 +8,4 @@ pub mod ConflictLaws
 pub mod StageLaws
 pub mod BodiesStageLaws
 pub mod RefusalLaws
-pub mod ConflictAnswerLaws
 pub mod DeclarationLaws

@@ -1,15 +1,11 @@
 -- Priority conflicts (000, Definition 2.6; 01's clashes): a production standing as an argument of another where the priorities forbid it.
-use Prim.Native.Nat.{ℕ, _+_, _<_}
-use mathlib.Core.Path.{_≡_}
-use mathlib.Core.Bool.{Bool, false, true, cond, _&&_, _||_}
+use Prim.Native.Nat.{ℕ, _+_}
+use mathlib.Core.Bool.{Bool, true, _&&_, _||_}
 use mathlib.Core.List.{List}
+use mathlib.Core.Path.{_≡_}
 use lib.Dec.{leb, ltb, eqb}
-use Rattle.grammar.specs.Layout.{sorts, productions, argumentCount, result, argument}
-use Rattle.grammar.specs.Verdict.{unlessRefused}
-use Rattle.priority.specs.Check.{checked}
+use Rattle.grammar.specs.Layout.{sorts, argumentCount, result, argument}
 use Rattle.priority.specs.Priorities.{left, right, nonassoc, declared, Higher, isHigher}
-use Rattle.priority.specs.declared.ConflictAnswer.{ConflictAnswer}
-use Rattle.priority.specs.declared.ConflictAnswer.the-variants.{Yes, No, Refused}
 
 -- An argument byte that is a sort.
 unfoldable pub isSort : List ℕ → ℕ → Bool
@@ -45,18 +41,3 @@ barred b p i q = isHigher b p q || isFirst b p i && rightOrNonassoc b p q || isL
 
 unfoldable pub conflicts : List ℕ → ℕ → ℕ → ℕ → Bool
 conflicts b p i q = fits b p i q && barred b p i q
-
--- Both productions are there, and so is argument i of p.
-abbrev pub There : List ℕ → ℕ → ℕ → ℕ → Type 0
-There b p i q = (p < productions b) × (i < argumentCount b p) × (q < productions b)
-
--- The conflict question (01's clash question): the refusals of the grammar, then 7 with place 0 for a production or an argument that isn't there.
-unfoldable pub isThere : List ℕ → ℕ → ℕ → ℕ → Bool
-isThere b p i q = ltb p (productions b) && ltb i (argumentCount b p) && ltb q (productions b)
-
-abbrev pub yesOrNo : Bool → ConflictAnswer
-yesOrNo true = Yes
-yesOrNo false = No
-
-unfoldable pub conflictAnswer : List ℕ → ℕ → ℕ → ℕ → ConflictAnswer
-conflictAnswer b p i q = unlessRefused Refused (checked b) (cond (isThere b p i q) (yesOrNo (conflicts b p i q)) (Refused 7 0))

@@ -1,6 +1,4 @@
 // Priorities: "higher" closed under transitivity in a table of yes-or-no entries, and the whole check of a grammar.
-pub mod conflict;
-
 use common::both;
 use common::either;
 use grammar::Verdict;
@@ -32,20 +30,6 @@ pub const LEFT: usize = 2;
 pub const RIGHT: usize = 3;
 // "Not together".
 pub const NONASSOC: usize = 4;
-
-// What the conflict question answers.
-pub enum ConflictAnswer {
-    Yes,
-    No,
-    // The refusal's number and its place.
-    Refused(usize, usize),
-}
-
-// What asking over the closed priorities gives: the answer, and the priorities as they were passed.
-pub struct Asked {
-    pub conflict: bool,
-    pub higher: [[bool; PRODUCTION_LIMIT]; PRODUCTION_LIMIT],
-}
 
 // The operation "checking a grammar" (01's checking a book): accepted, or refused with number 1 to 9 and place.
 pub fn check_grammar(book: &[u8]) -> Verdict

@@ -13,8 +13,8 @@ use Rattle.engine.specs.declared.Answer.{Answer}
 use Rattle.engine.specs.declared.Answer.the-variants.{None, One, Several, Refused as NotRead}
 use Rattle.listing.specs.Judge.{isRight, dueAfter, textAfter, judge}
 use Rattle.listing.specs.declared.ListingAnswer.the-variants.{Wrong}
-use Rattle.priority.specs.Conflict.{yesOrNo}
-use Rattle.priority.specs.declared.ConflictAnswer.the-variants.{Refused as NotAsked}
+use Rattle.question.specs.Answer.{yesOrNo}
+use Rattle.question.specs.declared.ConflictAnswer.the-variants.{Refused as NotAsked}
 use Rattle.reply.proofs.ReplyLaws.{answered-fits, refused-fits}
 use Rattle.reply.specs.Answers.{conflictReply, flatReply, listingReply, readReply}
 use Rattle.reply.specs.Reply.{valueLimit, Fits}

@@ -7,14 +7,14 @@ use Rattle.grammar.specs.declared.Verdict.{Verdict}
 use Rattle.grammar.specs.declared.Verdict.the-variants.{Accepted}
 use Rattle.listing.specs.declared.ListingAnswer.{ListingAnswer}
 use Rattle.listing.specs.declared.ListingAnswer.the-variants.{Right, Wrong}
-use Rattle.priority.specs.declared.ConflictAnswer.{ConflictAnswer}
-use Rattle.priority.specs.declared.ConflictAnswer.the-variants.{Yes, No}
+use Rattle.question.specs.declared.ConflictAnswer.{ConflictAnswer}
+use Rattle.question.specs.declared.ConflictAnswer.the-variants.{Yes, No}
 use Rattle.reply.specs.Reply.{answered, refused}
 use Rattle.reply.specs.declared.Reply.{Reply}
 use Rattle.grammar.specs.declared.Verdict.the-variants.{Refused as Rejected}
 use Rattle.engine.specs.declared.Answer.the-variants.{Refused as NotRead}
 use Rattle.flatten.specs.declared.FlatAnswer.the-variants.{Refused as NotWritten}
-use Rattle.priority.specs.declared.ConflictAnswer.the-variants.{Refused as NotAsked}
+use Rattle.question.specs.declared.ConflictAnswer.the-variants.{Refused as NotAsked}
 use Rattle.listing.specs.declared.ListingAnswer.the-variants.{Refused as NotChecked}
 
 -- checking a grammar: 0 accepted

@@ -2,7 +2,7 @@
 use crate::Reply;
 use crate::answer;
 use crate::refusal;
-use priority::ConflictAnswer;
+use question::ConflictAnswer;
 ghost use mathlib.Core.Path.{_≡_};
 ghost use Rattle.reply.specs.Answers.{conflictReply};
 

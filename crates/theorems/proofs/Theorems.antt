@@ -22,7 +22,7 @@ use Rattle.parse.proofs.AnswerLaws.{parsed-outcome, refused-unchanged, grammar-
 use Rattle.parse.proofs.OutcomeLaws.{outcome-unique}
 use Rattle.flatten.specs.Reading.{Reading}
 use Rattle.priority.proofs.CheckLaws.{accepted-formed}
-use Rattle.priority.proofs.ConflictAnswerLaws.{conflict-yes, conflict-no, conflict-absent, conflict-refused}
+use Rattle.question.proofs.AnswerLaws.{conflict-yes, conflict-no, conflict-absent, conflict-refused}
 use Rattle.priority.proofs.DeclarationLaws.{accepted-declares}
 use Rattle.priority.proofs.RefusalLaws.{refused-first, first-refused, accepted-free, free-accepted}
 use Rattle.theorems.specs.Theorems.{Bytes, AcceptedExactly, RefusedExactly, ConflictExactly, FlatExactly, Refuses, OneOutcome, ListingExactly, OneIsRight, Declares, FlatIsVisser, FlatIsCompleted, FlatTrees, FlatArguments, ReadingsAreFlat, Read, TextDetermines, Archived, FlatIsWritten, MarkedCases}

@@ -44,10 +44,11 @@ use Rattle.marked.specs.Cases.{All, Promised, table}
 use Rattle.parse.specs.Outcome.{needed, Outcome}
 use Rattle.flatten.specs.Reading.{Reading, EntryList}
 use Rattle.priority.specs.Check.{checked}
-use Rattle.priority.specs.Conflict.{Conflict, There, conflictAnswer}
+use Rattle.priority.specs.Conflict.{Conflict}
+use Rattle.question.specs.Answer.{There, conflictAnswer}
 use Rattle.priority.specs.Priorities.{PriorityDeclaration}
 use Rattle.priority.specs.Refusals.{Holds, First}
-use Rattle.priority.specs.declared.ConflictAnswer.the-variants.{Yes, No, Refused as NotAsked}
+use Rattle.question.specs.declared.ConflictAnswer.the-variants.{Yes, No, Refused as NotAsked}
 use Rattle.theory.specs.Counts.{Only, Two, Counts}
 use Rattle.theory.specs.Tree.{Tree, node, Forest, productionNumber, yield, listing}
 

@@ -1,10 +1,10 @@
 -- `conflict` meets its contract: the grammar's refusals first.
 use mathlib.Core.Path.{refl, sym, _∙_}
 use borrow.Author.Needs.{needs}
 use Rattle.priority.proofs.CheckLaws.{accepted-formed}
-use Rattle.priority.specs.Conflict.{conflictAnswer}
-use Rattle.priority.proofs.conflict.conflict.Statement.{statement}
-use Rattle.priority.proofs.conflict.conflict.Tie as tie
+use Rattle.question.specs.Answer.{conflictAnswer}
+use Rattle.question.proofs.conflict.Statement.{statement}
+use Rattle.question.proofs.conflict.Tie as tie
 
 check-grammar-requires : tie.Need-check-grammar-requires
 check-grammar-requires c κs = search needs

@@ -11,13 +11,14 @@ use Rattle.common.proofs.BoolLaws.{and-first-true, and-second-true, true-or-fal
 use Rattle.grammar.proofs.VerdictLaws.{same-number, same-place, unless-answer, unless-refused}
 use Rattle.grammar.specs.Layout.{productions, argumentCount}
 use Rattle.grammar.specs.declared.Verdict.the-variants.{Accepted, Refused as Rejected}
 use Rattle.priority.proofs.CheckLaws.{accepted-formed}
 use Rattle.priority.proofs.ConflictLaws.{conflict-test}
 use Rattle.priority.proofs.RefusalLaws.{seven-place}
 use Rattle.priority.specs.Check.{checked}
-use Rattle.priority.specs.Conflict.{Conflict, conflicts, There, isThere, yesOrNo, conflictAnswer}
-use Rattle.priority.specs.declared.ConflictAnswer.{ConflictAnswer}
-use Rattle.priority.specs.declared.ConflictAnswer.the-variants.{Yes, No, Refused}
+use Rattle.priority.specs.Conflict.{Conflict, conflicts}
+use Rattle.question.specs.Answer.{There, isThere, yesOrNo, conflictAnswer}
+use Rattle.question.specs.declared.ConflictAnswer.{ConflictAnswer}
+use Rattle.question.specs.declared.ConflictAnswer.the-variants.{Yes, No, Refused}
 
 -- ---- answers that are the same, or not
 

@@ -9,11 +9,11 @@ use borrow.Author.Needs.{needs}
 use Rattle.grammar.proofs.FormedLaws.{bodies-in}
 use Rattle.grammar.specs.Formed.{WellFormed}
 use Rattle.grammar.specs.Layout.{productions, result, argument}
 use Rattle.priority.proofs.ConflictLaws.{fits-result, not-fitting, fitting, barred-higher, barred-single, barred-first, barred-last, barred-middle}
 use Rattle.priority.specs.Conflict.{rightOrNonassoc, leftOrNonassoc, barred, conflicts}
 use Rattle.priority.specs.Priorities.{left, right, nonassoc, kindNumber}
-use Rattle.priority.proofs.conflict.is_conflict.Statement.{statement}
-use Rattle.priority.proofs.conflict.is_conflict.Tie as tie
+use Rattle.question.proofs.is_conflict.Statement.{statement}
+use Rattle.question.proofs.is_conflict.Tie as tie
 
 -- an argument byte and a result, as code reads them
 module _ (b : List ℕ) (w : WellFormed b) (p i q a r : ℕ) (l : q < productions b) (ea : a ≡ argument b p i) (er : r ≡ result b q) where

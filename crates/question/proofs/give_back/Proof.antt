@@ -40,13 +40,13 @@ use borrow.Fn.Plain.{t-fn-plain}
 use borrow.Fn.Run.{Over}
 use borrow.Fn.Written as written
 use Rattle.grammar.specs.Limits.{productionLimit}
-use Rattle.priority.proofs.Asked as asked
-use Rattle.priority.proofs.Asked.Laws as asked′
-use Rattle.priority.proofs.conflict.give_back.Code as code
-use Rattle.priority.proofs.conflict.give_back.Key as key
-use Rattle.priority.proofs.conflict.give_back.Kinds.{ps, r}
-use Rattle.priority.proofs.conflict.give_back.Reads as reads
-use Rattle.priority.proofs.conflict.give_back.Statement.{statement}
+use Rattle.question.proofs.Asked as asked
+use Rattle.question.proofs.Asked.Laws as asked′
+use Rattle.question.proofs.give_back.Code as code
+use Rattle.question.proofs.give_back.Key as key
+use Rattle.question.proofs.give_back.Kinds.{ps, r}
+use Rattle.question.proofs.give_back.Reads as reads
+use Rattle.question.proofs.give_back.Statement.{statement}
 
 -- ---- the code
 

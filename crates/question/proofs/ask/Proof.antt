@@ -1,9 +1,9 @@
 -- `ask` meets its contract: the table says whether p is higher than q, and is the one that was passed.
 use mathlib.Core.Path.{_∙_}
 use borrow.Author.Needs.{needs}
 use Rattle.priority.proofs.PriorityLaws.{table-higher}
-use Rattle.priority.proofs.conflict.ask.Statement.{statement}
-use Rattle.priority.proofs.conflict.ask.Tie as tie
+use Rattle.question.proofs.ask.Statement.{statement}
+use Rattle.question.proofs.ask.Tie as tie
 
 entry-at-requires : tie.Need-entry-at-requires
 entry-at-requires c κs = search needs

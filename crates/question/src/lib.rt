@@ -1,27 +1,40 @@
 // The conflict question (01's clash question): may production q stand as argument i of production p?
-use crate::Asked;
-use crate::ConflictAnswer;
-use crate::LEFT;
-use crate::NONASSOC;
-use crate::RIGHT;
-use crate::check_grammar;
-use crate::declared_pairs;
-use crate::priorities;
 use grammar::Verdict;
 use grammar::layout::argument;
 use grammar::layout::argument_count;
 use grammar::layout::production_count;
 use grammar::layout::result;
 use grammar::limits::PRODUCTION_LIMIT;
+use priority::LEFT;
+use priority::NONASSOC;
+use priority::RIGHT;
+use priority::check_grammar;
+use priority::declared_pairs;
+use priority::priorities;
 ghost use mathlib.Core.Path.{_≡_};
 ghost use mathlib.Core.Bool.{true, cond};
 ghost use mathlib.Core.Logic.{_↔_};
 ghost use Prim.Native.Nat.{ℕ, _<_};
 ghost use Rattle.grammar.specs.Limits.{productionLimit};
 ghost use Rattle.grammar.specs.Formed.{WellFormed};
 ghost use Rattle.priority.specs.Chain.{entry};
 ghost use Rattle.priority.specs.Priorities.{Higher, isHigher};
-ghost use Rattle.priority.specs.Conflict.{There, isThere, conflicts, yesOrNo, conflictAnswer};
+ghost use Rattle.priority.specs.Conflict.{conflicts};
+ghost use Rattle.question.specs.Answer.{There, isThere, yesOrNo, conflictAnswer};
+
+// What the conflict question answers.
+pub enum ConflictAnswer {
+    Yes,
+    No,
+    // The refusal's number and its place.
+    Refused(usize, usize),
+}
+
+// What asking over the closed priorities gives: the answer, and the priorities as they were passed.
+pub struct Asked {
+    pub conflict: bool,
+    pub higher: [[bool; PRODUCTION_LIMIT]; PRODUCTION_LIMIT],
+}
 
 // The operation "conflict question": productions and arguments are counted from 0.
 pub fn conflict(book: &[u8], p: usize, i: usize, q: usize) -> ConflictAnswer

@@ -7,9 +7,9 @@ use borrow.Author.Tests.{lt-ltb, le-ltb}
 use borrow.Author.Needs.{needs}
 use Rattle.grammar.proofs.FormedLaws.{bodies-in}
 use Rattle.grammar.specs.Layout.{productions, argumentCount}
-use Rattle.priority.specs.Conflict.{isThere}
-use Rattle.priority.proofs.conflict.answer.Statement.{statement}
-use Rattle.priority.proofs.conflict.answer.Tie as tie
+use Rattle.question.specs.Answer.{isThere}
+use Rattle.question.proofs.answer.Statement.{statement}
+use Rattle.question.proofs.answer.Tie as tie
 
 production-count-requires : tie.Need-production-count-requires
 production-count-requires c κs = search needs

@@ -1,0 +1,2 @@
+-- Laws of the conflict question.
+pub mod AnswerLaws

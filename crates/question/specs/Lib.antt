@@ -1,0 +1,2 @@
+-- What the contracts of the conflict question cite.
+pub mod Answer
