@@ -10,7 +10,7 @@ use Rattle.engine.proofs.UniqueLaws.{answer-unique}
 use Rattle.engine.specs.Outcome.{Answered}
 use Rattle.engine.specs.declared.Answer.{Answer}
 use Rattle.engine.specs.declared.Answer.the-variants.{None, One, Several, Refused}
-use Rattle.extract.specs.Written.{bytesOf, room}
+use Rattle.numbers.specs.Written.{bytesOf, room}
 use Rattle.theory.specs.Counts.{Only, Two}
 use Rattle.theory.specs.Tree.{Tree, listing}
 

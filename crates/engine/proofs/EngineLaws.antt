@@ -18,10 +18,10 @@ use Rattle.common.specs.Lists.{overwritten}
 use Rattle.engine.specs.Outcome.{Answered, ChartAfter}
 use Rattle.engine.specs.Roots.{ParseBy, rootTerm, parsingBy, Filled}
 use Rattle.engine.specs.declared.Answer.the-variants.{None, One, Several, Refused}
-use Rattle.extract.proofs.WrittenLaws.{bytes-long}
+use Rattle.numbers.proofs.WrittenLaws.{bytes-long}
 use Rattle.extract.specs.Places.{cellOf}
 use Rattle.extract.specs.Walk.{OnlyWritten}
-use Rattle.extract.specs.Written.{bytesOf, room}
+use Rattle.numbers.specs.Written.{bytesOf, room}
 use Rattle.tables.specs.Layout.{rootSlot, countsOf, arityIn, takesProduction}
 use Rattle.tables.specs.Theory.{theoryOf}
 use Rattle.theory.proofs.ClosedLaws.{everything-due}

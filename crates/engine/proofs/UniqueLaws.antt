@@ -9,7 +9,7 @@ use Rattle.common.specs.Lists.{overwritten}
 use Rattle.engine.specs.Outcome.{Parsing, Answered, ChartAfter, Parsed}
 use Rattle.engine.specs.declared.Answer.{Answer}
 use Rattle.engine.specs.declared.Answer.the-variants.{None, One, Several, Refused}
-use Rattle.extract.specs.Written.{bytesOf}
+use Rattle.numbers.specs.Written.{bytesOf}
 use Rattle.theory.specs.Counts.{Only, Two}
 use Rattle.theory.specs.Tree.{Tree, listing}
 

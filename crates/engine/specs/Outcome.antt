@@ -8,7 +8,7 @@ use Rattle.chart.specs.Layout.{chartBytes}
 use Rattle.common.specs.Lists.{overwritten}
 use Rattle.engine.specs.declared.Answer.{Answer}
 use Rattle.engine.specs.declared.Answer.the-variants.{None, One, Several, Refused}
-use Rattle.extract.specs.Written.{bytesOf, room}
+use Rattle.numbers.specs.Written.{bytesOf, room}
 use Rattle.grammar.specs.declared.Verdict.{Verdict}
 use Rattle.grammar.specs.declared.Verdict.the-variants.{Accepted, Refused as Rejected}
 use Rattle.theory.specs.Counts.{Only, Two}

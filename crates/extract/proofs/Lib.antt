@@ -2,8 +2,6 @@
 pub mod CellLaws
 pub mod ArgumentLaws
 pub mod SplitLaws
-pub mod WrittenLaws
-pub mod LevelsLaws
 pub mod WalkLaws
 pub mod WritingLaws
 pub mod StepLaws

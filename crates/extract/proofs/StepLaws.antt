@@ -13,12 +13,13 @@ use Rattle.chart.specs.Layout.{places}
 use Rattle.common.specs.Region.{Region}
 use Rattle.extract.proofs.ArgumentLaws.{Standing, charTest, char-stands, node-stands, child-there}
 use Rattle.extract.proofs.CellLaws.{cell-wanted, cell-trees, cell-only}
-use Rattle.extract.proofs.LevelsLaws.{Opens}
+use Rattle.levels.proofs.LevelsLaws.{Opens}
 use Rattle.extract.proofs.WritingLaws.{last-fits, level-fits, last-count, last-few, last-left, last-wanted, writing-start, writing-pop, writing-tree, next-high, writing-push, writing-over, writing-all, room-less}
-use Rattle.extract.proofs.WrittenLaws.{written-room}
+use Rattle.numbers.proofs.WrittenLaws.{written-room}
 use Rattle.extract.specs.Places.{Walkable, FirstChild, Splits, cellOf}
-use Rattle.extract.specs.Walk.{endCount, levelBytes, levelLimit, productionOf, writtenOf, placesOf, Writing, Midway, StillWriting, Further, WrittenOut, DueAt}
-use Rattle.extract.specs.Written.{room, Written}
+use Rattle.levels.specs.Levels.{endCount, levelBytes, productionOf, writtenOf, placesOf, DueAt}
+use Rattle.extract.specs.Walk.{levelLimit, Writing, Midway, StillWriting, Further, WrittenOut}
+use Rattle.numbers.specs.Written.{room, Written}
 use Rattle.grammar.specs.Limits.{argumentLimit}
 use Rattle.theory.proofs.SpellsLaws.{stands-rises}
 use Rattle.theory.specs.Grammar.{Grammar, Spells, Stands}

@@ -7,12 +7,13 @@ use native.Mathlib.Omega.{arith}
 use native.Mathlib.Nat.{mul-le-mul-right}
 use lib.ListN.{length, getD, length-set}
 use Rattle.common.specs.Region.{Region}
-use Rattle.extract.proofs.LevelsLaws.{Opens, SameLevel, counted, counted-written, counted-production, counted-places, counted-other, opened-production, opened-written, opened-places, opened-before}
+use Rattle.levels.proofs.LevelsLaws.{Opens, SameLevel, counted, counted-written, counted-production, counted-places, counted-other, opened-production, opened-written, opened-places, opened-before}
 use Rattle.extract.proofs.WalkLaws.{Moved, walk-start, walk-pop, walk-more, walk-push, walk-room, walk-complete}
-use Rattle.extract.proofs.WrittenLaws.{written-over, written-append, written-room}
+use Rattle.numbers.proofs.WrittenLaws.{written-over, written-append, written-room}
 use Rattle.extract.specs.Places.{Splits}
-use Rattle.extract.specs.Walk.{endCount, levelBytes, productionOf, writtenOf, placesOf, Walk, Writing, OnlyWritten}
-use Rattle.extract.specs.Written.{room, Written}
+use Rattle.levels.specs.Levels.{endCount, levelBytes, productionOf, writtenOf, placesOf}
+use Rattle.extract.specs.Walk.{Walk, Writing, OnlyWritten}
+use Rattle.numbers.specs.Written.{room, Written}
 use Rattle.theory.proofs.PathsLaws.{OnlyTrees, path-bound, path-count, path-wanted}
 use Rattle.theory.specs.Grammar.{Grammar, Stands}
 use Rattle.theory.specs.Paths.{top}

@@ -1,28 +1,21 @@
 -- A stack of levels in the middle of writing a tree: a level for each production whose arguments are not all written yet.
 use Prim.Native.Nat.{ℕ, zero, suc, _+_, _-_, _*_, _≤_, _<_}
-use mathlib.Core.Path.{_≡_}
 use mathlib.Core.Bool.{true}
 use mathlib.Core.List.{List, _∷_, _++_}
-use lib.ListN.{length, getD, take, drop}
-use Rattle.tables.specs.Theory.{theoryOf}
+use mathlib.Core.Path.{_≡_}
+use lib.ListN.{length, getD}
 use Rattle.chart.specs.Layout.{places}
 use Rattle.extract.specs.Places.{Walkable}
-use Rattle.extract.specs.Written.{room, Written}
-use Rattle.grammar.specs.Limits.{productionLimit, argumentLimit}
+use Rattle.grammar.specs.Limits.{productionLimit}
+use Rattle.levels.specs.Levels.{levelBytes, productionOf, writtenOf, placesOf}
+use Rattle.numbers.specs.Written.{room, Written}
+use Rattle.tables.specs.Theory.{theoryOf}
 use Rattle.theory.specs.Counts.{Only}
 use Rattle.theory.specs.Grammar.{Grammar, Spells, Stands}
 use Rattle.theory.specs.Paths.{Path}
 use Rattle.theory.specs.Tree.{Tree, node, Forest, productionNumber, listing, listings}
 
--- ---- where a level stands
-
--- the places where the arguments of a production begin, and where the last one ends
-abbrev pub endCount : ℕ
-endCount = argumentLimit + 1
-
--- the bytes of a level: its production, how many of its arguments are written, and its places
-abbrev pub levelBytes : ℕ
-levelBytes = endCount + 2
+-- ---- how many levels there are
 
 -- most levels: an only tree is no higher than there are productions and places
 abbrev pub levelLimit : ℕ
@@ -31,22 +24,6 @@ levelLimit = productionLimit * places
 -- levels that are enough for a short text
 abbrev pub fewLevels : ℕ
 fewLevels = 2048
-
--- the production of level n, how many of its arguments are written, and where its arguments begin and end
-unfoldable pub productionOf : List ℕ → ℕ → ℕ
-productionOf levels n = getD levels (n * levelBytes) 0
-
-unfoldable pub writtenOf : List ℕ → ℕ → ℕ
-writtenOf levels n = getD levels (n * levelBytes + 1) 0
-
-unfoldable pub placesOf : List ℕ → ℕ → List ℕ
-placesOf levels n = take endCount (drop (n * levelBytes + 2) levels)
-
--- byte k of the level of production q, none of whose arguments is written
-unfoldable pub openByte : ℕ → List ℕ → ℕ → ℕ
-openByte q ends zero = q
-openByte q ends (suc zero) = 0
-openByte q ends (suc (suc d)) = getD ends d 0
 
 -- ---- what a stack says
 
@@ -106,12 +83,3 @@ pub record OnlyWritten (g : Grammar) (w : List ℕ) (q : ℕ) (l₀ l : List ℕ
 -- To the end: whatever tree was being written is.
 abbrev pub WrittenOut : (g : Grammar) (w levels : List ℕ) (n : ℕ) (l : List ℕ) (r : ℕ) (l′ : List ℕ) (r′ : ℕ) → Type 0
 WrittenOut g w levels n l r l′ r′ = (q : ℕ) (l₀ : List ℕ) → Writing g w q l₀ levels n l r → OnlyWritten g w q l₀ l′ r′
-
--- ---- what the last level says
-
--- Argument `argument` of `production`, from `from` to `to`, comes next at level k.
-pub record DueAt (levels : List ℕ) (k production argument from to : ℕ) : Type 0 where
-  pub isProduction : production ≡ productionOf levels k
-  pub isArgument : argument ≡ writtenOf levels k
-  pub isFrom : from ≡ getD (placesOf levels k) argument 0
-  pub isTo : to ≡ getD (placesOf levels k) (argument + 1) 0

@@ -1,19 +1,18 @@
 // Writes the listing of the only tree that a filled chart counts. The chart says where each argument ends and which production stands there;
 // a stack of levels says what is written. No walk is longer than the buffer.
-pub mod levels;
-
+use chart::layout::PLACES;
 use chart::layout::entry_of;
-use common::BYTE_VALUES;
 use common::wide;
 use grammar::limits::ARGUMENT_LIMIT;
+use grammar::limits::PRODUCTION_LIMIT;
 use levels::Due;
 use levels::ENDS;
 use levels::LEVEL;
-use levels::LEVELS;
 use levels::count_argument;
 use levels::due_at;
 use levels::narrow;
 use levels::open_level;
+use numbers::put_number;
 use tables::FIRST_PRODUCTION;
 use tables::argument_count;
 use tables::production_count;
@@ -21,7 +20,6 @@ use tables::takes_char;
 use tables::takes_production;
 ghost use mathlib.Core.Path.{_≡_};
 ghost use mathlib.Core.Bool.{true, _&&_};
-ghost use mathlib.Core.List.{[], _∷_};
 ghost use mathlib.Core.Logic.{_↔_};
 ghost use Prim.Native.Nat.{_+_, _-_, _*_, _<_, _≤_};
 ghost use lib.Dec.{eqb, leb};
@@ -30,8 +28,9 @@ ghost use Rattle.theory.specs.Tree.{Tree};
 ghost use Rattle.theory.specs.Grammar.{Stands};
 ghost use Rattle.tables.specs.Layout.{slot, slots, countsOf, arityIn, tableWords, takesChar, takesProduction};
 ghost use Rattle.tables.specs.Theory.{theoryOf};
-ghost use Rattle.extract.specs.Written.{room, Written};
-ghost use Rattle.extract.specs.Walk.{levelBytes, fewLevels, productionOf, writtenOf, Midway, Further, WrittenOut, OnlyWritten};
+ghost use Rattle.numbers.specs.Written.{room};
+ghost use Rattle.levels.specs.Levels.{levelBytes, productionOf, writtenOf};
+ghost use Rattle.extract.specs.Walk.{fewLevels, Midway, Further, WrittenOut, OnlyWritten};
 ghost use Rattle.extract.specs.Places.{Walkable, cellOf, FirstChild, Splits};
 
 // What writing has come to.
@@ -173,19 +172,6 @@ fn find_splits(
     ends
 }
 
-// Writes a number at place `at`, if there is room: the next place, or one past the room.
-pub fn put_number(out: &mut [u8], at: usize, number: usize) -> usize
-    requires { ⌜ (number < 65536) × (at ≤ room (now out) + 1) ⌝ }
-    ensures { λ r. ⌜ Written (number ∷ []) (now (out .entry)) at (now (out .exit)) r ⌝ }
-{
-    if out.len() / 2 <= at {
-        return out.len() / 2 + 1;
-    }
-    out[2 * at] = (number % BYTE_VALUES) as u8;
-    out[2 * at + 1] = (number / BYTE_VALUES) as u8;
-    at + 1
-}
-
 // Writes the number of what stands as the next argument of the last level: a character, or a production, which opens a level if it has arguments.
 fn write_next(
     chart: &[u8],
@@ -299,6 +285,9 @@ fn write_tree(
     let next = put_number(out, 0, FIRST_PRODUCTION + q);
     write_levels(chart, text, tables, levels, out, next)
 }
+
+// Most levels: an only tree is no higher than there are productions and places.
+const LEVELS: usize = PRODUCTION_LIMIT * PLACES;
 
 // Levels that are enough for a short text; it is spared the clearing of many.
 const FEW_LEVELS: usize = 2048;

@@ -1,18 +1,18 @@
 -- What checking a listing answers, over the grammar's own trees: right exactly if the numbers are the listing of a parse of the text; what parsing answers with one
 -- is found right; and each refusal is given only under its condition.
-use Prim.Native.Nat.{ℕ, _+_, _*_, _/_, _%_, _≤_, _<_}
-use mathlib.Core.Path.{_≡_, refl, sym}
+use Prim.Native.Nat.{ℕ, _*_, _≤_, _<_}
 use mathlib.Core.List.{List, [], _∷_}
 use mathlib.Core.Logic.{_↔_}
+use mathlib.Core.Path.{_≡_, sym}
 use native.Mathlib.Omega.{arith}
 use lib.ListN.{length, getD, take, drop}
 use lib.Seq.{take-at}
+use Rattle.charset.specs.Set.{characters}
+use Rattle.common.specs.Lists.{overwritten}
+use Rattle.engine.specs.Refusals.{tooLong}
 use Rattle.flatten.proofs.FlatLaws.{flat-length, flat-result, flat-trees}
 use Rattle.flatten.specs.Flat.{flatGrammar, plainClass}
-use Rattle.charset.specs.Set.{characters}
-use Rattle.common.specs.Lists.{overwritten, joined}
-use Rattle.extract.proofs.WrittenLaws.{bytes-long}
-use Rattle.extract.specs.Written.{twoBytes, bytesOf}
+use Rattle.flatten.specs.Reading.{Reading}
 use Rattle.grammar.proofs.VerdictLaws.{and-first, unless-answer}
 use Rattle.grammar.specs.Formed.{WellFormed}
 use Rattle.grammar.specs.Layout.{startSort}
@@ -23,22 +23,14 @@ use Rattle.listing.proofs.BadListingLaws.{listing-accepted}
 use Rattle.listing.proofs.TerminalLaws.{OwnNumbers}
 use Rattle.listing.proofs.TreeLaws.{judge-right}
 use Rattle.listing.specs.Answer.{byteLimit, badListing, judged, listingAnswer}
-use Rattle.listing.specs.Numbers.{numbersOf}
 use Rattle.listing.specs.declared.ListingAnswer.the-variants.{Right, Refused}
-use Rattle.engine.specs.Refusals.{tooLong}
-use Rattle.flatten.specs.Reading.{Reading}
+use Rattle.numbers.proofs.NumbersLaws.{numbers-joined}
+use Rattle.numbers.proofs.WrittenLaws.{bytes-long}
+use Rattle.numbers.specs.Numbers.{numbersOf}
+use Rattle.numbers.specs.Written.{bytesOf}
 use Rattle.priority.proofs.CheckLaws.{accepted-formed}
 use Rattle.priority.specs.Check.{checked}
 use Rattle.theory.specs.Tree.{Tree, listing}
-use Rattle.common.specs.Bytes.{byteValues}
-
--- ---- bytes and numbers
-
--- what is written of numbers is read as these numbers
-pub numbers-joined : (ns : List ℕ) → numbersOf (joined twoBytes ns) ≡ ns
-unfolding numbersOf joined twoBytes
-numbers-joined [] = refl
-numbers-joined (n ∷ ns) = let e : n % byteValues + byteValues * (n / byteValues) ≡ n = omega arith in rw (numbers-joined ns, e) refl
 
 -- ---- right
 

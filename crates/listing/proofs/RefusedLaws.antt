@@ -17,7 +17,7 @@ use Rattle.grammar.specs.declared.Verdict.{Verdict}
 use Rattle.grammar.specs.declared.Verdict.the-variants.{Accepted, Refused as Rejected}
 use Rattle.listing.specs.Answer.{byteLimit, badListing, judged, listingAnswer}
 use Rattle.listing.specs.Judge.{isRight, dueAfter, textAfter, judge}
-use Rattle.listing.specs.Numbers.{numbersOf}
+use Rattle.numbers.specs.Numbers.{numbersOf}
 use Rattle.listing.specs.declared.ListingAnswer.the-variants.{Right, Wrong, Refused}
 use Rattle.engine.specs.Refusals.{tooLong}
 use Rattle.flatten.specs.Reading.{Reading}

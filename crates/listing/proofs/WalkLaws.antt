@@ -28,7 +28,7 @@ use Rattle.listing.specs.declared.ListingAnswer.the-variants.{Wrong}
 use Rattle.listing.specs.declared.Part.{Part}
 use Rattle.listing.specs.declared.Part.the-variants.{Complete, Fault}
 use Rattle.listing.specs.Answer.{judged}
-use Rattle.listing.specs.Numbers.{numbersOf}
+use Rattle.numbers.specs.Numbers.{numbersOf}
 use Rattle.tables.proofs.LayoutLaws.{counts-few}
 use Rattle.tables.specs.Layout.{slot, rootSlot, countsOf, arityIn, takesChar, takesProduction, ParserTables}
 use Rattle.theory.specs.Tree.{productionNumber}

@@ -9,7 +9,7 @@ use Rattle.grammar.specs.Layout.{startSort}
 use Rattle.grammar.specs.Verdict.{refuseIf, inOrder, unlessRefused}
 use Rattle.grammar.specs.declared.Verdict.{Verdict}
 use Rattle.listing.specs.Judge.{judge}
-use Rattle.listing.specs.Numbers.{numbersOf}
+use Rattle.numbers.specs.Numbers.{numbersOf}
 use Rattle.listing.specs.declared.ListingAnswer.{ListingAnswer}
 use Rattle.listing.specs.declared.ListingAnswer.the-variants.{Refused}
 use Rattle.engine.specs.Refusals.{tooLong}

@@ -1,5 +1,4 @@
 -- What the contracts of checking a listing cite.
-pub mod Numbers
 pub mod Judge
 pub mod Answer
 pub mod Parts

@@ -1,11 +1,11 @@
 // The operation "checking a listing": whether numbers are the listing of a parse of a text, and if not, where they go wrong.
 use charset::CHARACTERS;
-use common::two_bytes;
 use common::wide;
 use engine::check_text;
 use flatten::flat::flatten;
 use grammar::Verdict;
 use grammar::limits::ARGUMENT_LIMIT;
+use numbers::number_at;
 use priority::check_grammar;
 use tables::FIRST_PRODUCTION;
 use tables::ROOT_SLOT;
@@ -19,7 +19,7 @@ ghost use mathlib.Core.Bool.{_&&_};
 ghost use mathlib.Core.List.{List, [], _∷_};
 ghost use Prim.Native.Nat.{_-_, _<_, _≤_};
 ghost use lib.Dec.{ltb, leb};
-ghost use lib.ListN.{length, getD, drop};
+ghost use lib.ListN.{length, drop};
 ghost use Rattle.grammar.specs.Formed.{WellFormed};
 ghost use Rattle.grammar.specs.Verdict.{inOrder, unlessRefused};
 ghost use Rattle.theory.specs.Tree.{productionNumber};
@@ -27,7 +27,7 @@ ghost use Rattle.tables.specs.Layout.{slots, countsOf, tableWords, takesChar, t
 ghost use Rattle.ccg.specs.Ccg.{Line};
 ghost use Rattle.ccg.specs.Tables.{tableClass, tableGrammar};
 ghost use Rattle.engine.specs.Refusals.{tooLong};
-ghost use Rattle.listing.specs.Numbers.{numbersOf};
+ghost use Rattle.numbers.specs.Numbers.{numbersOf};
 ghost use Rattle.listing.specs.Judge.{isNext};
 ghost use Rattle.listing.specs.Answer.{badListing, judged, listingAnswer};
 ghost use Rattle.listing.specs.Parts.{afterPart, Walked, duesFrom};
@@ -122,14 +122,6 @@ fn answer(whole: Part, text: &[u8], listing: &[u8]) -> ListingAnswer
             ListingAnswer::Right
         }
     }
-}
-
-// Number `at` of the listing: two bytes, the low one first.
-fn number_at(listing: &[u8], at: usize) -> usize
-    requires { ⌜ at < length (numbersOf (now listing)) ⌝ }
-    ensures { λ r. ⌜ r ≡ getD (numbersOf (now (listing .entry))) at 0 ⌝ }
-{
-    two_bytes(listing, 2 * at)
 }
 
 // Character n may stand at slot s, and is the next byte of the text.

@@ -7,7 +7,7 @@ use lib.ListN.{length, replicate, length-replicate}
 use Rattle.common.specs.Lists.{overwritten}
 use Rattle.engine.proofs.AnswerLaws.{none-exactly, none-buffer, several-exactly, several-buffer, one-exactly, one-buffer}
 use Rattle.engine.specs.declared.Answer.{Answer}
-use Rattle.extract.specs.Written.{bytesOf}
+use Rattle.numbers.specs.Written.{bytesOf}
 use Rattle.marked.specs.Cases.{Expected, noReading, oneReading, severalReadings, badGrammar, refused, Says, Case, Statement, Answers, Promised, All}
 use Rattle.parse.proofs.AnswerLaws.{refused-outcome, accepted-outcome}
 use Rattle.parse.proofs.RefusalLaws.{refusal-grammar}

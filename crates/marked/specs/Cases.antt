@@ -6,7 +6,7 @@ use lib.ListN.{length, replicate}
 use Rattle.common.specs.Lists.{overwritten}
 use Rattle.engine.specs.declared.Answer.{Answer}
 use Rattle.engine.specs.declared.Answer.the-variants.{None, One, Several, Refused as NotRead}
-use Rattle.extract.specs.Written.{bytesOf}
+use Rattle.numbers.specs.Written.{bytesOf}
 use Rattle.grammar.specs.declared.Verdict.the-variants.{Accepted, Refused}
 use Rattle.parse.specs.Outcome.{refusal, Outcome}
 use Rattle.flatten.specs.Reading.{Reading}

@@ -21,9 +21,9 @@ use Rattle.grammar.specs.Layout.{productions, startSort, argumentCount}
 use Rattle.grammar.specs.Verdict.{andThen, inOrder, unlessRefused}
 use Rattle.grammar.specs.declared.Verdict.{Verdict}
 use Rattle.grammar.specs.declared.Verdict.the-variants.{Accepted, Refused as Rejected}
-use Rattle.listing.proofs.NumberLaws.{numbers-length}
+use Rattle.numbers.proofs.NumbersLaws.{numbers-length}
 use Rattle.listing.specs.Answer.{byteLimit, badListing, judged, listingAnswer}
-use Rattle.listing.specs.Numbers.{numbersOf}
+use Rattle.numbers.specs.Numbers.{numbersOf}
 use Rattle.listing.specs.declared.ListingAnswer.the-variants.{Refused as NotChecked}
 use Rattle.parse.proofs.NumberLaws.{largestNumber, Numbered, grammar-numbered}
 use Rattle.engine.specs.Refusals.{tooLong}

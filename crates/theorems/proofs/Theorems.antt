@@ -13,7 +13,7 @@ use Rattle.flatten.proofs.FlatWrittenLaws.{flat-written}
 use Rattle.ccg.specs.Ccg.{Class, Line, Generated}
 use Rattle.flatten.specs.Flat.{flatGrammar, plainClass}
 use Rattle.engine.proofs.AnswerLaws.{none-exactly, none-buffer, several-exactly, several-buffer, one-exactly, one-buffer, long-exactly, long-buffer, refused-is-long}
-use Rattle.extract.specs.Written.{room}
+use Rattle.numbers.specs.Written.{room}
 use Rattle.grammar.specs.Layout.{startSort}
 use Rattle.theorems.proofs.OneRightLaws.{one-right}
 use Rattle.listing.proofs.RefusedLaws.{grammar-exactly as listing-grammar, ten-exactly as listing-ten, eleven-exactly, right-exactly}

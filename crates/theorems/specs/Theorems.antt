@@ -3,7 +3,7 @@
 -- A list holds what a lent slice holds: b the bytes of a grammar (the user's book), w a text (a line), chart₀ and l₀ the chart and the buffer for a listing
 -- before a call, chart and l afterwards. The contracts of the operations, none of which asks anything of its input, say that
 --     priority::check_grammar      answers  checked b
---     priority::conflict::conflict answers  conflictAnswer b p i q
+--     question::conflict           answers  conflictAnswer b p i q
 --     flatten::write_flat          answers  flatAnswer b (how long its buffer is), and leaves there  bufferAfter
 --     parse::parse                 answers some r and leaves some chart and l with  Outcome b w chart₀ l₀ r chart l
 --     listing::check_listing       answers  listingAnswer b w l
@@ -34,11 +34,11 @@ use Rattle.chart.specs.Counted.{entryOf}
 use Rattle.chart.specs.Layout.{textLimit, chartBytes}
 use Rattle.engine.specs.declared.Answer.{Answer}
 use Rattle.engine.specs.declared.Answer.the-variants.{None, One, Several, Refused as NotRead}
-use Rattle.extract.specs.Written.{bytesOf}
+use Rattle.numbers.specs.Written.{bytesOf}
 use Rattle.grammar.specs.Layout.{productions, startSort, argumentCount, result, argument}
 use Rattle.grammar.specs.declared.Verdict.the-variants.{Accepted, Refused}
 use Rattle.listing.specs.Answer.{byteLimit, listingAnswer}
-use Rattle.listing.specs.Numbers.{numbersOf}
+use Rattle.numbers.specs.Numbers.{numbersOf}
 use Rattle.listing.specs.declared.ListingAnswer.the-variants.{Right, Refused as NotChecked}
 use Rattle.marked.specs.Cases.{All, Promised, table}
 use Rattle.parse.specs.Outcome.{needed, Outcome}

@@ -5,7 +5,7 @@ use native.Mathlib.Omega.{arith}
 use lib.ListN.{length}
 use borrow.Author.Needs.{needs}
 use Rattle.engine.proofs.EngineLaws.{total-one, root-cell, answered-one, answered-long}
-use Rattle.extract.specs.Written.{room}
+use Rattle.numbers.specs.Written.{room}
 use Rattle.engine.proofs.write_parse.Statement.{statement}
 use Rattle.engine.proofs.write_parse.Tie as tie
 

@@ -5,7 +5,8 @@ use native.Mathlib.Omega.{arith}
 use lib.ListN.{length, length-replicate}
 use borrow.Author.Needs.{needs}
 use Rattle.chart.specs.Layout.{places}
-use Rattle.extract.specs.Walk.{levelBytes, levelLimit}
+use Rattle.levels.specs.Levels.{levelBytes}
+use Rattle.extract.specs.Walk.{levelLimit}
 use Rattle.tables.proofs.LayoutLaws.{counts-few}
 use Rattle.extract.proofs.write_high.Statement.{statement}
 use Rattle.extract.proofs.write_high.Tie as tie

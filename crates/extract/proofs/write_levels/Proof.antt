@@ -5,7 +5,7 @@ use native.Mathlib.Omega.{arith}
 use lib.ListN.{length}
 use Rattle.extract.proofs.StepLaws.{midway-still, out-of-room, all-closed}
 use Rattle.extract.specs.Walk.{StillWriting}
-use Rattle.extract.specs.Written.{room}
+use Rattle.numbers.specs.Written.{room}
 use Rattle.tables.specs.Theory.{theoryOf}
 use Rattle.extract.proofs.write_levels.Statement.{statement}
 use Rattle.extract.proofs.write_levels.Tie as tie

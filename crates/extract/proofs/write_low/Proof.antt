@@ -4,7 +4,8 @@ use native.Mathlib.Nat.{mul-le-mul-right}
 use native.Mathlib.Omega.{arith}
 use lib.ListN.{length-replicate}
 use borrow.Author.Needs.{needs}
-use Rattle.extract.specs.Walk.{levelBytes, fewLevels}
+use Rattle.levels.specs.Levels.{levelBytes}
+use Rattle.extract.specs.Walk.{fewLevels}
 use Rattle.extract.proofs.write_low.Statement.{statement}
 use Rattle.extract.proofs.write_low.Tie as tie
 

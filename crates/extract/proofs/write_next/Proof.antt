@@ -5,7 +5,7 @@ use lib.ListN.{length}
 use borrow.Author.Needs.{needs}
 use Rattle.extract.proofs.ArgumentLaws.{argument-in, char-one}
 use Rattle.extract.proofs.StepLaws.{last-room, few-written, due-production, due-argument, due-rises, char-further, child-count, child-cell, bare-further, child-few, child-room, child-further}
-use Rattle.extract.specs.Walk.{endCount}
+use Rattle.levels.specs.Levels.{endCount}
 use Rattle.tables.proofs.LayoutLaws.{counts-few, slot-in}
 use Rattle.extract.proofs.write_next.Statement.{statement}
 use Rattle.extract.proofs.write_next.Tie as tie

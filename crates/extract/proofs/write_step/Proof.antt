@@ -3,7 +3,7 @@ use mathlib.Core.Path.{_∙_, ap, sym}
 use native.Mathlib.Omega.{arith}
 use borrow.Author.Needs.{needs}
 use Rattle.extract.proofs.StepLaws.{last-production, last-within, closed-further}
-use Rattle.extract.specs.Walk.{productionOf, writtenOf}
+use Rattle.levels.specs.Levels.{productionOf, writtenOf}
 use Rattle.tables.specs.Layout.{countsOf, arityIn}
 use Rattle.extract.proofs.write_step.Statement.{statement}
 use Rattle.extract.proofs.write_step.Tie as tie

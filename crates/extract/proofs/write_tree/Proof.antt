@@ -4,7 +4,7 @@ use native.Mathlib.Omega.{arith}
 use lib.ListN.{length}
 use borrow.Author.Needs.{needs}
 use Rattle.extract.proofs.StepLaws.{started-writing, started}
-use Rattle.extract.specs.Walk.{endCount}
+use Rattle.levels.specs.Levels.{endCount}
 use Rattle.tables.proofs.LayoutLaws.{counts-few}
 use Rattle.extract.proofs.write_tree.Statement.{statement}
 use Rattle.extract.proofs.write_tree.Tie as tie

@@ -11,9 +11,9 @@ use Rattle.charset.specs.Set.{characters}
 use Rattle.grammar.specs.Limits.{argumentLimit}
 use Rattle.tables.proofs.LayoutLaws.{counts-few}
 use Rattle.tables.specs.Layout.{slot, countsOf, arityIn}
-use Rattle.listing.proofs.NumberLaws.{numbers-length}
+use Rattle.numbers.proofs.NumbersLaws.{numbers-length}
 use Rattle.listing.proofs.WalkLaws.{production-there, walked-missing, walked-no-character, walked-character, walked-no-production, walked-production, walked-none, walked-first-fault, walked-more}
-use Rattle.listing.specs.Numbers.{numbersOf}
+use Rattle.numbers.specs.Numbers.{numbersOf}
 use Rattle.listing.specs.Parts.{EndsBeyond}
 use Rattle.listing.specs.declared.Part.the-variants.{Complete}
 use Rattle.listing.proofs.+check_arguments+check_tree.{statement}
@@ -25,7 +25,7 @@ use Rattle.listing.proofs.check_tree.Reads as check-tree
 use Rattle.listing.proofs.check_tree.Kinds as check-tree-kinds
 use Rattle.listing.proofs.+check_arguments+check_tree.Lts-check_tree as check-tree-lts
 use Rattle.listing.proofs.char_right.Reads as char-right-reads
-use Rattle.listing.proofs.number_at.Reads as number-at-reads
+use Rattle.numbers.proofs.number_at.Reads as number-at-reads
 use Rattle.listing.proofs.production_right.Reads as production-right-reads
 use Rattle.tables.proofs.argument_count.Reads as argument-count-reads
 

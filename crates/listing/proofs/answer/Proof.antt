@@ -3,8 +3,8 @@ use mathlib.Core.Path.{refl, sym}
 use native.Mathlib.Omega.{arith}
 use borrow.Author.Needs.{needs}
 use Rattle.listing.proofs.EndLaws.{numbers-left, text-left, nothing-left}
-use Rattle.listing.proofs.NumberLaws.{numbers-length}
-use Rattle.listing.specs.Numbers.{numbersOf}
+use Rattle.numbers.proofs.NumbersLaws.{numbers-length}
+use Rattle.numbers.specs.Numbers.{numbersOf}
 use Rattle.listing.specs.Parts.{afterPart}
 use Rattle.listing.proofs.answer.Statement.{statement}
 use Rattle.listing.proofs.answer.Tie as tie

@@ -1,11 +1,13 @@
--- The numbers of a listing's bytes, one by one.
-use Prim.Native.Nat.{ℕ, zero, suc, _+_, _*_, _/_, _<_}
-use mathlib.Core.Path.{_≡_, refl, sym, _∙_, ap₂}
+-- The numbers of a listing's bytes, one by one, and the bytes of numbers.
+use Prim.Native.Nat.{ℕ, zero, suc, _+_, _*_, _/_, _<_, _%_}
 use mathlib.Core.List.{List, [], _∷_}
+use mathlib.Core.Path.{_≡_, refl, sym, _∙_, ap₂}
 use native.Mathlib.Omega.{arith}
 use lib.ListN.{length, getD}
 use Rattle.common.specs.Bytes.{byteValues, numberAt}
-use Rattle.listing.specs.Numbers.{numbersOf}
+use Rattle.common.specs.Lists.{joined}
+use Rattle.numbers.specs.Numbers.{numbersOf}
+use Rattle.numbers.specs.Written.{twoBytes}
 
 pub numbers-length : (l : List ℕ) → length (numbersOf l) ≡ length l / 2
 unfolding numbersOf
@@ -27,3 +29,9 @@ numbers-at (x ∷ y ∷ l) (suc k) h =
 
     one-further : (k : ℕ) → 2 * suc k + 1 ≡ suc (suc (2 * k + 1))
     one-further k = omega arith
+
+-- what is written of numbers is read as these numbers
+pub numbers-joined : (ns : List ℕ) → numbersOf (joined twoBytes ns) ≡ ns
+unfolding numbersOf joined twoBytes
+numbers-joined [] = refl
+numbers-joined (n ∷ ns) = let e : n % byteValues + byteValues * (n / byteValues) ≡ n = omega arith in rw (numbers-joined ns, e) refl

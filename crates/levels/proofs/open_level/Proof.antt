@@ -4,10 +4,10 @@ use mathlib.Core.Path.{_≡_, subst}
 use native.Mathlib.Omega.{arith}
 use Rattle.common.proofs.RegionLaws.{region-none, region-more}
 use Rattle.common.specs.Region.{Region}
-use Rattle.extract.proofs.LevelsLaws.{Opens}
-use Rattle.extract.specs.Walk.{levelBytes}
-use Rattle.extract.proofs.levels.open_level.Statement.{statement}
-use Rattle.extract.proofs.levels.open_level.Tie as tie
+use Rattle.levels.proofs.LevelsLaws.{Opens}
+use Rattle.levels.specs.Levels.{levelBytes}
+use Rattle.levels.proofs.open_level.Statement.{statement}
+use Rattle.levels.proofs.open_level.Tie as tie
 
 abbrev Inv-loop : tie.InvT-loop
 Inv-loop levels₀ k q ends b₀ levels b = Region (Opens q ends) 0 (k * levelBytes) b levels₀ levels × (b ≤ levelBytes)

@@ -1,23 +1,19 @@
 // The stack of levels while a tree is written: a level for each production whose arguments are not all written.
 // Its bytes are its production, how many of its arguments are written, and the places where they begin and end.
-use chart::layout::PLACES;
 use common::wide;
 use grammar::limits::ARGUMENT_LIMIT;
-use grammar::limits::PRODUCTION_LIMIT;
 ghost use mathlib.Core.Path.{_≡_};
 ghost use Prim.Native.Nat.{ℕ, _+_, _*_, _<_, _≤_};
 ghost use lib.ListN.{length, set};
 ghost use Rattle.chart.specs.Layout.{textLimit};
 ghost use Rattle.common.specs.Region.{Region};
 ghost use Rattle.grammar.specs.Limits.{productionLimit, argumentLimit};
-ghost use Rattle.extract.specs.Walk.{levelBytes, writtenOf, openByte, DueAt};
+ghost use Rattle.levels.specs.Levels.{levelBytes, writtenOf, openByte, DueAt};
 
 // Places where the arguments of a production begin, and where the last one ends.
 pub const ENDS: usize = ARGUMENT_LIMIT + 1;
 // Bytes of a level.
 pub const LEVEL: usize = ENDS + 2;
-// Most levels: an only tree is no higher than there are productions and places.
-pub const LEVELS: usize = PRODUCTION_LIMIT * PLACES;
 
 // What comes next at a level: an argument of a production, and its part of the text.
 pub struct Due {

@@ -6,7 +6,7 @@ use native.Mathlib.Omega.{arith}
 use lib.ListN.{length, getD, drop, set, length-take, length-drop, length-set}
 use lib.Seq.{getD-take, getD-drop, ext-getD, getD-set-same, getD-set-other}
 use Rattle.common.specs.Region.{Region}
-use Rattle.extract.specs.Walk.{endCount, levelBytes, productionOf, writtenOf, placesOf, openByte}
+use Rattle.levels.specs.Levels.{endCount, levelBytes, productionOf, writtenOf, placesOf, openByte}
 
 -- ---- places
 

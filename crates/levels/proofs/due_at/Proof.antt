@@ -4,10 +4,10 @@ use mathlib.Core.Path.{_≡_, sym, _∙_, ap}
 use native.Mathlib.Omega.{arith}
 use lib.ListN.{getD}
 use borrow.Author.Needs.{needs}
-use Rattle.extract.proofs.LevelsLaws.{place-at}
-use Rattle.extract.specs.Walk.{levelBytes, productionOf, writtenOf}
-use Rattle.extract.proofs.levels.due_at.Statement.{statement}
-use Rattle.extract.proofs.levels.due_at.Tie as tie
+use Rattle.levels.proofs.LevelsLaws.{place-at}
+use Rattle.levels.specs.Levels.{levelBytes, productionOf, writtenOf}
+use Rattle.levels.proofs.due_at.Statement.{statement}
+use Rattle.levels.proofs.due_at.Tie as tie
 
 mul-wide : tie.Need-mul-wide
 mul-wide c = search needs

@@ -1,9 +1,9 @@
 -- `number_at` meets its contract.
 use mathlib.Core.Path.{sym, _∙_}
 use native.Mathlib.Omega.{arith}
-use Rattle.listing.proofs.NumberLaws.{numbers-length, numbers-at}
-use Rattle.listing.proofs.number_at.Statement.{statement}
-use Rattle.listing.proofs.number_at.Tie as tie
+use Rattle.numbers.proofs.NumbersLaws.{numbers-length, numbers-at}
+use Rattle.numbers.proofs.number_at.Statement.{statement}
+use Rattle.numbers.proofs.number_at.Tie as tie
 
 mul-two-bytes : tie.Need-mul-two-bytes
 mul-two-bytes c = let e = numbers-length (c .before .args .listing .now) in omega arith

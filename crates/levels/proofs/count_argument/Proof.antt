@@ -2,9 +2,9 @@
 use mathlib.Core.Path.{refl}
 use native.Mathlib.Omega.{arith}
 use borrow.Author.Needs.{needs}
-use Rattle.extract.specs.Walk.{writtenOf}
-use Rattle.extract.proofs.levels.count_argument.Statement.{statement}
-use Rattle.extract.proofs.levels.count_argument.Tie as tie
+use Rattle.levels.specs.Levels.{writtenOf}
+use Rattle.levels.proofs.count_argument.Statement.{statement}
+use Rattle.levels.proofs.count_argument.Tie as tie
 
 mul-levels : tie.Need-mul-levels
 mul-levels c = search needs

@@ -3,9 +3,9 @@ use Prim.Native.Nat.{suc, _-_}
 use mathlib.Core.Path.{_≡_, sym, ap}
 use native.Mathlib.Omega.{arith}
 use borrow.Author.Needs.{needs}
-use Rattle.extract.specs.Walk.{openByte}
-use Rattle.extract.proofs.levels.level_byte.Statement.{statement}
-use Rattle.extract.proofs.levels.level_byte.Tie as tie
+use Rattle.levels.specs.Levels.{openByte}
+use Rattle.levels.proofs.level_byte.Statement.{statement}
+use Rattle.levels.proofs.level_byte.Tie as tie
 
 returns : tie.Need-returns
 unfolding openByte

@@ -1,0 +1,2 @@
+-- Laws of the levels.
+pub mod LevelsLaws

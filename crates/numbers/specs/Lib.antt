@@ -1,0 +1,3 @@
+-- What the contracts of reading and writing numbers cite.
+pub mod Numbers
+pub mod Written
