@@ -1,6 +1,8 @@
 -- Laws of character class grammars, the tables that hold them and their written form.
+pub mod CcgLaws
+pub mod TerminalLaws
 pub mod TextLaws
-pub mod TableClassLaws
+pub mod TablesLaws
 pub mod NumeralLaws
 pub mod LineLaws
 pub mod PutLaws

@@ -45,4 +45,4 @@ written-sayable g w p l i m = only-sayable (getD (getD g p noLine .arguments) i 
 
 -- two grammars in written form with one text are one
 pub text-determines : (g h : List Line) → WrittenForm g → WrittenForm h → grammarText g ≡ grammarText h → g ≡ h
-text-determines g h w v e = lines-same g h (λ p l m. w .results p l ∙ sym (v .results p m)) (written-sayable g w) (written-sayable h v) e
+text-determines g h w v e = lines-same g h (λ p l m. w .numbered .own p l ∙ sym (v .numbered .own p m)) (written-sayable g w) (written-sayable h v) e

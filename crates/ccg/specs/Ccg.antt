@@ -22,6 +22,10 @@ noLine = record { arguments = []; result = 0 }
 abbrev pub noClass : Class
 noClass n = false
 
+-- Every line has its own number as its result.
+pub record OwnNumbers (g : List Line) : Type 0 where
+  pub own : (p : ℕ) → p < length g → getD g p noLine .result ≡ productionNumber p
+
 -- A number is a terminal if no line has it as its result.
 unfoldable pub isTerminal : List Line → ℕ → Bool
 isTerminal [] n = true

@@ -5,7 +5,7 @@ use mathlib.Core.Bool.{true}
 use mathlib.Core.List.{List}
 use mathlib.Core.Logic.{_⊎_}
 use lib.ListN.{length, getD}
-use Rattle.ccg.specs.Ccg.{Class, Line, noLine, noClass}
+use Rattle.ccg.specs.Ccg.{Class, Line, noLine, noClass, OwnNumbers}
 use Rattle.ccg.specs.Text.{numberLimit}
 use Rattle.charset.specs.Set.{characters}
 use Rattle.theory.specs.Tree.{productionNumber}
@@ -18,8 +18,8 @@ OnlyCharacters cc = (n : ℕ) → cc n ≡ true → n < characters
 abbrev pub OnlyProductions : Class → Type 0
 OnlyProductions cc = (n : ℕ) → cc n ≡ true → (productionNumber 0 ≤ n) × (n < numberLimit)
 
--- Line p ends in the number of production p; every class has only characters, or only numbers of productions.
+-- Every line has its own number; every class has only characters, or only numbers of productions.
 pub record WrittenForm (g : List Line) : Type 0 where
-  pub results : (p : ℕ) → p < length g → getD g p noLine .result ≡ productionNumber p
+  pub numbered : OwnNumbers g
   pub classes : (p i : ℕ) → p < length g → i < length (getD g p noLine .arguments)
       → OnlyCharacters (getD (getD g p noLine .arguments) i noClass) ⊎ OnlyProductions (getD (getD g p noLine .arguments) i noClass)

@@ -6,7 +6,8 @@ use mathlib.Core.List.{List}
 use mathlib.Core.Logic.{_↔_, ⊎-elim}
 use native.Mathlib.Omega.{arith}
 use lib.ListN.{getD}
-use Rattle.flatten.proofs.FlatLaws.{flat-length, flat-of-class, flat-plain, flat-production, plain-production, flat-no-conflict, rootNumber, generated-class, generated-root, flat-trees}
+use Rattle.flatten.proofs.FlatLaws.{flat-length, flat-of-class, flat-plain, flat-production, plain-production, flat-no-conflict, flat-trees}
+use Rattle.ccg.proofs.CcgLaws.{rootNumber, generated-class, generated-root}
 use Rattle.ccg.specs.Ccg.{Class, Generated}
 use Rattle.flatten.specs.Flat.{flatClass, flatGrammar, plainClass}
 use Rattle.flatten.specs.Trees.{Built, ConflictFree, Apart}

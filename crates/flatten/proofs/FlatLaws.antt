@@ -1,22 +1,23 @@
 -- The trees of the character class grammar of a grammar are the grammar's trees without a conflict.
 use Prim.Native.Nat.{ℕ, zero, suc, _-_, _≤_, _<_}
-use mathlib.Core.Path.{_≡_, refl, sym, _∙_, ap, transport, subst}
-use mathlib.Core.Bool.{false, true, not, _&&_, and-false, and-assoc}
-use mathlib.Core.List.{List, [], _∷_, _++_}
-use mathlib.Core.Logic.{_↔_, ⊎-elim, by-cases}
+use mathlib.Core.Bool.{false, true, not, _&&_}
+use mathlib.Core.List.{List}
+use mathlib.Core.Logic.{_↔_, ⊎-elim}
+use mathlib.Core.Path.{_≡_, refl, sym, _∙_, ap, transport}
 use native.Mathlib.Omega.{arith}
-use native.Mathlib.Decide.{decLt}
 use lib.Dec.{leb, ltb, eqb}
 use lib.ListN.{length, getD}
-use borrow.Author.Tests.{ltb-true, leb-true, eqb-true, not-true, lt-ltb, le-leb, eq-eqb, ne-eqb}
-use Rattle.flatten.proofs.ConflictFreeLaws.{conflict-free-argument, conflict-free-root, conflict-free-leaf, conflict-free-node}
-use Rattle.ccg.specs.Ccg.{Class, Line, noLine, noClass, isTerminal, Generated, Each}
-use Rattle.flatten.specs.Flat.{isProduction, mayStand, flatClass, flatLine, flatGrammar, plainClass}
-use Rattle.flatten.specs.Trees.{Built, Arguments, RootConflict, conflictAt, ConflictFree}
+use borrow.Author.Tests.{ltb-true, leb-true, eqb-true, not-true, lt-ltb, le-leb, eq-eqb}
+use Rattle.ccg.proofs.CcgLaws.{rootNumber, generated-class, generated-root}
+use Rattle.ccg.proofs.TerminalLaws.{production-no-terminal, other-terminal}
+use Rattle.ccg.specs.Ccg.{Line, noLine, noClass, isTerminal, OwnNumbers, Generated, Each}
 use Rattle.charset.specs.Set.{characters}
 use Rattle.common.proofs.BoolLaws.{and-both, and-first-true, and-second-true, true-or-false, not-both}
 use Rattle.common.proofs.ListLaws.{length-tabulate, getD-tabulate}
 use Rattle.common.specs.Lists.{tabulate}
+use Rattle.flatten.proofs.ConflictFreeLaws.{conflict-free-argument, conflict-free-root, conflict-free-leaf, conflict-free-node}
+use Rattle.flatten.specs.Flat.{isProduction, mayStand, flatClass, flatLine, flatGrammar, plainClass}
+use Rattle.flatten.specs.Trees.{Built, Arguments, RootConflict, conflictAt, ConflictFree}
 use Rattle.grammar.proofs.ClassesLaws.{sort-no-class, class-character}
 use Rattle.grammar.specs.Classes.{isClass, classHas}
 use Rattle.grammar.specs.Formed.{WellFormed}
@@ -24,47 +25,8 @@ use Rattle.grammar.specs.Layout.{productions, argumentCount, result, argument}
 use Rattle.grammar.specs.Limits.{classBase}
 use Rattle.priority.proofs.ConflictLaws.{fits-result, conflict-test}
 use Rattle.priority.specs.Conflict.{fits, Conflict, conflicts}
-use Rattle.theory.specs.Tree.{Tree, leaf, node, Forest, none, _▷_, productionNumber, size, At, atEnd, further}
-
--- ---- terminals
-
-terminal-append : (g h : List Line) (n : ℕ) → isTerminal (g ++ h) n ≡ (isTerminal g n && isTerminal h n)
-unfolding isTerminal
-terminal-append [] h n = refl
-terminal-append (l ∷ g) h n = rw (terminal-append g h n) (sym (and-assoc (not (eqb (l .result) n)) (isTerminal g n) (isTerminal h n)))
-
-line-terminal : (b : List ℕ) (m n : ℕ) → (productionNumber m ≡ n → ⊥) → isTerminal (flatLine b m ∷ []) n ≡ true
-unfolding isTerminal flatLine
-line-terminal b m n h = rw (ne-eqb (productionNumber m) n h) refl
-
-line-result : (b : List ℕ) (m : ℕ) → isTerminal (flatLine b m ∷ []) (productionNumber m) ≡ false
-unfolding isTerminal flatLine
-line-result b m = rw (eq-eqb (productionNumber m) (productionNumber m) refl) refl
-
--- the results of the first m lines are the numbers of the first m productions
-lines-terminal : (b : List ℕ) (m n : ℕ) → n < productionNumber 0 → isTerminal (tabulate m (flatLine b)) n ≡ true
-unfolding tabulate isTerminal
-lines-terminal b zero n l = refl
-lines-terminal b (suc m) n l =
-    terminal-append (tabulate m (flatLine b)) (flatLine b m ∷ []) n
-    ∙ rw (lines-terminal b m n l) (line-terminal b m n (λ e. omega arith))
-
-lines-results : (b : List ℕ) (m q : ℕ) → q < m → isTerminal (tabulate m (flatLine b)) (productionNumber q) ≡ false
-unfolding tabulate
-lines-results b zero q l = absurd (omega arith)
-lines-results b (suc m) q l =
-    terminal-append (tabulate m (flatLine b)) (flatLine b m ∷ []) (productionNumber q)
-    ∙ by-cases (decLt q m)
-    (λ k. rw (lines-results b m q k) refl)
-    (λ k. let e : q ≡ m = omega arith in rw (e, line-result b m) (and-false (isTerminal (tabulate m (flatLine b)) (productionNumber m))))
-
-character-terminal : (b : List ℕ) (n : ℕ) → n < productionNumber 0 → isTerminal (flatGrammar b) n ≡ true
-unfolding flatGrammar
-character-terminal b n l = lines-terminal b (productions b) n l
-
-production-result : (b : List ℕ) (q : ℕ) → q < productions b → isTerminal (flatGrammar b) (productionNumber q) ≡ false
-unfolding flatGrammar
-production-result b q l = lines-results b (productions b) q l
+use Rattle.theory.proofs.TreeLaws.{production-of-number, at-last, at-none, at-more}
+use Rattle.theory.specs.Tree.{Tree, leaf, node, Forest, none, _▷_, productionNumber, size, At, further}
 
 -- ---- lines
 
@@ -94,6 +56,16 @@ module _ (b : List ℕ) (p : ℕ) (l : p < productions b) where
 pub flat-class-at : (b : List ℕ) (p i : ℕ) → i < argumentCount b p → getD (tabulate (argumentCount b p) (flatClass b p)) i noClass ≡ flatClass b p i
 flat-class-at b p i l = getD-tabulate (argumentCount b p) (flatClass b p) i noClass l
 
+pub flat-numbered : (b : List ℕ) → OwnNumbers (flatGrammar b)
+flat-numbered b = record { own = λ p l. flat-result b p (omega (arith, flat-length b)) }
+
+-- the numbers of the productions are no terminals, characters are
+production-result : (b : List ℕ) (q : ℕ) → q < productions b → isTerminal (flatGrammar b) (productionNumber q) ≡ false
+production-result b q l = production-no-terminal (flatGrammar b) (flat-numbered b) q (omega (arith, flat-length b))
+
+character-terminal : (b : List ℕ) (n : ℕ) → n < productionNumber 0 → isTerminal (flatGrammar b) n ≡ true
+character-terminal b n l = other-terminal (flatGrammar b) (flat-numbered b) n (λ m h. omega arith)
+
 -- ---- numbers of productions, and characters
 
 pub is-production : (b : List ℕ) (q : ℕ) → q < productions b → isProduction b (productionNumber q) ≡ true
@@ -116,9 +88,6 @@ module _ (b : List ℕ) (n : ℕ) (e : isProduction b n ≡ true) where
   pub production-is : n ≡ productionNumber (n - productionNumber 0)
   unfolding isProduction
   production-is = omega (arith, leb-true (productionNumber 0) n (and-first-true (leb (productionNumber 0) n) (ltb n (productionNumber (productions b))) e))
-
-pub production-of-number : (q : ℕ) → productionNumber q - productionNumber 0 ≡ q
-production-of-number q = omega arith
 
 -- ---- what a class has
 
@@ -204,17 +173,7 @@ module _ (b : List ℕ) (w : WellFormed b) where
         not-both (isTerminal (flatGrammar b) c) terminal (ap (isTerminal (flatGrammar b)) (production-is b c number) ∙ production-result b q (production-there b c number)))
         (true-or-false (isClass b x))
 
--- ---- places of a list of trees
-
-pub at-last : {f : Forest} {t : Tree} {d : ℕ} → size f ≡ d → At d (f ▷ t) t
-at-last {f} {t} e = subst (λ (k : ℕ). At k (f ▷ t) t) e atEnd
-
-pub at-none : {i : ℕ} {t : Tree} → At i none t → ⊥
-at-none = elim [ ]
-
-pub at-more : (P : ℕ → Tree → Type 0) {f : Forest} {t : Tree} → ((i : ℕ) (s : Tree) → At i f s → P i s) → P (size f) t → (i : ℕ) (s : Tree) → At i (f ▷ t) s → P i s
-at-more P {f} {t} h z i s atEnd = z
-at-more P {f} {t} h z i s (further a) = h i s a
+-- ---- trees
 
 pub arguments-size : (b : List ℕ) (p : ℕ) (f : Forest) (d : ℕ) → Arguments b p f d → size f ≡ d
 unfolding Arguments size
@@ -222,24 +181,6 @@ arguments-size b p none zero h = refl
 arguments-size b p none (suc d) h = absurd h
 arguments-size b p (f ▷ t) zero h = absurd h
 arguments-size b p (f ▷ t) (suc d) h = omega (arith, arguments-size b p f d (h .0))
-
--- ---- trees
-
--- the number at the root: a character, or that of a production
-abbrev pub rootNumber : Tree → ℕ
-rootNumber (leaf c) = c
-rootNumber (node p f) = productionNumber p
-
--- the class of a tree matters at the root only
-pub generated-class : (g : List Line) (cc₁ cc₂ : Class) (t : Tree) → Generated g cc₁ t → (cc₁ (rootNumber t) ≡ true → cc₂ (rootNumber t) ≡ true) → Generated g cc₂ t
-unfolding Generated
-generated-class g cc₁ cc₂ (leaf c) h k = (k (h .0), h .1)
-generated-class g cc₁ cc₂ (node p f) h k = (h .0, h .1, k (h .2), h .3)
-
-pub generated-root : (g : List Line) (cc : Class) (t : Tree) → Generated g cc t → cc (rootNumber t) ≡ true
-unfolding Generated
-generated-root g cc (leaf c) h = h .0
-generated-root g cc (node p f) h = h .2
 
 module _ (b : List ℕ) (w : WellFormed b) (bytes : (k : ℕ) → getD b k 0 < characters) where
   -- a tree that is built at argument d of p and doesn't conflict there has its number in the argument's class

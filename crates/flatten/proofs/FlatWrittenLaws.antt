@@ -12,7 +12,7 @@ use Rattle.ccg.specs.Written.{OnlyCharacters, OnlyProductions, WrittenForm}
 use Rattle.charset.specs.Set.{characters}
 use Rattle.common.proofs.BoolLaws.{and-first-true, true-or-false}
 use Rattle.common.proofs.ListLaws.{length-tabulate}
-use Rattle.flatten.proofs.FlatLaws.{flat-length, flat-result, flat-arguments, flat-class-at, production-there, production-is, flat-of-class, flat-of-sort}
+use Rattle.flatten.proofs.FlatLaws.{flat-length, flat-numbered, flat-arguments, flat-class-at, production-there, production-is, flat-of-class, flat-of-sort}
 use Rattle.flatten.specs.Flat.{isProduction, mayStand, flatClass, flatGrammar}
 use Rattle.grammar.proofs.ClassesLaws.{class-character}
 use Rattle.grammar.specs.Classes.{isClass}
@@ -46,4 +46,4 @@ module _ (b : List ℕ) (w : WellFormed b) (bytes : (k : ℕ) → getD b k 0 < c
 -- the character class grammar of a grammar is in written form
 pub flat-written : (b : List ℕ) → WellFormed b → ((k : ℕ) → getD b k 0 < characters) → WrittenForm (flatGrammar b)
 flat-written b w bytes =
-    record { results = λ p l. flat-result b p (omega (arith, flat-length b)); classes = λ p i l m. flat-classes b w bytes p i (omega (arith, flat-length b)) m }
+    record { numbered = flat-numbered b; classes = λ p i l m. flat-classes b w bytes p i (omega (arith, flat-length b)) m }

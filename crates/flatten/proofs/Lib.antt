@@ -8,4 +8,4 @@ pub mod TestsLaws
 pub mod BookLaws
 pub mod TableTextLaws
 pub mod FlatWrittenLaws
-pub mod FlatAnswerLaws
+pub mod AnswerLaws

@@ -9,7 +9,7 @@ use native.Mathlib.Omega.{arith}
 use lib.Dec.{leb, ltb, eqb}
 use lib.ListN.{getD}
 use borrow.Author.Tests.{leb-true, lt-ltb, le-ltb, le-leb, lt-leb}
-use Rattle.ccg.proofs.TableClassLaws.{table-of-character, table-between, table-of-production, table-above}
+use Rattle.ccg.proofs.TablesLaws.{table-of-character, table-between, table-of-production, table-above}
 use Rattle.ccg.specs.Tables.{tableClass, tableLine, tableGrammar}
 use Rattle.ccg.specs.Text.{numberLimit}
 use Rattle.charset.specs.Set.{characters}

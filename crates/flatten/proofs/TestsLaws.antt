@@ -10,7 +10,8 @@ use lib.ListN.{length, getD}
 use lib.Seq.{take-length}
 use borrow.Author.Tests.{eqb-true, not-true, eq-eqb}
 use Rattle.flatten.proofs.ConflictFreeLaws.{conflict-free-argument, conflict-free-root, conflict-free-leaf, conflict-free-node}
-use Rattle.flatten.proofs.FlatLaws.{at-last, at-none, at-more, arguments-size}
+use Rattle.flatten.proofs.FlatLaws.{arguments-size}
+use Rattle.theory.proofs.TreeLaws.{at-last, at-none, at-more}
 use Rattle.flatten.specs.Flat.{mayStand}
 use Rattle.flatten.specs.Trees.{Built, Arguments, RootConflict, conflictAt, ConflictFree}
 use Rattle.charset.specs.Set.{characters}

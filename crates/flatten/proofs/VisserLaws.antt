@@ -9,7 +9,8 @@ use native.Mathlib.Decide.{ℕ-discrete}
 use lib.Dec.{eqb}
 use lib.ListN.{getD}
 use borrow.Author.Tests.{eqb-true, lt-ltb, le-ltb, le-leb, lt-leb, eq-eqb, ne-eqb}
-use Rattle.flatten.proofs.FlatLaws.{is-production, production-there, production-is, production-of-number, flat-of-class, flat-of-sort, flat-no-conflict}
+use Rattle.flatten.proofs.FlatLaws.{is-production, production-there, production-is, flat-of-class, flat-of-sort, flat-no-conflict}
+use Rattle.theory.proofs.TreeLaws.{production-of-number}
 use Rattle.ccg.specs.Ccg.{Class, Line, noLine, noClass}
 use Rattle.flatten.specs.Flat.{isProduction, mayStand, flatClass, flatLine, flatGrammar}
 use Rattle.charset.specs.Set.{characters}

@@ -1,5 +1,4 @@
 -- Laws of checking a listing.
-pub mod TerminalLaws
 pub mod TreeLaws
 pub mod WalkLaws
 pub mod EndLaws

@@ -10,7 +10,7 @@ use lib.Seq.{take-at}
 use Rattle.charset.specs.Set.{characters}
 use Rattle.common.specs.Lists.{overwritten}
 use Rattle.engine.specs.Refusals.{tooLong}
-use Rattle.flatten.proofs.FlatLaws.{flat-length, flat-result, flat-trees}
+use Rattle.flatten.proofs.FlatLaws.{flat-numbered, flat-trees}
 use Rattle.flatten.specs.Flat.{flatGrammar, plainClass}
 use Rattle.flatten.specs.Reading.{Reading}
 use Rattle.grammar.proofs.VerdictLaws.{and-first, unless-answer}
@@ -20,7 +20,6 @@ use Rattle.grammar.specs.Verdict.{andThen, inOrder}
 use Rattle.grammar.specs.declared.Verdict.{Verdict}
 use Rattle.grammar.specs.declared.Verdict.the-variants.{Accepted}
 use Rattle.listing.proofs.BadListingLaws.{listing-accepted}
-use Rattle.listing.proofs.TerminalLaws.{OwnNumbers}
 use Rattle.listing.proofs.TreeLaws.{judge-right}
 use Rattle.listing.specs.Answer.{byteLimit, badListing, judged, listingAnswer}
 use Rattle.listing.specs.declared.ListingAnswer.the-variants.{Right, Refused}
@@ -33,9 +32,6 @@ use Rattle.priority.specs.Check.{checked}
 use Rattle.theory.specs.Tree.{Tree, listing}
 
 -- ---- right
-
-flat-numbered : (b : List ℕ) → OwnNumbers (flatGrammar b)
-flat-numbered b = record { own = λ p l. flat-result b p (omega (arith, flat-length b)) }
 
 module _ (b : List ℕ) (formed : WellFormed b) (bytes : (k : ℕ) → getD b k 0 < characters) (w l : List ℕ) where
   right-reading : judged b w l ≡ Right → (t : Tree) × Reading b w t × (listing t ≡ numbersOf l)

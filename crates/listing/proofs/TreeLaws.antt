@@ -1,21 +1,21 @@
 -- Going through the numbers of a listing finds them right exactly if a tree has them as its listing and spells the text: for any character class grammar whose
 -- lines have their own numbers.
 use Prim.Native.Nat.{ℕ, zero, suc, _+_, _-_, _≤_, _<_}
-use mathlib.Core.Path.{_≡_, refl, sym, _∙_, ap, ap₂, subst₂}
 use mathlib.Core.Bool.{false, true, not, _||_, false≢true}
 use mathlib.Core.List.{List, [], _∷_, _++_, append-assoc, append-nil}
 use mathlib.Core.Logic.{_↔_, ⊎-elim}
-use native.Mathlib.Omega.{arith}
+use mathlib.Core.Path.{_≡_, refl, sym, _∙_, ap, ap₂, subst₂}
 use native.Mathlib.Nat.{le-refl}
+use native.Mathlib.Omega.{arith}
 use lib.ListN.{length, getD, take, drop, length-append, drop-of-length-le}
 use lib.Seq.{take-length, take-suc, drop-cons, append-snoc}
 use borrow.Author.Tests.{eqb-true, eq-eqb}
-use Rattle.flatten.proofs.FlatLaws.{production-of-number}
-use Rattle.ccg.specs.Ccg.{Class, Line, noLine, noClass, isTerminal, Generated, Each}
+use Rattle.ccg.proofs.TerminalLaws.{production-no-terminal, no-terminal-production}
+use Rattle.ccg.specs.Ccg.{Class, Line, noLine, noClass, isTerminal, Generated, Each, OwnNumbers}
 use Rattle.common.proofs.BoolLaws.{and-first-true, and-second-true, true-or-false}
-use Rattle.listing.proofs.TerminalLaws.{OwnNumbers, production-no-terminal, no-terminal-production}
 use Rattle.listing.specs.Judge.{isNext, isRight, dueAfter, textAfter, judge}
 use Rattle.listing.specs.declared.ListingAnswer.the-variants.{Right, Wrong}
+use Rattle.theory.proofs.TreeLaws.{production-of-number}
 use Rattle.theory.specs.Tree.{Tree, leaf, node, Forest, none, _▷_, productionNumber, yield, yields, listing, listings}
 
 -- ---- one number

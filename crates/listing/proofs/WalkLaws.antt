@@ -1,33 +1,32 @@
 -- One step of the walk over a listing, by the flat tables.
 use Prim.Native.Nat.{ℕ, suc, _+_, _-_, _≤_, _<_}
-use mathlib.Core.Path.{_≡_, refl, sym, _∙_, ap, ap₂, fun-ext}
 use mathlib.Core.Bool.{Bool, false, true, _&&_, and-true, and-false}
 use mathlib.Core.List.{List, [], _∷_, _++_}
 use mathlib.Core.Logic.{by-cases}
-use native.Mathlib.Omega.{arith}
+use mathlib.Core.Path.{_≡_, refl, sym, _∙_, ap, ap₂, fun-ext}
 use native.Mathlib.Decide.{decLt}
 use native.Mathlib.Numerals.{add-one}
+use native.Mathlib.Omega.{arith}
 use lib.Dec.{leb, ltb, eqb}
 use lib.ListN.{length, getD, drop, drop-of-length-le}
 use lib.Seq.{drop-cons, drop-drop}
 use borrow.Author.Tests.{ltb-true, leb-true, lt-ltb, le-ltb, le-leb, lt-leb, ne-eqb}
-use Rattle.ccg.proofs.TableClassLaws.{table-of-character, table-between, table-of-production}
-use Rattle.flatten.proofs.TableTextLaws.{table-root, table-grammar}
+use Rattle.ccg.proofs.TablesLaws.{table-of-character, table-between, table-of-production, table-production, table-terminal}
 use Rattle.ccg.specs.Ccg.{Class, Line, noLine, noClass}
 use Rattle.ccg.specs.Tables.{tableClass, tableLine, tableGrammar}
-use Rattle.flatten.specs.Tables.{FlatTables}
 use Rattle.charset.specs.Set.{characters}
 use Rattle.common.proofs.BoolLaws.{and-first-true, and-second-true, not-both}
 use Rattle.common.proofs.ListLaws.{length-tabulate, getD-tabulate}
 use Rattle.common.specs.Lists.{tabulate}
+use Rattle.flatten.proofs.TableTextLaws.{table-root, table-grammar}
+use Rattle.flatten.specs.Tables.{FlatTables}
 use Rattle.grammar.specs.Formed.{WellFormed}
-use Rattle.listing.proofs.TerminalLaws.{table-production, table-terminal}
+use Rattle.listing.specs.Answer.{judged}
 use Rattle.listing.specs.Judge.{isNext, isRight, dueAfter, textAfter, judge}
 use Rattle.listing.specs.Parts.{afterPart, EndsBeyond, Walked, duesFrom}
 use Rattle.listing.specs.declared.ListingAnswer.the-variants.{Wrong}
 use Rattle.listing.specs.declared.Part.{Part}
 use Rattle.listing.specs.declared.Part.the-variants.{Complete, Fault}
-use Rattle.listing.specs.Answer.{judged}
 use Rattle.numbers.specs.Numbers.{numbersOf}
 use Rattle.tables.proofs.LayoutLaws.{counts-few}
 use Rattle.tables.specs.Layout.{slot, rootSlot, countsOf, arityIn, takesChar, takesProduction, ParserTables}

@@ -2,7 +2,7 @@
 use charset::CHARACTERS;
 use common::wide;
 use engine::check_text;
-use flatten::flat::flatten;
+use flatten::flatten;
 use grammar::Verdict;
 use grammar::limits::ARGUMENT_LIMIT;
 use numbers::number_at;

@@ -3,8 +3,9 @@ use common::BYTE_VALUES;
 use common::two_bytes;
 ghost use mathlib.Core.Path.{_≡_};
 ghost use mathlib.Core.List.{[], _∷_};
-ghost use Prim.Native.Nat.{_+_, _<_, _≤_};
+ghost use Prim.Native.Nat.{_+_, _*_, _<_, _≤_};
 ghost use lib.ListN.{length, getD};
+ghost use Rattle.common.specs.Bytes.{byteValues};
 ghost use Rattle.numbers.specs.Numbers.{numbersOf};
 ghost use Rattle.numbers.specs.Written.{room, Written};
 
@@ -18,7 +19,7 @@ pub fn number_at(listing: &[u8], at: usize) -> usize
 
 // Writes a number at place `at`, if there is room: the next place, or one past the room.
 pub fn put_number(out: &mut [u8], at: usize, number: usize) -> usize
-    requires { ⌜ (number < 65536) × (at ≤ room (now out) + 1) ⌝ }
+    requires { ⌜ (number < byteValues * byteValues) × (at ≤ room (now out) + 1) ⌝ }
     ensures { λ r. ⌜ Written (number ∷ []) (now (out .entry)) at (now (out .exit)) r ⌝ }
 {
     if out.len() / 2 <= at {

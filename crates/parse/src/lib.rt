@@ -1,7 +1,7 @@
 // The operation "reading a text": the parses of a text by a grammar.
 use engine::Answer;
 use engine::parse_tables;
-use flatten::flat::flatten;
+use flatten::flatten;
 use grammar::Verdict;
 use priority::check_grammar;
 use tables::zero_tables;

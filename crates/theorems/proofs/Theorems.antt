@@ -4,7 +4,7 @@ use mathlib.Core.Path.{_≡_, refl, sym, subst, subst⁻¹, fun-ext}
 use mathlib.Core.Logic.{⊎-elim}
 use mathlib.Core.List.{List}
 use lib.ListN.{length}
-use Rattle.flatten.proofs.FlatAnswerLaws.{flat-fits, flat-too-long, flat-grammar}
+use Rattle.flatten.proofs.AnswerLaws.{flat-fits, flat-too-long, flat-grammar}
 use Rattle.flatten.proofs.FlatClassLaws.{flat-any, flat-argument}
 use Rattle.flatten.proofs.FlatLaws.{flat-trees}
 use Rattle.flatten.proofs.VisserLaws.{flat-completed, flat-visser}

@@ -1,4 +1,5 @@
 -- Laws of parse trees and of counting them.
+pub mod TreeLaws
 pub mod SpellsLaws
 pub mod SoundLaws
 pub mod ClosedLaws

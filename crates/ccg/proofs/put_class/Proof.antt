@@ -6,7 +6,7 @@ use native.Mathlib.Omega.{arith}
 use lib.ListN.{length, length-append}
 use borrow.Author.Needs.{needs}
 use Rattle.ccg.proofs.PutLaws.{put-append, put-same}
-use Rattle.ccg.proofs.TableClassLaws.{table-of-character, table-of-production, table-between}
+use Rattle.ccg.proofs.TablesLaws.{table-of-character, table-of-production, table-between}
 use Rattle.ccg.proofs.TextLaws.{class-text-parts}
 use Rattle.ccg.specs.Tables.{takesNumber, tableClass}
 use Rattle.ccg.specs.Text.{rangeText, classText, bracketOpen, bracketClose}

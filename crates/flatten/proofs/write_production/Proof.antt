@@ -13,8 +13,8 @@ use Rattle.grammar.specs.Classes.{isClass, classHas}
 use Rattle.grammar.specs.Layout.{argumentCount, productionAt, argument}
 use Rattle.grammar.specs.Limits.{classBase}
 use Rattle.tables.specs.Layout.{slot}
-use Rattle.flatten.proofs.flat.write_production.Statement.{statement}
-use Rattle.flatten.proofs.flat.write_production.Tie as tie
+use Rattle.flatten.proofs.write_production.Statement.{statement}
+use Rattle.flatten.proofs.write_production.Tie as tie
 
 argument-read : (b : List ℕ) (p i at x : ℕ) → at ≡ productionAt b p → x ≡ getD b (at + 1 + i) 0 → x ≡ argument b p i
 unfolding argument

@@ -9,8 +9,8 @@ use Rattle.grammar.proofs.FormedLaws.{bodies-in}
 use Rattle.grammar.specs.Layout.{productions, startSort}
 use Rattle.grammar.specs.Limits.{headerLength}
 use Rattle.tables.specs.Put.{CountsPut}
-use Rattle.flatten.proofs.flat.write_counts_and_root.Statement.{statement}
-use Rattle.flatten.proofs.flat.write_counts_and_root.Tie as tie
+use Rattle.flatten.proofs.write_counts_and_root.Statement.{statement}
+use Rattle.flatten.proofs.write_counts_and_root.Tie as tie
 
 production-count-requires : tie.Need-production-count-requires
 production-count-requires c κs = search needs

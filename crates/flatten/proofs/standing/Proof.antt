@@ -6,8 +6,8 @@ use lib.Dec.{eqb, leb}
 use borrow.Author.Needs.{needs}
 use Rattle.flatten.proofs.TableLaws.{taken-three}
 use Rattle.charset.specs.Set.{has}
-use Rattle.flatten.proofs.flat.standing.Statement.{statement}
-use Rattle.flatten.proofs.flat.standing.Tie as tie
+use Rattle.flatten.proofs.standing.Statement.{statement}
+use Rattle.flatten.proofs.standing.Tie as tie
 
 without-requires : tie.Need-without-requires
 without-requires c κs = search needs

@@ -9,8 +9,8 @@ use Rattle.grammar.proofs.LayoutLaws.{production-first, production-next}
 use Rattle.grammar.specs.Layout.{productions, productionAt}
 use Rattle.priority.specs.Priorities.{kindNumber}
 use Rattle.tables.specs.Layout.{slot}
-use Rattle.flatten.proofs.flat.flatten.Statement.{statement}
-use Rattle.flatten.proofs.flat.flatten.Tie as tie
+use Rattle.flatten.proofs.flatten.Statement.{statement}
+use Rattle.flatten.proofs.flatten.Tie as tie
 
 abbrev Inv-loop : tie.InvT-loop
 Inv-loop book tables₀ above firsts lasts sets count at₀ p₀ tables at p = WrittenBelow book (slot p 0) tables × ((at ≡ productionAt book p) × (p ≤ count))

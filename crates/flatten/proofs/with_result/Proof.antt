@@ -9,8 +9,8 @@ use Rattle.flatten.specs.Tables.{resultHas}
 use Rattle.charset.specs.Set.{bit, wordBits}
 use Rattle.grammar.specs.Limits.{sortLimit}
 use Rattle.tables.specs.Layout.{productionWords}
-use Rattle.flatten.proofs.flat.with_result.Statement.{statement}
-use Rattle.flatten.proofs.flat.with_result.Tie as tie
+use Rattle.flatten.proofs.with_result.Statement.{statement}
+use Rattle.flatten.proofs.with_result.Tie as tie
 
 wide-requires : tie.Need-wide-requires
 wide-requires c κs = search needs

@@ -1,23 +1,16 @@
 -- Terminals of a character class grammar whose lines have their own numbers.
 use Prim.Native.Nat.{ℕ, zero, suc, _-_, _≤_, _<_}
-use mathlib.Core.Path.{_≡_, refl, sym, _∙_, ap, subst}
 use mathlib.Core.Bool.{false, true, not, true≢false, and-false}
 use mathlib.Core.List.{List, [], _∷_}
 use mathlib.Core.Logic.{⊎-elim}
+use mathlib.Core.Path.{_≡_, refl, sym, _∙_, subst}
 use native.Mathlib.Omega.{arith}
 use lib.Dec.{eqb}
 use lib.ListN.{length, getD}
 use borrow.Author.Tests.{eqb-true, eq-eqb}
-use Rattle.ccg.specs.Ccg.{Line, noLine, isTerminal}
-use Rattle.ccg.specs.Tables.{tableLine, tableGrammar}
+use Rattle.ccg.specs.Ccg.{Line, noLine, isTerminal, OwnNumbers}
 use Rattle.common.proofs.BoolLaws.{true-or-false}
-use Rattle.common.proofs.ListLaws.{length-tabulate, getD-tabulate}
-use Rattle.tables.specs.Layout.{countsOf}
 use Rattle.theory.specs.Tree.{productionNumber}
-
--- every line has its own number as its result
-pub record OwnNumbers (g : List Line) : Type 0 where
-  pub own : (p : ℕ) → p < length g → getD g p noLine .result ≡ productionNumber p
 
 -- the result of a line is no terminal
 result-not-terminal : (g : List Line) (n k : ℕ) → k < length g → getD g k noLine .result ≡ n → isTerminal g n ≡ false
@@ -47,30 +40,15 @@ module _ (g : List Line) (numbered : OwnNumbers g) where
       let same : n ≡ productionNumber k = sym r ∙ numbered .own k l in
       (omega arith, omega arith)
 
--- ---- the character class grammar that tables hold is one
-
-module _ (t : List ℕ) where
-  abbrev count : ℕ
-  count = length (countsOf t)
-
-  table-length : length (tableGrammar t) ≡ count
-  unfolding tableGrammar
-  table-length = length-tabulate count (tableLine t)
-
-  table-numbered : OwnNumbers (tableGrammar t)
-  unfolding tableGrammar tableLine
-  table-numbered = record { own = λ p l. ap (λ (x : Line). x .result) (getD-tabulate count (tableLine t) p noLine (omega (arith, table-length))) }
-
-  pub table-production : (n : ℕ) → productionNumber 0 ≤ n → n < productionNumber count → isTerminal (tableGrammar t) n ≡ false
-  table-production n l h =
+  pub number-no-terminal : (n : ℕ) → productionNumber 0 ≤ n → n < productionNumber (length g) → isTerminal g n ≡ false
+  number-no-terminal n l h =
       let e : productionNumber (n - productionNumber 0) ≡ n = omega arith in
-      subst (λ (k : ℕ). isTerminal (tableGrammar t) k ≡ false) e
-      (production-no-terminal (tableGrammar t) table-numbered (n - productionNumber 0) (omega (arith, table-length)))
+      subst (λ (k : ℕ). isTerminal g k ≡ false) e (production-no-terminal (n - productionNumber 0) (omega arith))
 
   -- every other number is a terminal
-  pub table-terminal : (n : ℕ) → (productionNumber 0 ≤ n → n < productionNumber count → ⊥) → isTerminal (tableGrammar t) n ≡ true
-  table-terminal n none-of =
+  pub other-terminal : (n : ℕ) → (productionNumber 0 ≤ n → n < productionNumber (length g) → ⊥) → isTerminal g n ≡ true
+  other-terminal n none-of =
       ⊎-elim
       (λ e. e)
-      (λ e. let (same, l) = no-terminal-production (tableGrammar t) table-numbered n e in absurd (none-of (omega arith) (omega (arith, table-length))))
-      (true-or-false (isTerminal (tableGrammar t) n))
+      (λ e. let (same, l) = no-terminal-production n e in absurd (none-of (omega arith) (omega arith)))
+      (true-or-false (isTerminal g n))

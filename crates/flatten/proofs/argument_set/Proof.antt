@@ -6,8 +6,8 @@ use borrow.Author.Needs.{needs}
 use Rattle.grammar.specs.Classes.{isClass}
 use Rattle.grammar.specs.Layout.{classes}
 use Rattle.grammar.specs.Limits.{classBase}
-use Rattle.flatten.proofs.flat.argument_set.Statement.{statement}
-use Rattle.flatten.proofs.flat.argument_set.Tie as tie
+use Rattle.flatten.proofs.argument_set.Statement.{statement}
+use Rattle.flatten.proofs.argument_set.Tie as tie
 
 empty-requires : tie.Need-empty-requires
 empty-requires c κs = search needs

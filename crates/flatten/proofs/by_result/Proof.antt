@@ -11,8 +11,8 @@ use Rattle.grammar.proofs.LayoutLaws.{production-first, production-next}
 use Rattle.grammar.specs.Formed.{WellFormed}
 use Rattle.grammar.specs.Layout.{productions, productionAt, result}
 use Rattle.grammar.specs.Limits.{sortLimit, productionLimit}
-use Rattle.flatten.proofs.flat.by_result.Statement.{statement}
-use Rattle.flatten.proofs.flat.by_result.Tie as tie
+use Rattle.flatten.proofs.by_result.Statement.{statement}
+use Rattle.flatten.proofs.by_result.Tie as tie
 
 -- the byte at a production's place is its result, which is a sort
 result-read : (b : List ℕ) → WellFormed b → (q at x : ℕ) → q < productions b → at ≡ productionAt b q → x ≡ getD b at 0 → (x ≡ result b q) × (x < sortLimit) × (q < productionLimit)
