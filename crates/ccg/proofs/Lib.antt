@@ -9,3 +9,4 @@ pub mod PutLaws
 pub mod RunPutLaws
 pub mod TextUniqueLaws
 pub mod WrittenLaws
+pub mod ListingLaws
