@@ -1,0 +1,3 @@
+-- Laws of the rows.
+pub mod RowsLaws
+pub mod WalkLaws

@@ -1,0 +1,4 @@
+-- What the contracts of the rows cite.
+pub mod Rows
+pub mod Table
+pub mod Walk

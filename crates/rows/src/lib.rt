@@ -1,0 +1,67 @@
+// The rows of a listing that is right: for each number how deep it stands, and where its text starts and ends.
+use charset::CHARACTERS;
+use grammar::layout::argument_count;
+use numbers::number_at;
+use tables::FIRST_PRODUCTION;
+ghost use mathlib.Core.Path.{_≡_};
+ghost use Prim.Native.Nat.{_≤_, _<_};
+ghost use lib.ListN.{length, set};
+ghost use Rattle.grammar.specs.Layout.{bodiesAt};
+ghost use Rattle.numbers.specs.Numbers.{numbersOf};
+ghost use Rattle.theory.specs.Tree.{Tree};
+ghost use Rattle.rows.specs.Table.{numberLimit, packed};
+ghost use Rattle.rows.specs.Walk.{ListedAt, Placed};
+
+// Most numbers of a listing.
+pub const NUMBER_LIMIT: usize = 4096;
+
+// Every place in a text is below this.
+pub const PLACES: usize = 256;
+
+// Where numbers and text go on behind a tree.
+pub struct Next {
+    pub number: usize,
+    pub byte: usize,
+}
+
+// The walk over the tree that begins at number `at`, and whose text begins at `place`: its rows go to the table. The end of a production's text is known when the
+// trees of its arguments are placed.
+pub fn place_tree(
+    book: &[u8],
+    listing: &[u8],
+    table: &mut [u64],
+    depth: usize,
+    at: usize,
+    place: usize,
+) -> Next
+    requires { ⌜ bodiesAt (now book) ≤ length (now book) ⌝ }
+    requires { ⌜ (length (numbersOf (now listing)) ≤ length (now table)) × (length (now table) ≤ numberLimit) × (depth ≤ at) × (place ≤ at) ⌝ }
+    requires { ⌜ ((t : Tree) × ListedAt (now book) (numbersOf (now listing)) at t) ⌝ }
+    ensures { λ r. ⌜ ((t : Tree) → ListedAt (now (book .entry)) (numbersOf (now (listing .entry))) at t → Placed t depth at place (now (table .entry)) (now (table .exit)) r) ⌝ }
+{
+    let n = number_at(listing, at);
+    if n < CHARACTERS {
+        put_row(table, at, depth, place, place + 1);
+        return Next { number: at + 1, byte: place + 1 };
+    }
+    let count = argument_count(book, n - FIRST_PRODUCTION);
+    let mut number = at + 1;
+    let mut byte = place;
+    let mut d = 0;
+    while d < count {
+        let next = place_tree(book, listing, table, depth + 1, number, byte);
+        number = next.number;
+        byte = next.byte;
+        d += 1;
+    }
+    put_row(table, at, depth, place, byte);
+    Next { number: number, byte: byte }
+}
+
+// Puts a row into the table.
+fn put_row(table: &mut [u64], at: usize, depth: usize, start: usize, end: usize)
+    requires { ⌜ (at < length (now table)) × (depth ≤ numberLimit) × (start ≤ numberLimit) × (end ≤ numberLimit) ⌝ }
+    ensures { λ _. ⌜ now (table .exit) ≡ set (now (table .entry)) at (packed depth start end) ⌝ }
+{
+    table[at] = ((depth * PLACES + start) * PLACES + end) as u64;
+}
