@@ -1,3 +1,5 @@
 -- Laws of the rows.
+
 pub mod RowsLaws
 pub mod WalkLaws
+pub mod TableLaws

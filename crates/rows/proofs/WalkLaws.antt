@@ -1,8 +1,8 @@
 -- The walk over a tree: the trees of a production's arguments are placed one behind the other, and then the production itself.
 use Prim.Native.Nat.{ℕ, zero, suc, _+_, _-_, _≤_, _<_}
-use mathlib.Core.Path.{_≡_, refl, sym, _∙_, ap, ap₂, subst}
 use mathlib.Core.List.{List, [], _∷_, _++_, append-assoc, map, map-append, append-nil}
 use mathlib.Core.Logic.{by-cases}
+use mathlib.Core.Path.{_≡_, refl, sym, _∙_, ap, ap₂, subst}
 use native.Mathlib.Decide.{decLt}
 use native.Mathlib.Numerals.{add-one}
 use native.Mathlib.Omega.{arith}
@@ -15,7 +15,7 @@ use Rattle.grammar.proofs.ClassesLaws.{class-character}
 use Rattle.grammar.specs.Layout.{productions, argumentCount, argument}
 use Rattle.grammar.specs.Limits.{classBase}
 use Rattle.rows.proofs.RowsLaws.{rows-below-length, yields-short}
-use Rattle.rows.specs.Rows.{Row, rows, rowsBelow}
+use Rattle.rows.specs.Rows.{rows, rowsBelow}
 use Rattle.rows.specs.Table.{word, packed}
 use Rattle.rows.specs.Walk.{ListedAt, words, Placed}
 use Rattle.rows.specs.declared.Next.{Next}

@@ -2,15 +2,10 @@
 use Prim.Native.Nat.{ℕ, _+_}
 use mathlib.Core.List.{List, [], _∷_, _++_}
 use lib.ListN.{length}
+use Rattle.rows.specs.declared.Row.{Row}
 use Rattle.theory.specs.Tree.{Tree, leaf, node, Forest, none, _▷_, productionNumber, yields}
 
 -- How far below the root a number stands; the number; where its text starts, and the index after the text's last byte.
-pub record Row : Type 0 where
-  pub depth : ℕ
-  pub number : ℕ
-  pub start : ℕ
-  pub end : ℕ
-
 abbrev pub row : (depth number start end : ℕ) → Row
 row depth number start end = record { depth = depth; number = number; start = start; end = end }
 

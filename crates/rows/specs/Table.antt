@@ -3,7 +3,8 @@ use Prim.Native.Nat.{ℕ, _+_, _*_, _/_, _%_}
 use mathlib.Core.List.{List}
 use lib.ListN.{length, getD}
 use Rattle.common.specs.Lists.{tabulate}
-use Rattle.rows.specs.Rows.{Row, row}
+use Rattle.rows.specs.Rows.{row}
+use Rattle.rows.specs.declared.Row.{Row}
 
 -- how many numbers a listing has at most
 abbrev pub numberLimit : ℕ

@@ -5,18 +5,26 @@ use numbers::number_at;
 use tables::FIRST_PRODUCTION;
 ghost use mathlib.Core.Path.{_≡_};
 ghost use Prim.Native.Nat.{_≤_, _<_};
-ghost use lib.ListN.{length, set};
+ghost use lib.ListN.{length, getD, set};
 ghost use Rattle.grammar.specs.Layout.{bodiesAt};
 ghost use Rattle.numbers.specs.Numbers.{numbersOf};
 ghost use Rattle.theory.specs.Tree.{Tree};
-ghost use Rattle.rows.specs.Table.{numberLimit, packed};
+ghost use Rattle.rows.specs.Table.{numberLimit, packed, unpacked};
 ghost use Rattle.rows.specs.Walk.{ListedAt, Placed};
 
 // Most numbers of a listing.
 pub const NUMBER_LIMIT: usize = 4096;
 
 // Every place in a text is below this.
-pub const PLACES: usize = 256;
+const PLACES: usize = 256;
+
+// Where a number of a listing stands: how far below the root; the number; where its text starts, and the index after the text's last byte.
+pub struct Row {
+    pub depth: usize,
+    pub number: usize,
+    pub start: usize,
+    pub end: usize,
+}
 
 // Where numbers and text go on behind a tree.
 pub struct Next {
@@ -64,4 +72,18 @@ fn put_row(table: &mut [u64], at: usize, depth: usize, start: usize, end: usize)
     ensures { λ _. ⌜ now (table .exit) ≡ set (now (table .entry)) at (packed depth start end) ⌝ }
 {
     table[at] = ((depth * PLACES + start) * PLACES + end) as u64;
+}
+
+// The row of number k that the table has.
+pub fn row_at(listing: &[u8], table: &[u64], k: usize) -> Row
+    requires { ⌜ (k < length (numbersOf (now listing))) × (k < length (now table)) ⌝ }
+    ensures { λ r. ⌜ r ≡ unpacked (getD (numbersOf (now (listing .entry))) k 0) (getD (now (table .entry)) k 0) ⌝ }
+{
+    let word = table[k] as usize;
+    Row {
+        depth: word / PLACES / PLACES,
+        number: number_at(listing, k),
+        start: word / PLACES % PLACES,
+        end: word % PLACES,
+    }
 }

@@ -1,0 +1,3 @@
+-- What the contracts of the page cite.
+pub mod Text
+pub mod Answer

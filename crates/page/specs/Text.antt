@@ -1,0 +1,60 @@
+-- The page of a tree's rows (02, [1]): a line of 73 bytes for each.
+use Prim.Native.Nat.{ℕ, _+_, _-_}
+use mathlib.Core.Bool.{cond, _&&_}
+use mathlib.Core.List.{List, [], _∷_, _++_}
+use lib.Dec.{leb, ltb}
+use lib.ListN.{getD}
+use Rattle.common.specs.Lists.{tabulate, joined}
+use Rattle.rows.specs.Rows.{Row}
+use Rattle.writing.specs.Bytes.{space, lineFeed}
+use Rattle.writing.specs.Numeral.{setRight}
+
+-- ---- how wide the columns are
+
+-- depths and numbers
+abbrev pub numberWidth : ℕ
+numberWidth = 4
+
+-- places in the text
+abbrev pub placeWidth : ℕ
+placeWidth = 3
+
+-- the text
+abbrev pub textWidth : ℕ
+textWidth = 54
+
+-- a line, its line feed included
+abbrev pub lineLength : ℕ
+lineLength = 73
+
+-- ---- what stands in them
+
+-- the last byte that is printed as it is; the first is the space
+abbrev pub tilde : ℕ
+tilde = 126
+
+abbrev pub fullStop : ℕ
+fullStop = 46
+
+-- a byte outside 32 to 126 is printed as a full stop
+unfoldable pub printed : ℕ → ℕ
+printed c = cond (leb space c && leb c tilde) c fullStop
+
+-- column c of the text from start to end: its byte, or a space if the text ends before it
+unfoldable pub shown : (w : List ℕ) (start end c : ℕ) → ℕ
+shown w start end c = cond (ltb (start + c) end) (printed (getD w (start + c) 0)) space
+
+-- a number set right, and the space behind it
+unfoldable pub column : (width n : ℕ) → List ℕ
+column width n = setRight width n ++ (space ∷ [])
+
+-- ---- lines
+
+-- depth, number, start and end; then the text's first bytes, filled with spaces
+unfoldable pub rowText : List ℕ → Row → List ℕ
+rowText w r =
+    column numberWidth (r .depth) ++ column numberWidth (r .number) ++ column placeWidth (r .start) ++ column placeWidth (r .end)
+    ++ tabulate textWidth (shown w (r .start) (r .end)) ++ (lineFeed ∷ [])
+
+unfoldable pub pageText : List ℕ → List Row → List ℕ
+pageText w rs = joined (rowText w) rs
