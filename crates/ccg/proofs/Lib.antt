@@ -3,9 +3,7 @@ pub mod CcgLaws
 pub mod TerminalLaws
 pub mod TextLaws
 pub mod TablesLaws
-pub mod NumeralLaws
 pub mod LineLaws
-pub mod PutLaws
 pub mod RunPutLaws
 pub mod TextUniqueLaws
 pub mod WrittenLaws

@@ -5,9 +5,10 @@ use mathlib.Core.List.{[], _∷_, _++_}
 use native.Mathlib.Omega.{arith}
 use lib.ListN.{length, length-append}
 use Rattle.ccg.specs.Ccg.{Class, Line}
-use Rattle.ccg.specs.Text.{classText, argumentsText, lineText, grammarText, space}
+use Rattle.ccg.specs.Text.{classText, argumentsText, lineText, grammarText}
 use Rattle.common.proofs.ListLaws.{joined-tabulate-next, joined-grows}
 use Rattle.common.specs.Lists.{tabulate, joined}
+use Rattle.writing.specs.Bytes.{space}
 
 module _ (g : ℕ → Class) where
   pub arguments-text-none : argumentsText (tabulate 0 g) ≡ []

@@ -6,13 +6,13 @@ use mathlib.Core.List.{List, [], _∷_, _++_, append-assoc, append-nil}
 use native.Mathlib.Omega.{arith}
 use native.Mathlib.Nat.{le-refl}
 use lib.ListN.{length, length-append}
-use Rattle.ccg.proofs.PutLaws.{put-none, put-append, put-same}
-use Rattle.ccg.specs.Put.{Put}
 use Rattle.ccg.specs.Text.{rangeText}
 use Rattle.charset.proofs.RunLaws.{runs-rest}
 use Rattle.charset.specs.Runs.{Range, range, runs, firstRun}
 use Rattle.charset.specs.declared.NextRun.the-variants.{Run, End}
 use Rattle.common.specs.Lists.{joined}
+use Rattle.writing.proofs.PutLaws.{put-none, put-append, put-same}
+use Rattle.writing.specs.Put.{Put}
 
 -- The ranges up to `from` are put; those from there on are left.
 pub record RunsPut (f : ℕ → Bool) (start limit : ℕ) (l₀ : List ℕ) (at from : ℕ) (l : List ℕ) (place : ℕ) : Type 0 where

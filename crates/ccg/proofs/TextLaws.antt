@@ -1,17 +1,14 @@
--- Laws of the written form of a character class grammar: numerals, classes, and how long a text is.
-use Prim.Native.Nat.{ℕ, zero, suc, _+_, _-_, _*_, _/_, _%_, _≤_, _<_}
-use mathlib.Core.Path.{_≡_, refl, sym, _∙_}
+-- Laws of the written form of a character class grammar: classes, and how long a text is.
+use Prim.Native.Nat.{ℕ, suc, _+_, _-_, _*_, _≤_, _<_}
+use mathlib.Core.Path.{_≡_, refl}
 use mathlib.Core.Bool.{Bool, false, true, cond}
 use mathlib.Core.List.{List, [], _∷_, _++_, append-assoc}
-use mathlib.Core.Logic.{by-cases}
 use native.Mathlib.Omega.{arith}
-use native.Mathlib.Decide.{decLt}
-use native.Mathlib.Nat.{le-refl}
 use lib.Dec.{eqb}
-use lib.ListN.{length, getD, length-append, List·getD-append}
-use borrow.Author.Tests.{lt-ltb, le-ltb, eq-eqb}
+use lib.ListN.{length, getD, length-append}
+use borrow.Author.Tests.{eq-eqb}
 use Rattle.ccg.specs.Ccg.{Class, Line, noLine, noClass}
-use Rattle.ccg.specs.Text.{decimal, numeral, rangeText, classText, argumentsText, resultText, lineText, grammarText, lineFeed, space, dash, digitZero, bracketOpen, backslash, bracketClose, numeralBase, numberLimit}
+use Rattle.ccg.specs.Text.{rangeText, classText, argumentsText, resultText, lineText, grammarText, dash, bracketOpen, backslash, bracketClose, numberLimit}
 use Rattle.charset.proofs.RunLaws.{runs-skip, runs-split, runs-one, Bounded, runs-count, runs-bound}
 use Rattle.charset.specs.Runs.{Range, range, runs}
 use Rattle.charset.specs.Set.{characters}
@@ -19,99 +16,9 @@ use Rattle.common.proofs.ListLaws.{length-tabulate, getD-tabulate, joined-appen
 use Rattle.common.specs.Lists.{tabulate, joined}
 use Rattle.grammar.specs.Limits.{productionLimit, argumentLimit}
 use Rattle.theory.specs.Tree.{productionNumber}
-
--- ---- numerals
-
-decimal-small : (fuel n : ℕ) → n < numeralBase → decimal fuel n ≡ (digitZero + n) ∷ []
-unfolding decimal
-decimal-small zero n h = refl
-decimal-small (suc fuel) n h = rw (lt-ltb n numeralBase h) refl
-
-decimal-more : (fuel n : ℕ) → numeralBase ≤ n → decimal (suc fuel) n ≡ decimal fuel (n / numeralBase) ++ ((digitZero + n % numeralBase) ∷ [])
-unfolding decimal
-decimal-more fuel n h = rw (le-ltb n numeralBase h) refl
-
--- fuel that is enough does not matter
-decimal-fuel : (f g n : ℕ) → n ≤ f → n ≤ g → decimal f n ≡ decimal g n
-decimal-fuel zero g n h k = decimal-small zero n (omega arith) ∙ sym (decimal-small g n (omega arith))
-decimal-fuel (suc f) zero n h k = decimal-small (suc f) n (omega arith) ∙ sym (decimal-small zero n (omega arith))
-decimal-fuel (suc f) (suc g) n h k =
-    by-cases (decLt n numeralBase)
-    (λ l. decimal-small (suc f) n l ∙ sym (decimal-small (suc g) n l))
-    (λ l. rw (decimal-more f n (omega arith), decimal-more g n (omega arith), decimal-fuel f g (n / numeralBase) (omega arith) (omega arith)) refl)
-
-pub numeral-small : (n : ℕ) → n < numeralBase → numeral n ≡ (digitZero + n) ∷ []
-unfolding numeral
-numeral-small n h = decimal-small n n h
-
-pub numeral-more : (n : ℕ) → numeralBase ≤ n → numeral n ≡ numeral (n / numeralBase) ++ ((digitZero + n % numeralBase) ∷ [])
-unfolding numeral
-numeral-more zero h = absurd (omega arith)
-numeral-more (suc m) h = decimal-more m (suc m) h ∙ rw (decimal-fuel m (suc m / numeralBase) (suc m / numeralBase) (omega arith) (le-refl (suc m / numeralBase))) refl
-
-decimal-short : (fuel n : ℕ) → length (decimal fuel n) ≤ fuel + 1
-unfolding decimal
-decimal-short zero n = le-refl 1
-decimal-short (suc fuel) n =
-    by-cases (decLt n numeralBase)
-    (λ l. rw (decimal-small (suc fuel) n l) (omega arith))
-    (λ l. rw (decimal-more fuel n (omega arith), length-append (decimal fuel (n / numeralBase)) ((digitZero + n % numeralBase) ∷ [])) (omega (arith, decimal-short fuel (n / numeralBase))))
-
-pub numeral-short : (n : ℕ) → length (numeral n) ≤ n + 1
-unfolding numeral
-numeral-short n = decimal-short n n
-
--- ---- the number that digits say
-
--- digits from left to right, behind those that say v
-unfoldable pub valueFrom : ℕ → List ℕ → ℕ
-valueFrom v [] = v
-valueFrom v (d ∷ ds) = valueFrom (v * numeralBase + (d - digitZero)) ds
-
-unfoldable pub valueOf : List ℕ → ℕ
-valueOf ds = valueFrom 0 ds
-
-value-append : (v : ℕ) (ds es : List ℕ) → valueFrom v (ds ++ es) ≡ valueFrom (valueFrom v ds) es
-unfolding valueFrom
-value-append v [] es = refl
-value-append v (d ∷ ds) es = value-append (v * numeralBase + (d - digitZero)) ds es
-
-value-one : (v d : ℕ) → valueFrom v ((digitZero + d) ∷ []) ≡ v * numeralBase + d
-unfolding valueFrom
-value-one v d = omega arith
-
-decimal-value : (fuel n : ℕ) → n ≤ fuel → valueFrom 0 (decimal fuel n) ≡ n
-decimal-value zero n h = rw (decimal-small zero n (omega arith), value-one 0 n) (omega arith)
-decimal-value (suc fuel) n h =
-    by-cases (decLt n numeralBase)
-    (λ l. rw (decimal-small (suc fuel) n l, value-one 0 n) (omega arith))
-    (λ l. rw (decimal-more fuel n (omega arith), value-append 0 (decimal fuel (n / numeralBase)) ((digitZero + n % numeralBase) ∷ []), decimal-value fuel (n / numeralBase) (omega arith), value-one (n / numeralBase) (n % numeralBase)) (omega arith))
-
--- a numeral says its number
-pub numeral-value : (n : ℕ) → valueOf (numeral n) ≡ n
-unfolding valueOf numeral
-numeral-value n = decimal-value n n (le-refl n)
-
-decimal-some : (fuel n : ℕ) → 0 < length (decimal fuel n)
-unfolding decimal
-decimal-some zero n = omega arith
-decimal-some (suc fuel) n =
-    by-cases (decLt n numeralBase)
-    (λ l. rw (decimal-small (suc fuel) n l) (omega arith))
-    (λ l. rw (decimal-more fuel n (omega arith), length-append (decimal fuel (n / numeralBase)) ((digitZero + n % numeralBase) ∷ [])) (omega arith))
-
-decimal-leading : (fuel n : ℕ) → n ≤ fuel → getD (decimal fuel n) 0 0 ≡ digitZero → n ≡ 0
-decimal-leading zero n h e = omega arith
-decimal-leading (suc fuel) n h e =
-    by-cases (decLt n numeralBase)
-    (λ l. omega (arith, rw (decimal-small (suc fuel) n l) at e))
-    (λ l. let front = List·getD-append (decimal fuel (n / numeralBase)) ((digitZero + n % numeralBase) ∷ []) 0 0 (decimal-some fuel (n / numeralBase)) in
-    omega (arith, decimal-leading fuel (n / numeralBase) (omega arith) (sym front ∙ rw (decimal-more fuel n (omega arith)) at e)))
-
--- only 0 begins with the digit 0
-pub numeral-leading : (n : ℕ) → getD (numeral n) 0 0 ≡ digitZero → n ≡ 0
-unfolding numeral
-numeral-leading n e = decimal-leading n n (le-refl n) e
+use Rattle.writing.proofs.NumeralLaws.{numeral-short}
+use Rattle.writing.specs.Bytes.{lineFeed, space}
+use Rattle.writing.specs.Numeral.{numeral}
 
 -- ---- classes
 

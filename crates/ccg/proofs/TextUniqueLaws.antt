@@ -10,12 +10,14 @@ use native.Mathlib.Nat.{le-refl}
 use lib.Dec.{eqb}
 use lib.ListN.{length, getD, length-append}
 use borrow.Author.Tests.{eq-eqb, ne-eqb}
-use Rattle.ccg.proofs.TextLaws.{numeral-small, numeral-more, valueOf, numeral-value}
 use Rattle.ccg.specs.Ccg.{Class, Line, noClass}
-use Rattle.ccg.specs.Text.{space, dash, digitZero, bracketOpen, backslash, bracketClose, numeral, rangeText, numberLimit, classText, argumentsText, resultText, lineText, numeralBase}
+use Rattle.ccg.specs.Text.{dash, bracketOpen, backslash, bracketClose, rangeText, numberLimit, classText, argumentsText, resultText, lineText}
 use Rattle.charset.proofs.RunLaws.{runs-covered}
 use Rattle.charset.specs.Runs.{Range, runs, covered}
 use Rattle.common.specs.Lists.{joined}
+use Rattle.writing.proofs.NumeralLaws.{numeral-small, numeral-more, numeral-value}
+use Rattle.writing.specs.Bytes.{space}
+use Rattle.writing.specs.Numeral.{digitZero, numeralBase, numeral, valueOf}
 
 -- ---- numerals
 

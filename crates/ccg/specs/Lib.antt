@@ -2,5 +2,4 @@
 pub mod Ccg
 pub mod Text
 pub mod Written
-pub mod Put
 pub mod Tables

@@ -1,28 +1,20 @@
 -- The written form of a character class grammar (01, "The flat book").
-use Prim.Native.Nat.{ℕ, zero, suc, _+_, _*_, _/_, _%_}
+use Prim.Native.Nat.{ℕ}
 use mathlib.Core.Bool.{cond}
 use mathlib.Core.List.{List, [], _∷_, _++_}
-use lib.Dec.{ltb, eqb}
+use lib.Dec.{eqb}
 use Rattle.ccg.specs.Ccg.{Class, Line}
 use Rattle.charset.specs.Runs.{Range, runs}
 use Rattle.common.specs.Lists.{joined}
 use Rattle.grammar.specs.Limits.{productionLimit}
 use Rattle.theory.specs.Tree.{productionNumber}
+use Rattle.writing.specs.Bytes.{lineFeed, space}
+use Rattle.writing.specs.Numeral.{numeral}
 
 -- ---- the bytes between the numbers
 
-abbrev pub lineFeed : ℕ
-lineFeed = 10
-
-abbrev pub space : ℕ
-space = 32
-
 abbrev pub dash : ℕ
 dash = 45
-
--- the digit 0; the others follow it
-abbrev pub digitZero : ℕ
-digitZero = 48
 
 abbrev pub greater : ℕ
 greater = 62
@@ -35,28 +27,6 @@ backslash = 92
 
 abbrev pub bracketClose : ℕ
 bracketClose = 93
-
--- ---- numerals
-
-abbrev pub numeralBase : ℕ
-numeralBase = 10
-
--- the numbers below this have at most two digits
-abbrev pub twoDigits : ℕ
-twoDigits = numeralBase * numeralBase
-
--- and those below this at most three
-abbrev pub threeDigits : ℕ
-threeDigits = twoDigits * numeralBase
-
--- The digits of n in base ten, at most fuel + 1 of them.
-unfoldable pub decimal : ℕ → ℕ → List ℕ
-decimal zero n = (digitZero + n) ∷ []
-decimal (suc fuel) n = cond (ltb n numeralBase) ((digitZero + n) ∷ []) (decimal fuel (n / numeralBase) ++ ((digitZero + n % numeralBase) ∷ []))
-
--- n in base ten, no leading zeros.
-unfoldable pub numeral : ℕ → List ℕ
-numeral n = decimal n n
 
 -- ---- classes
 

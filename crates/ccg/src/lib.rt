@@ -10,8 +10,10 @@ use tables::argument_count;
 use tables::class_chars;
 use tables::production_count;
 use tables::takes_production;
+use writing::put;
+use writing::put_numeral;
 ghost use mathlib.Core.Path.{_≡_};
-ghost use mathlib.Core.List.{[], _∷_};
+ghost use mathlib.Core.List.{_∷_};
 ghost use Prim.Native.Nat.{_+_, _-_, _<_, _≤_};
 ghost use lib.ListN.{length};
 ghost use Rattle.grammar.specs.Limits.{productionLimit};
@@ -20,51 +22,14 @@ ghost use Rattle.charset.specs.Set.{characters, has};
 ghost use Rattle.charset.specs.Runs.{range, runs, firstRun};
 ghost use Rattle.charset.specs.Sought.{Sought};
 ghost use Rattle.common.specs.Lists.{joined};
-ghost use Rattle.ccg.specs.Put.{Put, farthest};
-ghost use Rattle.ccg.specs.Text.{backslash, digitZero, numeral, numberLimit, rangeText, classText, resultText, lineText, grammarText, numeralBase, threeDigits};
+ghost use Rattle.writing.specs.Put.{Put, farthest};
+ghost use Rattle.writing.specs.Numeral.{numeral};
+ghost use Rattle.ccg.specs.Text.{backslash, numberLimit, rangeText, classText, resultText, lineText, grammarText};
 ghost use Rattle.tables.specs.Layout.{slots, tableWords, countsOf, ParserTables};
 ghost use Rattle.ccg.specs.Tables.{takesNumber, tableClass, tableLine, tableGrammar};
 
-// One byte.
-fn put(out: &mut [u8], at: usize, byte: u8) -> usize
-    requires { ⌜ at < farthest ⌝ }
-    ensures { λ r. ⌜ Put (byte ∷ []) (now (out .entry)) at (now (out .exit)) r ⌝ }
-{
-    if at < out.len() {
-        out[at] = byte;
-        return at + 1;
-    }
-    at + 1
-}
-
-// A numeral in base ten, no leading zeros. No number here has more than three digits.
-fn put_numeral(out: &mut [u8], at: usize, n: usize) -> usize
-    requires { ⌜ n < threeDigits ⌝ }
-    requires { ⌜ at + length (numeral n) ≤ farthest ⌝ }
-    ensures { λ r. ⌜ Put (numeral n) (now (out .entry)) at (now (out .exit)) r ⌝ }
-{
-    if n < 10 {
-        return put(out, at, digit(n));
-    }
-    if n < 100 {
-        let tens = put(out, at, digit(n / 10));
-        return put(out, tens, digit(n % 10));
-    }
-    let hundreds = put(out, at, digit(n / 100));
-    let tens = put(out, hundreds, digit(n / 10 % 10));
-    put(out, tens, digit(n % 10))
-}
-
-fn digit(n: usize) -> u8
-    requires { ⌜ n < numeralBase ⌝ }
-    ensures { λ r. ⌜ r ≡ digitZero + n ⌝ }
-{
-    b'0' + n as u8
-}
-
 // A range: \n for one number, \a-\b for more.
 fn put_range(out: &mut [u8], at: usize, low: usize, high: usize) -> usize
-    requires { ⌜ (low < threeDigits) × (high < threeDigits) ⌝ }
     requires { ⌜ at + length (rangeText (range low high)) ≤ farthest ⌝ }
     ensures { λ r. ⌜ Put (rangeText (range low high)) (now (out .entry)) at (now (out .exit)) r ⌝ }
 {
@@ -78,7 +43,6 @@ fn put_range(out: &mut [u8], at: usize, low: usize, high: usize) -> usize
 
 // A backslash and a numeral.
 fn put_number(out: &mut [u8], at: usize, n: usize) -> usize
-    requires { ⌜ n < threeDigits ⌝ }
     requires { ⌜ at + length (backslash ∷ numeral n) ≤ farthest ⌝ }
     ensures { λ r. ⌜ Put (backslash ∷ numeral n) (now (out .entry)) at (now (out .exit)) r ⌝ }
 {

@@ -3,10 +3,10 @@ use Prim.Native.Nat.{_-_}
 use mathlib.Core.Path.{sym, _∙_}
 use native.Mathlib.Omega.{arith}
 use borrow.Author.Needs.{needs}
-use Rattle.ccg.proofs.PutLaws.{put-long}
 use Rattle.ccg.proofs.RunPutLaws.{RunsPut, runs-put-none, runs-put-end, runs-put-past, run-low, run-rises, run-below, run-room, runs-put-more}
-use Rattle.ccg.specs.Put.{farthest}
 use Rattle.charset.specs.Set.{characters, has}
+use Rattle.writing.proofs.PutLaws.{put-long}
+use Rattle.writing.specs.Put.{farthest}
 use Rattle.ccg.proofs.put_char_runs.Statement.{statement}
 use Rattle.ccg.proofs.put_char_runs.Tie as tie
 
@@ -36,15 +36,10 @@ returns c = runs-put-end (has (c .before .before .before .before .before .before
 
 put-range-requires : tie.Need-put-range-requires Inv-loop μ-loop
 put-range-requires c κs =
-    let f = has (c .before .before .before .before .before .before .before .before .args .set .words) in
+    let start = c .before .before .before .before .before .before .before .before in
+    let turn = c .before .before .before .before .before .before .loop in
     let e = sym (c .before .before .before .before .next-run .ensures) ∙ c .before .before .low .given .1 in
-    let p = c .before .before .before .before .before .before .loop .inv in (
-      (
-        omega (arith, run-rises f 0 characters (c .before .before .before .before .before .before .before .before .args .out .now) (c .before .before .before .before .before .before .before .before .args .at) (c .before .before .before .before .before .before .loop .from) (c .before .before .before .before .before .before .loop .out) (c .before .before .before .before .before .before .loop .place) _ _ p (c .before .before .before .before .before .loop-test .taken) e, run-below f 0 characters (c .before .before .before .before .before .before .before .before .args .out .now) (c .before .before .before .before .before .before .before .before .args .at) (c .before .before .before .before .before .before .loop .from) (c .before .before .before .before .before .before .loop .out) (c .before .before .before .before .before .before .loop .place) _ _ p (c .before .before .before .before .before .loop-test .taken) e),
-        omega (arith, run-below f 0 characters (c .before .before .before .before .before .before .before .before .args .out .now) (c .before .before .before .before .before .before .before .before .args .at) (c .before .before .before .before .before .before .loop .from) (c .before .before .before .before .before .before .loop .out) (c .before .before .before .before .before .before .loop .place) _ _ p (c .before .before .before .before .before .loop-test .taken) e),
-      ),
-      run-room f 0 characters (c .before .before .before .before .before .before .before .before .args .out .now) (c .before .before .before .before .before .before .before .before .args .at) (c .before .before .before .before .before .before .loop .from) (c .before .before .before .before .before .before .loop .out) (c .before .before .before .before .before .before .loop .place) _ _ p (c .before .before .before .before .before .loop-test .taken) e farthest (c .before .before .before .before .before .before .before .before .pre),
-    )
+    run-room (has (start .args .set .words)) 0 characters (start .args .out .now) (start .args .at) (turn .from) (turn .out) (turn .place) _ _ (turn .inv) (c .before .before .before .before .before .loop-test .taken) e farthest (start .pre)
 
 add-from : tie.Need-add-from Inv-loop μ-loop
 add-from c =

@@ -5,7 +5,6 @@ use mathlib.Core.List.{List, [], _∷_, _++_}
 use native.Mathlib.Omega.{arith}
 use lib.ListN.{length, length-append}
 use borrow.Author.Needs.{needs}
-use Rattle.ccg.proofs.PutLaws.{put-append, put-same}
 use Rattle.ccg.proofs.TablesLaws.{table-of-character, table-of-production, table-between}
 use Rattle.ccg.proofs.TextLaws.{class-text-parts}
 use Rattle.ccg.specs.Tables.{takesNumber, tableClass}
@@ -17,6 +16,7 @@ use Rattle.common.specs.Lists.{joined}
 use Rattle.grammar.specs.Limits.{productionLimit}
 use Rattle.tables.specs.Layout.{takesChar}
 use Rattle.theory.specs.Tree.{productionNumber}
+use Rattle.writing.proofs.PutLaws.{put-append, put-same}
 use Rattle.ccg.proofs.put_class.Statement.{statement}
 use Rattle.ccg.proofs.put_class.Tie as tie
 

@@ -5,9 +5,7 @@ use mathlib.Core.List.{List}
 use native.Mathlib.Omega.{arith}
 use lib.ListN.{length}
 use Rattle.ccg.proofs.LineLaws.{lines-text-none, lines-text-next}
-use Rattle.ccg.proofs.PutLaws.{put-none, put-append, put-long, put-same}
 use Rattle.ccg.proofs.TextLaws.{line-text-short, tabulate-text-short, lineTextLimit, grammarTextLimit}
-use Rattle.ccg.specs.Put.{Put}
 use Rattle.ccg.specs.Tables.{tableClass, tableLine, tableGrammar}
 use Rattle.ccg.specs.Text.{lineText, grammarText}
 use Rattle.common.proofs.ListLaws.{length-tabulate}
@@ -15,6 +13,8 @@ use Rattle.common.specs.Lists.{tabulate}
 use Rattle.grammar.specs.Limits.{productionLimit, argumentLimit}
 use Rattle.tables.proofs.LayoutLaws.{counts-long}
 use Rattle.tables.specs.Layout.{slot, countsOf, arityIn, ParserTables}
+use Rattle.writing.proofs.PutLaws.{put-none, put-append, put-long, put-same}
+use Rattle.writing.specs.Put.{Put}
 use Rattle.ccg.proofs.put_grammar.Statement.{statement}
 use Rattle.ccg.proofs.put_grammar.Tie as tie
 

@@ -5,9 +5,7 @@ use mathlib.Core.List.{List, _++_}
 use native.Mathlib.Omega.{arith}
 use lib.ListN.{length, length-append}
 use Rattle.ccg.proofs.LineLaws.{arguments-text-none, arguments-text-next, arguments-text-room}
-use Rattle.ccg.proofs.PutLaws.{put-none, put-append, put-long, put-same}
 use Rattle.ccg.specs.Ccg.{Class}
-use Rattle.ccg.specs.Put.{Put}
 use Rattle.ccg.specs.Tables.{tableClass, tableLine}
 use Rattle.ccg.specs.Text.{argumentsText, resultText, lineText}
 use Rattle.common.specs.Lists.{tabulate}
@@ -15,6 +13,8 @@ use Rattle.grammar.specs.Limits.{productionLimit}
 use Rattle.tables.proofs.LayoutLaws.{counts-long}
 use Rattle.tables.specs.Layout.{slot, countsOf, arityIn, ParserTables}
 use Rattle.theory.specs.Tree.{productionNumber}
+use Rattle.writing.proofs.PutLaws.{put-none, put-append, put-long, put-same}
+use Rattle.writing.specs.Put.{Put}
 use Rattle.ccg.proofs.put_line.Statement.{statement}
 use Rattle.ccg.proofs.put_line.Tie as tie
 

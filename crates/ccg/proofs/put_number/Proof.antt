@@ -1,6 +1,6 @@
 -- `put_number` meets its contract.
 use borrow.Author.Needs.{needs}
-use Rattle.ccg.proofs.PutLaws.{put-append}
+use Rattle.writing.proofs.PutLaws.{put-append}
 use Rattle.ccg.proofs.put_number.Statement.{statement}
 use Rattle.ccg.proofs.put_number.Tie as tie
 

@@ -3,12 +3,12 @@ use Prim.Native.Nat.{_-_}
 use mathlib.Core.Path.{sym, _∙_}
 use native.Mathlib.Omega.{arith}
 use borrow.Author.Needs.{needs}
-use Rattle.ccg.proofs.PutLaws.{put-long}
 use Rattle.ccg.proofs.RunPutLaws.{RunsPut, runs-put-none, runs-put-end, runs-put-past, run-low, run-rises, run-below, run-room, runs-put-more}
-use Rattle.ccg.specs.Put.{farthest}
 use Rattle.ccg.specs.Tables.{takesNumber}
 use Rattle.ccg.specs.Text.{numberLimit}
 use Rattle.theory.specs.Tree.{productionNumber}
+use Rattle.writing.proofs.PutLaws.{put-long}
+use Rattle.writing.specs.Put.{farthest}
 use Rattle.ccg.proofs.put_production_runs.Statement.{statement}
 use Rattle.ccg.proofs.put_production_runs.Tie as tie
 
@@ -48,14 +48,8 @@ put-range-requires : tie.Need-put-range-requires Inv-loop μ-loop
 put-range-requires c κs =
     let start = c .before .before .before .before .before .before .before .before .before in
     let turn = c .before .before .before .before .before .before .loop in
-    let test = c .before .before .before .before .before .loop-test in
-    let f = takesNumber (start .args .tables .now) (start .args .s) in
     let e = sym (c .before .before .before .before .next-production-run .ensures) ∙ c .before .before .low .given .1 in
-    let rises = run-rises f (productionNumber 0) numberLimit (start .args .out .now) (start .args .at) (turn .from) (turn .out) (turn .place) _ _ (turn .inv) (test .taken) e in
-    let below = run-below f (productionNumber 0) numberLimit (start .args .out .now) (start .args .at) (turn .from) (turn .out) (turn .place) _ _ (turn .inv) (test .taken) e in (
-      (omega arith, omega arith),
-      run-room f (productionNumber 0) numberLimit (start .args .out .now) (start .args .at) (turn .from) (turn .out) (turn .place) _ _ (turn .inv) (test .taken) e farthest (start .pre .1),
-    )
+    run-room (takesNumber (start .args .tables .now) (start .args .s)) (productionNumber 0) numberLimit (start .args .out .now) (start .args .at) (turn .from) (turn .out) (turn .place) _ _ (turn .inv) (c .before .before .before .before .before .loop-test .taken) e farthest (start .pre .1)
 
 add-from : tie.Need-add-from Inv-loop μ-loop
 add-from c =

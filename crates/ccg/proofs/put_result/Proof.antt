@@ -5,10 +5,12 @@ use mathlib.Core.List.{List, [], _∷_, _++_, append-assoc}
 use native.Mathlib.Omega.{arith}
 use lib.ListN.{length, length-append}
 use borrow.Author.Needs.{needs}
-use Rattle.ccg.proofs.PutLaws.{put-append, put-same}
 use Rattle.ccg.proofs.TextLaws.{one-text}
-use Rattle.ccg.specs.Text.{numeral, resultText, lineFeed, space, dash, greater, bracketOpen, backslash, bracketClose, numberLimit}
+use Rattle.ccg.specs.Text.{resultText, dash, greater, bracketOpen, backslash, bracketClose, numberLimit}
 use Rattle.theory.specs.Tree.{productionNumber}
+use Rattle.writing.proofs.PutLaws.{put-append, put-same}
+use Rattle.writing.specs.Bytes.{lineFeed, space}
+use Rattle.writing.specs.Numeral.{numeral}
 use Rattle.ccg.proofs.put_result.Statement.{statement}
 use Rattle.ccg.proofs.put_result.Tie as tie
 
@@ -36,7 +38,7 @@ add-put-number : tie.Need-add-put-number
 add-put-number c = search needs
 
 put-number-requires : tie.Need-put-number-requires
-put-number-requires c κs = (omega arith, omega (arith, c .before .before .before .before .before .before .before .before .before .before .before .before .before .before .before .before .before .before .pre .1, c .before .before .before .before .before .before .before .before .before .before .before .before .before .before .before .put .ensures .next, c .before .before .before .before .before .before .before .before .before .before .before .put2 .ensures .next, c .before .before .before .before .before .before .before .put3 .ensures .next, c .before .before .before .put4 .ensures .next, result-long (productionNumber (c .before .before .before .before .before .before .before .before .before .before .before .before .before .before .before .before .before .before .args .p)) (omega arith)))
+put-number-requires c κs = omega (arith, result-long (productionNumber (c .before .before .before .before .before .before .before .before .before .before .before .before .before .before .before .before .before .before .args .p)) (omega arith))
 
 put-requires-5 : tie.Need-put-requires-5
 put-requires-5 c κs = omega (arith, c .before .before .before .before .before .before .before .before .before .before .before .before .before .before .before .before .before .before .before .before .before .before .pre .1, c .before .before .before .before .before .before .before .before .before .before .before .before .before .before .before .before .before .before .before .put .ensures .next, c .before .before .before .before .before .before .before .before .before .before .before .before .before .before .before .put2 .ensures .next, c .before .before .before .before .before .before .before .before .before .before .before .put3 .ensures .next, c .before .before .before .before .before .before .before .put4 .ensures .next, c .before .before .before .put-number .ensures .next, result-long (productionNumber (c .before .before .before .before .before .before .before .before .before .before .before .before .before .before .before .before .before .before .before .before .before .before .args .p)) (omega arith))

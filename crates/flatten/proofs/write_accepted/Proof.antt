@@ -7,14 +7,14 @@ use native.Mathlib.Nat.{zero-add}
 use lib.ListN.{length, getD}
 use borrow.Author.Tests.{le-leb, lt-leb}
 use borrow.Author.Needs.{needs}
-use Rattle.ccg.proofs.PutLaws.{put-same, put-nowhere, put-start}
 use Rattle.flatten.proofs.TableTextLaws.{table-grammar}
 use Rattle.flatten.specs.Flat.{flatGrammar}
-use Rattle.ccg.specs.Put.{Put}
 use Rattle.ccg.specs.Text.{grammarText}
 use Rattle.flatten.specs.Answer.{writeAnswer}
 use Rattle.flatten.specs.declared.FlatAnswer.the-variants.{Written, Refused}
 use Rattle.charset.specs.Set.{characters}
+use Rattle.writing.proofs.PutLaws.{put-same, put-nowhere, put-start}
+use Rattle.writing.specs.Put.{Put}
 use Rattle.flatten.proofs.write_accepted.Statement.{statement}
 use Rattle.flatten.proofs.write_accepted.Tie as tie
 

@@ -6,7 +6,7 @@ use native.Mathlib.Omega.{arith}
 use native.Mathlib.Nat.{zero-add}
 use lib.ListN.{length, drop, length-append}
 use lib.Seq.{set-out, sets, length-sets, sets-eq}
-use Rattle.ccg.specs.Put.{Put}
+use Rattle.writing.specs.Put.{Put}
 use Rattle.common.proofs.OverwrittenLaws.{sets-append}
 
 pub put-none : (l : List ℕ) (at : ℕ) → Put [] l at l at

@@ -1,8 +1,8 @@
 -- `put` meets its contract: a byte past the end is dropped.
 use borrow.Author.Needs.{needs}
-use Rattle.ccg.proofs.PutLaws.{put-past}
-use Rattle.ccg.proofs.put.Statement.{statement}
-use Rattle.ccg.proofs.put.Tie as tie
+use Rattle.writing.proofs.PutLaws.{put-past}
+use Rattle.writing.proofs.put.Statement.{statement}
+use Rattle.writing.proofs.put.Tie as tie
 
 slice-write-out : tie.Need-slice-write-out
 slice-write-out c = search needs

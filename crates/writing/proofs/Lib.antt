@@ -1,0 +1,3 @@
+-- Laws of writing into a lent buffer, and of numerals.
+pub mod PutLaws
+pub mod NumeralLaws
