@@ -1,12 +1,12 @@
 // Writes the character class grammar of each grammar of its input and prints it, or why it is refused.
 // A case is two fields: the grammar, and two bytes with the length of the buffer, low byte first.
 use common::two_bytes;
-use flatten::FlatAnswer;
 use flatten::write_flat;
 use libc::STDIN_FILENO;
 use records::field_at;
 use report::print_refusal;
 use report::print_start;
+use writing::WriteAnswer;
 ghost use Prim.Native.Nat.{_≤_};
 ghost use lib.ListN.{length};
 
@@ -46,13 +46,13 @@ fn write_case(input: &[u8], start: usize, end: usize) -> usize
 fn print_flat(book: &[u8], room: usize) {
     let mut out = io::large_buffer();
     match write_within(book, &mut out, room) {
-        FlatAnswer::Written(length) => print_start(&out, length),
-        FlatAnswer::Refused(number, place) => print_refusal(number, place),
+        WriteAnswer::Written(length) => print_start(&out, length),
+        WriteAnswer::Refused(number, place) => print_refusal(number, place),
     }
 }
 
 // Uses only the first `room` bytes of the buffer, or all of it.
-fn write_within(book: &[u8], out: &mut [u8], room: usize) -> FlatAnswer {
+fn write_within(book: &[u8], out: &mut [u8], room: usize) -> WriteAnswer {
     if room < out.len() {
         return write_flat(book, &mut out[..room]);
     }

@@ -24,6 +24,7 @@ use tables::ROOT_SLOT;
 use tables::put_class;
 use tables::put_counts;
 use tables::zero_tables;
+use writing::WriteAnswer;
 ghost use mathlib.Core.Path.{_≡_};
 ghost use mathlib.Core.Bool.{not, _&&_, _||_};
 ghost use Prim.Native.Nat.{ℕ, _+_, _-_, _<_};
@@ -38,42 +39,35 @@ ghost use Rattle.tables.specs.Layout.{slot, tableWords};
 ghost use Rattle.flatten.specs.Tables.{BarringSets, resultHas, ByResult, WrittenBelow, FlatTables};
 ghost use Rattle.flatten.specs.Flat.{flatGrammar};
 ghost use Rattle.ccg.specs.Text.{grammarText};
-ghost use Rattle.flatten.specs.Answer.{writeAnswer, flatAnswer, bufferAfter};
-
-// What writing a character class grammar gives.
-pub enum FlatAnswer {
-    // How many bytes were written.
-    Written(usize),
-    // The refusal's number and its place.
-    Refused(usize, usize),
-}
+ghost use Rattle.flatten.specs.Answer.{flatAnswer};
+ghost use Rattle.writing.specs.Answer.{fitted, bufferAfter};
 
 // The operation "writing a character class grammar" (01's writing a flat book). A text longer than the buffer is refused and changes nothing.
-pub fn write_flat(book: &[u8], out: &mut [u8]) -> FlatAnswer
+pub fn write_flat(book: &[u8], out: &mut [u8]) -> WriteAnswer
     ensures { λ r. ⌜ r ≡ flatAnswer (now (book .entry)) (length (now (out .entry))) ⌝ }
     ensures { λ r. ⌜ now (out .exit) ≡ bufferAfter (flatAnswer (now (book .entry)) (length (now (out .entry)))) (grammarText (flatGrammar (now (book .entry)))) (now (out .entry)) ⌝ }
 {
     let verdict = check_grammar(book);
     match verdict {
-        Verdict::Refused(number, place) => FlatAnswer::Refused(number, place),
+        Verdict::Refused(number, place) => WriteAnswer::Refused(number, place),
         Verdict::Accepted => write_accepted(book, out),
     }
 }
 
 // The same for an accepted grammar: the length first, and then, if it fits, the text.
-fn write_accepted(book: &[u8], out: &mut [u8]) -> FlatAnswer
+fn write_accepted(book: &[u8], out: &mut [u8]) -> WriteAnswer
     requires { ⌜ WellFormed (now book) ⌝ }
-    ensures { λ r. ⌜ r ≡ writeAnswer (length (grammarText (flatGrammar (now (book .entry))))) (length (now (out .entry))) ⌝ }
-    ensures { λ r. ⌜ now (out .exit) ≡ bufferAfter (writeAnswer (length (grammarText (flatGrammar (now (book .entry))))) (length (now (out .entry)))) (grammarText (flatGrammar (now (book .entry)))) (now (out .entry)) ⌝ }
+    ensures { λ r. ⌜ r ≡ fitted 21 (length (grammarText (flatGrammar (now (book .entry))))) (length (now (out .entry))) ⌝ }
+    ensures { λ r. ⌜ now (out .exit) ≡ bufferAfter (fitted 21 (length (grammarText (flatGrammar (now (book .entry))))) (length (now (out .entry)))) (grammarText (flatGrammar (now (book .entry)))) (now (out .entry)) ⌝ }
 {
     let mut tables = zero_tables();
     flatten(book, &mut tables);
     let needed = put_grammar(&mut out[..0], &tables);
     if out.len() < needed {
-        return FlatAnswer::Refused(21, needed);
+        return WriteAnswer::Refused(21, needed);
     }
     put_grammar(out, &tables);
-    FlatAnswer::Written(needed)
+    WriteAnswer::Written(needed)
 }
 
 // ---- the tables: at each argument the characters and the productions that may stand there, and at the root the productions of the start sort

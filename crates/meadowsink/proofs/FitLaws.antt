@@ -11,7 +11,7 @@ use Rattle.ccg.proofs.TextLaws.{tabulate-text-short}
 use Rattle.flatten.specs.Flat.{flatClass, flatLine, flatGrammar, plainClass}
 use Rattle.ccg.specs.Text.{grammarText}
 use Rattle.flatten.specs.Answer.{flatAnswer}
-use Rattle.flatten.specs.declared.FlatAnswer.the-variants.{Refused as NotWritten}
+use Rattle.writing.specs.declared.WriteAnswer.the-variants.{Refused as NotWritten}
 use Rattle.chart.specs.Layout.{textLimit}
 use Rattle.common.proofs.BoolLaws.{or-second-false}
 use Rattle.common.proofs.ListLaws.{length-tabulate}
@@ -34,7 +34,7 @@ use Rattle.question.specs.Answer.{isThere, conflictAnswer}
 use Rattle.question.specs.declared.ConflictAnswer.the-variants.{Refused as NotAsked}
 use Rattle.reply.proofs.AnswersLaws.{own-conflict-fits, write-fits, judge-fits}
 use Rattle.reply.proofs.ReplyLaws.{answered-fits, refused-fits}
-use Rattle.reply.specs.Answers.{checkReply, conflictReply, flatReply, listingReply}
+use Rattle.reply.specs.Answers.{checkReply, conflictReply, writeReply, listingReply}
 use Rattle.reply.specs.Reply.{refused, valueLimit, Fits}
 use Rattle.reply.specs.declared.Reply.{Reply}
 
@@ -71,11 +71,11 @@ flat-text-short b formed =
     (λ p l. omega (arith, length-tabulate (argumentCount b p) (flatClass b p), formed .framed .fewArguments p l)) in
     omega arith
 
-pub flat-fits : (b : List ℕ) (size : ℕ) → Fits (flatReply (flatAnswer b size))
-unfolding flatAnswer flatReply
+pub flat-fits : (b : List ℕ) (size : ℕ) → Fits (writeReply (flatAnswer b size))
+unfolding flatAnswer writeReply
 flat-fits b size =
-    unless-fits flatReply NotWritten (checked b) _ (λ k place. refl) (grammar-numbered b)
-    (λ e. write-fits (length (grammarText (flatGrammar b))) size (flat-text-short b (accepted-formed b e)))
+    unless-fits writeReply NotWritten (checked b) _ (λ k place. refl) (grammar-numbered b)
+    (λ e. write-fits 21 (length (grammarText (flatGrammar b))) size (omega arith) (flat-text-short b (accepted-formed b e)))
 
 -- ---- checking a listing
 

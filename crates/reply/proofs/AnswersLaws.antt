@@ -6,8 +6,8 @@ use native.Mathlib.Omega.{arith}
 use lib.Dec.{leb}
 use lib.ListN.{length}
 use Rattle.ccg.specs.Ccg.{Class, Line}
-use Rattle.flatten.specs.Answer.{writeAnswer}
-use Rattle.flatten.specs.declared.FlatAnswer.the-variants.{Written, Refused as NotWritten}
+use Rattle.writing.specs.Answer.{fitted}
+use Rattle.writing.specs.declared.WriteAnswer.the-variants.{Written, Refused as NotWritten}
 use Rattle.engine.specs.Outcome.{Parsing, Answered}
 use Rattle.engine.specs.declared.Answer.{Answer}
 use Rattle.engine.specs.declared.Answer.the-variants.{None, One, Several, Refused as NotRead}
@@ -16,7 +16,7 @@ use Rattle.listing.specs.declared.ListingAnswer.the-variants.{Wrong}
 use Rattle.question.specs.Answer.{yesOrNo}
 use Rattle.question.specs.declared.ConflictAnswer.the-variants.{Refused as NotAsked}
 use Rattle.reply.proofs.ReplyLaws.{answered-fits, refused-fits}
-use Rattle.reply.specs.Answers.{conflictReply, flatReply, listingReply, readReply}
+use Rattle.reply.specs.Answers.{conflictReply, writeReply, listingReply, readReply}
 use Rattle.reply.specs.Reply.{valueLimit, Fits}
 
 -- the conflict question
@@ -26,13 +26,13 @@ own-conflict-fits true true = answered-fits 1 0 (omega arith) (omega arith)
 own-conflict-fits true false = answered-fits 0 0 (omega arith) (omega arith)
 own-conflict-fits false conflict = refused-fits 7 0 (omega arith)
 
--- writing a character class grammar
-pub write-fits : (n size : ℕ) → n < valueLimit → Fits (flatReply (writeAnswer n size))
-unfolding writeAnswer flatReply
-write-fits n size h =
-    elim (leb n size) as (λ (t : Bool). Fits (flatReply (cond t (Written n) (NotWritten 21 n)))) [
+-- writing into a buffer
+pub write-fits : (number n size : ℕ) → number < valueLimit → n < valueLimit → Fits (writeReply (fitted number n size))
+unfolding fitted writeReply
+write-fits number n size l h =
+    elim (leb n size) as (λ (t : Bool). Fits (writeReply (cond t (Written n) (NotWritten number n)))) [
       | true ↦ answered-fits 1 n (omega arith) h
-      | false ↦ refused-fits 21 n (omega arith)
+      | false ↦ refused-fits number n l
     ]
 
 -- checking a listing: the index of a wrong number is at most the count of numbers; there is no refusal

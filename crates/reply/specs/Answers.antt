@@ -1,6 +1,6 @@
 -- What each answer of an operation is for programs in C (include/meadowsink.h): its kind, its value and, of a refusal, its place.
-use Rattle.flatten.specs.declared.FlatAnswer.{FlatAnswer}
-use Rattle.flatten.specs.declared.FlatAnswer.the-variants.{Written}
+use Rattle.writing.specs.declared.WriteAnswer.{WriteAnswer}
+use Rattle.writing.specs.declared.WriteAnswer.the-variants.{Written}
 use Rattle.engine.specs.declared.Answer.{Answer}
 use Rattle.engine.specs.declared.Answer.the-variants.{None, One, Several}
 use Rattle.grammar.specs.declared.Verdict.{Verdict}
@@ -13,7 +13,7 @@ use Rattle.reply.specs.Reply.{answered, refused}
 use Rattle.reply.specs.declared.Reply.{Reply}
 use Rattle.grammar.specs.declared.Verdict.the-variants.{Refused as Rejected}
 use Rattle.engine.specs.declared.Answer.the-variants.{Refused as NotRead}
-use Rattle.flatten.specs.declared.FlatAnswer.the-variants.{Refused as NotWritten}
+use Rattle.writing.specs.declared.WriteAnswer.the-variants.{Refused as NotWritten}
 use Rattle.question.specs.declared.ConflictAnswer.the-variants.{Refused as NotAsked}
 use Rattle.listing.specs.declared.ListingAnswer.the-variants.{Refused as NotChecked}
 
@@ -28,10 +28,10 @@ conflictReply No = answered 0 0
 conflictReply Yes = answered 1 0
 conflictReply (NotAsked number place) = refused number place
 
--- writing a character class grammar: 1 written, the value is how many bytes
-unfoldable pub flatReply : FlatAnswer → Reply
-flatReply (Written n) = answered 1 n
-flatReply (NotWritten number place) = refused number place
+-- writing into a buffer: 1 written, the value is how many bytes
+unfoldable pub writeReply : WriteAnswer → Reply
+writeReply (Written n) = answered 1 n
+writeReply (NotWritten number place) = refused number place
 
 -- checking a listing: 0 right, 1 wrong, the value is the index
 unfoldable pub listingReply : ListingAnswer → Reply

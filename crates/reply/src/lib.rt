@@ -2,8 +2,8 @@
 pub mod check;
 pub mod check_listing;
 pub mod conflict;
-pub mod flat;
 pub mod read;
+pub mod write;
 
 ghost use mathlib.Core.Path.{_≡_};
 ghost use Rattle.reply.specs.Reply.{Fits, answered, refused, numberOf, placeOf};

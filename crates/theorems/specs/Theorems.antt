@@ -24,11 +24,11 @@ use lib.ListN.{length, getD, take, drop}
 use Rattle.ccg.specs.Ccg.{Class, Line, Generated}
 use Rattle.flatten.specs.Flat.{flatClass, flatGrammar, plainClass}
 use Rattle.ccg.specs.Text.{grammarText}
-use Rattle.flatten.specs.Answer.{flatAnswer, bufferAfter}
+use Rattle.flatten.specs.Answer.{flatAnswer}
 use Rattle.flatten.specs.Trees.{Built, ConflictFree, Apart}
 use Rattle.flatten.specs.Visser.{visserGrammar, completedGrammar, SingleHigher}
 use Rattle.ccg.specs.Written.{WrittenForm}
-use Rattle.flatten.specs.declared.FlatAnswer.the-variants.{Written, Refused as NotWritten}
+use Rattle.writing.specs.declared.WriteAnswer.the-variants.{Written, Refused as NotWritten}
 use Rattle.charset.specs.Set.{characters}
 use Rattle.chart.specs.Counted.{entryOf}
 use Rattle.chart.specs.Layout.{textLimit, chartBytes}
@@ -50,6 +50,7 @@ use Rattle.priority.specs.Priorities.{PriorityDeclaration}
 use Rattle.priority.specs.Refusals.{Holds, First}
 use Rattle.question.specs.declared.ConflictAnswer.the-variants.{Yes, No, Refused as NotAsked}
 use Rattle.theory.specs.Counts.{Only, Two, Counts}
+use Rattle.writing.specs.Answer.{bufferAfter}
 use Rattle.theory.specs.Tree.{Tree, node, Forest, productionNumber, yield, listing}
 
 -- The numbers of a list are bytes, as those of a slice are.

@@ -2,3 +2,4 @@
 pub mod Put
 pub mod Bytes
 pub mod Numeral
+pub mod Answer

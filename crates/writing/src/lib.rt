@@ -6,6 +6,14 @@ ghost use lib.ListN.{length};
 ghost use Rattle.writing.specs.Put.{Put, farthest};
 ghost use Rattle.writing.specs.Numeral.{digitZero, numeralBase, numeral, setRight};
 
+// What writing a text into a lent buffer gives.
+pub enum WriteAnswer {
+    // How many bytes were written, from the buffer's start on.
+    Written(usize),
+    // The refusal's number and its place.
+    Refused(usize, usize),
+}
+
 const NUMERAL_BASE: usize = 10;
 
 // One byte.

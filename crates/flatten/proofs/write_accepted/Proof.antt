@@ -10,8 +10,8 @@ use borrow.Author.Needs.{needs}
 use Rattle.flatten.proofs.TableTextLaws.{table-grammar}
 use Rattle.flatten.specs.Flat.{flatGrammar}
 use Rattle.ccg.specs.Text.{grammarText}
-use Rattle.flatten.specs.Answer.{writeAnswer}
-use Rattle.flatten.specs.declared.FlatAnswer.the-variants.{Written, Refused}
+use Rattle.writing.specs.Answer.{fitted}
+use Rattle.writing.specs.declared.WriteAnswer.the-variants.{Written, Refused}
 use Rattle.charset.specs.Set.{characters}
 use Rattle.writing.proofs.PutLaws.{put-same, put-nowhere, put-start}
 use Rattle.writing.specs.Put.{Put}
@@ -50,7 +50,7 @@ same-length : tie.Need-same-length
 same-length c = search needs
 
 returns : tie.Need-returns
-unfolding writeAnswer
+unfolding fitted
 returns c =
     let start = c .before .before .before .before .before .before .before .before .before .before .before .before in
     let b = start .args .book .now in
@@ -74,7 +74,7 @@ same-length-2 : tie.Need-same-length-2
 same-length-2 c = search needs
 
 returns-2 : tie.Need-returns-2
-unfolding writeAnswer
+unfolding fitted
 returns-2 c =
     let start = c .before .before .before .before .before .before .before .before .before .before .before .before .before .before .before .before .before in
     let b = start .args .book .now in
