@@ -16,6 +16,9 @@ pub struct Mismatch {
 
 /// The first place where two byte strings differ, in words.
 pub fn difference(what: &str, expected: &[u8], found: &[u8]) -> Option<(String, String)> {
+    if expected == found {
+        return None;
+    }
     let at = (0..expected.len().max(found.len())).find(|&k| expected.get(k) != found.get(k))?;
     let show = |bytes: &[u8]| format!("{what} byte {at} is {:?} (of {} bytes)", bytes.get(at), bytes.len());
     Some((show(expected), show(found)))
@@ -41,6 +44,33 @@ pub fn same_number(call: &str, expected: u64, found: u64) -> Result<(), Mismatch
     }
     let show = |n: u64| format!("{n} (as 4 * value + kind: value {}, kind {})", n / 4, n % 4);
     Err(Mismatch { call: call.into(), expected: show(expected), found: show(found), lent: vec![] })
+}
+
+/// What a call about a listing is lent and only reads.
+#[derive(Clone, Copy)]
+pub struct Given<'a> {
+    pub book: &'a [u8],
+    pub text: &'a [u8],
+    pub listing: &'a [u8],
+}
+
+impl Given<'_> {
+    pub fn lend(&self, dice: &mut Dice) -> [Lent; 3] {
+        [self.book, self.text, self.listing].map(|bytes| Lent::new(bytes, dice))
+    }
+
+    /// All three must be as they were.
+    pub fn stayed(&self, call: &str, [book, text, listing]: &[Lent; 3]) -> Result<(), Mismatch> {
+        same_bytes(call, "book", self.book, book)?;
+        same_bytes(call, "text", self.text, text)?;
+        same_bytes(call, "listing", self.listing, listing)
+    }
+
+    /// A mismatch, with what is needed to meet it again.
+    pub fn tell(&self, mut wrong: Mismatch) -> Mismatch {
+        wrong.lent.extend([("listing to check", self.listing.to_vec()), ("text of the listing", self.text.to_vec())]);
+        wrong
+    }
 }
 
 /// One call of the reading, in one make.

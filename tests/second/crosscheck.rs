@@ -1,10 +1,12 @@
 //! The two methods of this program against each other, on cases small enough to keep all trees: the verdict, the listing,
-//! every chart entry; and on the way the patterns against the clash question, and the listing check against the trees.
+//! every chart entry; and on the way the patterns against the clash question, and the listing check and the page against the
+//! trees.
 
 use crate::book::Book;
 use crate::compare::Mismatch;
 use crate::counter::{Item, Layout, ENDLESS};
-use crate::listing::{check, Judgement};
+use crate::listing::{check, to_bytes, Judgement};
+use crate::pages;
 use crate::reading::Study;
 use crate::tally::Tally;
 use crate::trees::Forest;
@@ -82,16 +84,22 @@ fn charts_agree(book: &Book, study: &Study, forest: &Forest, tally: &mut Tally) 
     Ok(())
 }
 
-/// Every kept tree of the start sort over the text is right if it is clash-free, else wrong.
+/// Every kept tree of the start sort over the text is right if it is clash-free, else wrong. What a page says of the right
+/// ones, from their numbers alone, is what the trees were grown with.
 fn listings_agree(book: &Book, study: &Study, forest: &Forest) -> Result<(), Mismatch> {
     for (tree, clean) in forest.roots().into_iter().take(20) {
-        let bytes: Vec<u8> = forest.listing(tree).iter().flat_map(|n| n.to_le_bytes()).collect();
+        let grown = forest.lines(tree);
+        let numbers: Vec<u16> = grown.iter().map(|line| line.number).collect();
+        let bytes = to_bytes(&numbers);
         if bytes.len() > 8192 {
             continue;
         }
         let judged = check(book, &study.text, &bytes);
         if (judged == Ok(Judgement::Right)) != clean {
             return wrong("listing check", format!("clash-free: {clean}, listing {bytes:?}"), format!("{judged:?}"));
+        }
+        if clean && pages::lines_of(book, &numbers) != grown {
+            return wrong("page", format!("trees: {grown:?}"), format!("numbers: {:?}", pages::lines_of(book, &numbers)));
         }
     }
     Ok(())
@@ -102,7 +110,7 @@ fn own_listing(book: &Book, study: &Study) -> Result<(), Mismatch> {
     let Some(only) = &study.listing else {
         return Ok(());
     };
-    let bytes: Vec<u8> = only.numbers.iter().flat_map(|n| n.to_le_bytes()).collect();
+    let bytes = to_bytes(&only.numbers);
     if !only.whole || bytes.len() > 8192 || check(book, &study.text, &bytes) == Ok(Judgement::Right) {
         return Ok(());
     }

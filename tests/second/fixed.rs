@@ -19,7 +19,7 @@ pub fn book_t(declarations: &[[u8; 3]]) -> Vec<u8> {
     book
 }
 
-const T: [[u8; 3]; 3] = [[2, 1, 1], [2, 2, 2], [2, 1, 2]];
+pub const T: [[u8; 3]; 3] = [[2, 1, 1], [2, 2, 2], [2, 1, 2]];
 
 /// A book, a text, and the answer by hand: a verdict, the only listing, or a refusal.
 enum Hand {
@@ -155,10 +155,10 @@ fn long_listings(dice: &mut Dice, tally: &mut Tally) -> Result<(), Mismatch> {
     Ok(())
 }
 
-/// A book with one reading whose tree is about 61 levels deep for each byte of the text. Each of `steps` sorts has a step rule (to the
-/// next sort) and a pad rule (itself and an empty sort); ranks force pad, step, pad, step; the last sort takes an `a`
-/// and goes round again, or takes a `b` and ends.
-fn deep(steps: u8) -> Vec<u8> {
+/// A book and its longest text with one reading, whose tree has two levels for each step, and one more, for each byte of
+/// the text. Each of `steps` sorts has a step rule (to the next sort) and a pad rule (itself and an empty sort); ranks
+/// force pad, step, pad, step; the last sort takes an `a` and goes round again, or takes a `b` and ends.
+pub fn deep(steps: u8) -> (Vec<u8>, Vec<u8>) {
     let nothing = steps + 1;
     let mut rules = vec![(nothing, vec![]), (steps, vec![64, 0]), (steps, vec![65])];
     let mut declarations = vec![];
@@ -171,7 +171,8 @@ fn deep(steps: u8) -> Vec<u8> {
         declarations.push([1, if k == 0 { 1 } else { pad - 1 }, pad + 1]);
     }
     let classes = vec![vec![(97, 97)], vec![(98, 98)]];
-    Plan { sorts: steps as usize + 2, start: steps as usize, rules, classes, declarations }.bytes()
+    let book = Plan { sorts: steps as usize + 2, start: steps as usize, rules, classes, declarations }.bytes();
+    (book, [vec![b'a'; 199], vec![b'b']].concat())
 }
 
 /// The longest texts, by book T, and the deepest tree.
@@ -186,8 +187,7 @@ fn long_texts(dice: &mut Dice, tally: &mut Tally) -> Result<(), Mismatch> {
 
 /// By hand: each of the 199 `a` has its rule, itself and 30 times pad, step and nothing; the `b` has its rule and itself.
 fn deepest(dice: &mut Dice, tally: &mut Tally) -> Result<(), Mismatch> {
-    let (book, mut text) = (deep(30), vec![b'a'; 199]);
-    text.push(b'b');
+    let (book, text) = deep(30);
     let study = Study::new(&book, &text);
     let numbers = study.listing.as_ref().map_or(0, |l| l.numbers.len());
     if numbers != 199 * (2 + 30 * 3) + 2 {
@@ -262,5 +262,6 @@ pub fn run(tally: &mut Tally) -> Result<(), Mismatch> {
     flat_texts(&mut dice, tally)?;
     long_listings(&mut dice, tally)?;
     long_texts(&mut dice, tally)?;
+    crate::fixed_pages::run(&mut dice, tally)?;
     damaged(&mut dice, tally)
 }

@@ -13,9 +13,12 @@ extern "C" {
     fn meadowsink_flat_place(b: *const u8, bn: usize, o: *mut u8, on: usize) -> u64;
     fn meadowsink_check_listing(b: *const u8, bn: usize, t: *const u8, tn: usize, l: *const u8, ln: usize) -> u64;
     fn meadowsink_check_listing_place(b: *const u8, bn: usize, t: *const u8, tn: usize, l: *const u8, ln: usize) -> u64;
+    fn meadowsink_page(b: *const u8, bn: usize, t: *const u8, tn: usize, l: *const u8, ln: usize, p: *mut u8, pn: usize) -> u64;
+    fn meadowsink_page_place(b: *const u8, bn: usize, t: *const u8, tn: usize, l: *const u8, ln: usize, p: *mut u8, pn: usize) -> u64;
+    fn meadowsink_text_under(b: *const u8, bn: usize, t: *const u8, tn: usize, l: *const u8, ln: usize, index: usize) -> u64;
 }
 
-/// Each call comes in two makes: one gives the number, the other the place.
+/// Each call but the text under a number comes in two makes: one gives the number, the other the place.
 #[derive(Clone, Copy, PartialEq, Eq)]
 pub enum Make {
     Number,
@@ -93,4 +96,18 @@ pub fn check_listing(make: Make, book: &mut Lent, text: &mut Lent, listing: &mut
         Make::Number => unsafe { meadowsink_check_listing(b, bn, t, tn, l, ln) },
         Make::Place => unsafe { meadowsink_check_listing_place(b, bn, t, tn, l, ln) },
     }
+}
+
+pub fn page(make: Make, book: &mut Lent, text: &mut Lent, listing: &mut Lent, page: &mut Lent) -> u64 {
+    let (bn, tn, ln, pn) = (book.length, text.length, listing.length, page.length);
+    let (b, t, l, p) = (book.lent(), text.lent(), listing.lent(), page.lent());
+    match make {
+        Make::Number => unsafe { meadowsink_page(b, bn, t, tn, l, ln, p, pn) },
+        Make::Place => unsafe { meadowsink_page_place(b, bn, t, tn, l, ln, p, pn) },
+    }
+}
+
+pub fn text_under(book: &mut Lent, text: &mut Lent, listing: &mut Lent, index: usize) -> u64 {
+    let (bn, tn, ln) = (book.length, text.length, listing.length);
+    unsafe { meadowsink_text_under(book.lent(), bn, text.lent(), tn, listing.lent(), ln, index) }
 }

@@ -27,7 +27,7 @@ fn refusal(text: &[u8], listing: &[u8]) -> Option<Refusal> {
 }
 
 /// The rule that a number names, if it names one.
-fn named(book: &Book, number: u16) -> Option<usize> {
+pub fn named(book: &Book, number: u16) -> Option<usize> {
     let rule = number.checked_sub(FIRST_RULE)? as usize;
     (rule < book.rules.len()).then_some(rule)
 }
@@ -45,6 +45,24 @@ fn is_right(book: &Book, due: Due, number: u16, left: &[u8]) -> bool {
     }
 }
 
+/// The bytes of a listing: two a number, low byte first.
+pub fn to_bytes(numbers: &[u16]) -> Vec<u8> {
+    numbers.iter().flat_map(|n| n.to_le_bytes()).collect()
+}
+
+/// The numbers in these bytes, an even count of them.
+pub fn to_numbers(listing: &[u8]) -> Vec<u16> {
+    listing.chunks(2).map(|pair| u16::from_le_bytes([pair[0], pair[1]])).collect()
+}
+
+/// Checking a listing with a book that may be refused.
+pub fn judge(book: &Result<Book, Refusal>, text: &[u8], listing: &[u8]) -> Result<Judgement, Refusal> {
+    match book {
+        Ok(good) => check(good, text, listing),
+        Err(refused) => Err(*refused),
+    }
+}
+
 /// The book has been accepted already.
 pub fn check(book: &Book, text: &[u8], listing: &[u8]) -> Result<Judgement, Refusal> {
     if let Some(refused) = refusal(text, listing) {
@@ -52,8 +70,7 @@ pub fn check(book: &Book, text: &[u8], listing: &[u8]) -> Result<Judgement, Refu
     }
     let mut stack = vec![Due::Root];
     let mut spelled = 0;
-    for (index, pair) in listing.chunks(2).enumerate() {
-        let number = u16::from_le_bytes([pair[0], pair[1]]);
+    for (index, &number) in to_numbers(listing).iter().enumerate() {
         let wrong = Ok(Judgement::Wrong(index as u64));
         let Some(due) = stack.pop() else {
             return wrong;

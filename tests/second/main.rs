@@ -3,14 +3,16 @@
 //! What is compared, for each case: the answer's kind and value, the refusal's number and place, every byte of the chart
 //! and of the listing buffer (those that must be written and those that must stay), that book and text and the bytes
 //! around every lent area are untouched; and so for the book check, clash questions, the flat
-//! book with its buffer, and checks of right, cut, changed and random listings.
+//! book with its buffer, and right, cut, changed and random listings: their check, their page for the binder with its
+//! buffer, and the part of the text under a number.
 //!
 //! The proved parser fills a chart by columns with counts that stop at 2. This program has neither a column nor a chart
 //! that is filled in order. It has two other methods, checked against each other on all small cases:
 //!   trees.rs    keeps all trees as data, blind to priorities, and filters whole trees by the patterns of Definition 2.6;
 //!   counter.rs  finds which items derive anything with an agenda, finds loops as strongly connected components
 //!               (endlessly many), and counts the rest exactly.
-//! Ranks are closed by depth-first search, clashes come in two forms, listings are checked with a stack.
+//! Ranks are closed by depth-first search, clashes come in two forms, listings are checked with a stack, and pages are made
+//! from trees that are put together from the last number to the first.
 //!
 //! It was written from the papers alone, without reading the library's sources.
 //!
@@ -28,11 +30,14 @@ mod compare;
 mod counter;
 mod crosscheck;
 mod fixed;
+mod fixed_pages;
 mod flat;
 mod library;
 mod listing;
 mod loops;
 mod others;
+mod page_calls;
+mod pages;
 mod plans;
 mod prng;
 mod ranks;

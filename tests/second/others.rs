@@ -2,23 +2,23 @@
 //! Each call has two makes, one for the number and one for the place.
 
 use crate::book::{Book, Refusal};
-use crate::compare::{same_bytes, same_number, Mismatch};
+use crate::compare::{same_bytes, same_number, Given, Mismatch};
 use crate::library::{self, Lent, Make};
 use crate::listing::{self, Judgement};
 use crate::prng::Dice;
 use crate::tally::Tally;
 
-type Outcome = Result<(), Mismatch>;
+pub type Outcome = Result<(), Mismatch>;
 
 /// An answer with a value, or a refusal: its number of kind 3, and its place.
-fn packed(answer: Result<u64, Refusal>) -> (u64, u64) {
+pub fn packed(answer: Result<u64, Refusal>) -> (u64, u64) {
     match answer {
         Ok(number) => (number, 0),
         Err(refused) => (4 * refused.number + 3, refused.place),
     }
 }
 
-fn refused_name(refused: &Refusal) -> String {
+pub fn refused_name(refused: &Refusal) -> String {
     format!("refused {}", refused.number)
 }
 
@@ -52,7 +52,7 @@ pub fn conflict(bytes: &[u8], book: &Result<Book, Refusal>, ask: (u64, u64, u64)
 }
 
 /// A number that names nothing, or would name something if its high bits were lost.
-fn odd_number(dice: &mut Dice, good: u64, limit: u64) -> u64 {
+pub fn odd_number(dice: &mut Dice, good: u64, limit: u64) -> u64 {
     dice.pick(&[limit, limit + 1, 8, 9, 64, 255, 256 + good, 65_536 + good, (1 << 32) + good, (1 << 63) + good, u64::MAX])
 }
 
@@ -88,16 +88,34 @@ pub fn conflicts(bytes: &[u8], book: &Result<Book, Refusal>, dice: &mut Dice, ta
     Ok(())
 }
 
+/// The answer to writing these bytes over a buffer, and what it holds afterwards. `short` is the refusal of a buffer that is
+/// too short.
+pub fn written(bytes: Result<&[u8], Refusal>, before: &[u8], short: u64) -> (Result<u64, Refusal>, Vec<u8>) {
+    let mut after = before.to_vec();
+    let answer = bytes.and_then(|all| {
+        if all.len() > before.len() {
+            return Err(Refusal { number: short, place: all.len() as u64 });
+        }
+        after[..all.len()].copy_from_slice(all);
+        Ok(4 * all.len() as u64 + 1)
+    });
+    (answer, after)
+}
+
+/// A buffer exactly long enough, one too short, longer, empty, or of any length that is too short.
+pub fn some_room(dice: &mut Dice, need: usize) -> usize {
+    match dice.below(8) {
+        0 => need.saturating_sub(1),
+        1 => dice.below(need),
+        2 | 3 => need + dice.between(1, 40),
+        4 => 0,
+        _ => need,
+    }
+}
+
 /// Writing a flat book over this buffer. `text` is the flat text, if the book is accepted.
 pub fn flat_with(bytes: &[u8], text: Result<&[u8], Refusal>, before: &[u8], dice: &mut Dice, tally: &mut Tally) -> Outcome {
-    let mut after = before.to_vec();
-    let answer = text.and_then(|flat| {
-        if flat.len() > before.len() {
-            return Err(Refusal { number: 21, place: flat.len() as u64 });
-        }
-        after[..flat.len()].copy_from_slice(flat);
-        Ok(4 * flat.len() as u64 + 1)
-    });
+    let (answer, after) = written(text, before, 21);
     tally.add("flat", answer.as_ref().map_or_else(refused_name, |_| "written".into()));
     let (number, place) = packed(answer);
     for (make, call, expected) in [(Make::Number, "meadowsink_flat", number), (Make::Place, "meadowsink_flat_place", place)] {
@@ -114,27 +132,18 @@ pub fn flat_with(bytes: &[u8], text: Result<&[u8], Refusal>, before: &[u8], dice
     Ok(())
 }
 
-/// Over a buffer exactly long enough, one too short, longer, or of any length.
+/// Over some buffer.
 pub fn flat(bytes: &[u8], book: &Result<Book, Refusal>, dice: &mut Dice, tally: &mut Tally) -> Outcome {
     let text = book.as_ref().map(crate::flat::text).map_err(|r| *r);
     let need = text.as_ref().map_or(40, |t| t.len());
-    let length = match dice.below(8) {
-        0 => need - 1,
-        1 => dice.below(need),
-        2 | 3 => need + dice.between(1, 40),
-        4 => 0,
-        _ => need,
-    };
+    let length = some_room(dice, need);
     let before = dice.garbage(length);
     flat_with(bytes, text.as_deref().map_err(|r| *r), &before, dice, tally)
 }
 
-/// Checking these listing bytes against this text.
-pub fn listing(bytes: &[u8], book: &Result<Book, Refusal>, text: &[u8], numbers: &[u8], dice: &mut Dice, tally: &mut Tally) -> Outcome {
-    let answer = match book {
-        Ok(good) => listing::check(good, text, numbers),
-        Err(refused) => Err(*refused),
-    };
+/// Checking a listing against a text.
+pub fn listing(given: Given, book: &Result<Book, Refusal>, dice: &mut Dice, tally: &mut Tally) -> Outcome {
+    let answer = listing::judge(book, given.text, given.listing);
     let name = match &answer {
         Ok(Judgement::Right) => "right".into(),
         Ok(Judgement::Wrong(_)) => "wrong".into(),
@@ -145,19 +154,13 @@ pub fn listing(bytes: &[u8], book: &Result<Book, Refusal>, text: &[u8], numbers:
         Judgement::Right => 0,
         Judgement::Wrong(index) => 4 * index + 1,
     }));
-    let call = "meadowsink_check_listing";
-    let run = |make: Make, expected: u64, dice: &mut Dice| {
-        let (mut b, mut t, mut l) = (Lent::new(bytes, dice), Lent::new(text, dice), Lent::new(numbers, dice));
-        let name = if make == Make::Place { "meadowsink_check_listing_place" } else { call };
-        same_number(name, expected, library::check_listing(make, &mut b, &mut t, &mut l))?;
-        same_bytes(name, "book", bytes, &b)?;
-        same_bytes(name, "text", text, &t)?;
-        same_bytes(name, "listing", numbers, &l)
-    };
-    let tell = |mut wrong: Mismatch| {
-        wrong.lent = vec![("listing to check", numbers.to_vec()), ("text of the listing", text.to_vec())];
-        wrong
-    };
-    run(Make::Number, number, dice).map_err(tell)?;
-    run(Make::Place, place, dice).map_err(tell)
+    for (make, call, expected) in
+        [(Make::Number, "meadowsink_check_listing", number), (Make::Place, "meadowsink_check_listing_place", place)]
+    {
+        let mut lent = given.lend(dice);
+        let [b, t, l] = &mut lent;
+        let found = library::check_listing(make, b, t, l);
+        same_number(call, expected, found).and_then(|_| given.stayed(call, &lent)).map_err(|wrong| given.tell(wrong))?;
+    }
+    Ok(())
 }

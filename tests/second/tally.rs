@@ -67,6 +67,11 @@ impl Tally {
             ("flat", refusals(&[1, 2, 3, 4, 5, 6, 7, 8, 9, 21])),
             ("check_listing", words(&["right", "wrong"])),
             ("check_listing", refusals(&[1, 2, 3, 4, 5, 6, 7, 8, 9, 10, 11])),
+            ("page", words(&["written"])),
+            ("page", refusals(&[1, 2, 3, 4, 5, 6, 7, 8, 9, 10, 11, 23, 24])),
+            ("page with", words(&["an empty text in the middle", "a text over 54 bytes", "a byte as a full stop", "a depth of 100 or more"])),
+            ("text_under", words(&["some bytes", "empty", "beyond the listing"])),
+            ("text_under", refusals(&[1, 2, 3, 4, 5, 6, 7, 8, 9, 10, 11, 23])),
         ];
         groups.into_iter().flat_map(|(call, kinds)| kinds.into_iter().map(move |k| (call, k))).collect()
     }

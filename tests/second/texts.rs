@@ -9,24 +9,39 @@ pub struct Grown {
     pub listing: Vec<u16>,
 }
 
+/// What rules a tree is rather made of: those with more arguments than one, or those with exactly one sort.
+#[derive(Clone, Copy, PartialEq, Eq)]
+pub enum Shape {
+    Any,
+    Wide,
+    Deep,
+}
+
+/// What tree is wanted. A careful one heeds the clashes; another lets them through.
+#[derive(Clone, Copy)]
+pub struct Wish {
+    pub careful: bool,
+    pub longest: usize,
+    pub shape: Shape,
+}
+
 /// Which rules may stand where, and how high each rule's lowest tree is.
 struct Choice<'a> {
     book: &'a Book,
     allowed: Vec<Vec<Vec<usize>>>,
     heights: Vec<Option<usize>>,
-    longest: usize,
+    wish: Wish,
 }
 
 impl<'a> Choice<'a> {
-    /// A careful choice heeds the clashes; the other one lets them through.
-    fn new(book: &'a Book, careful: bool, longest: usize) -> Choice<'a> {
+    fn new(book: &'a Book, wish: Wish) -> Choice<'a> {
         let of_sort = |rule: usize, at: usize| match book.rules[rule].arguments[at] {
             Argument::Sort(s) => (0..book.rules.len()).filter(|&q| book.rules[q].result == s).collect(),
             Argument::Class(_) => vec![],
         };
-        let place = |rule: usize, at: usize| if careful { book.allowed(rule, at) } else { of_sort(rule, at) };
+        let place = |rule: usize, at: usize| if wish.careful { book.allowed(rule, at) } else { of_sort(rule, at) };
         let allowed = (0..book.rules.len()).map(|r| (0..book.count(r)).map(|at| place(r, at)).collect()).collect();
-        let mut choice = Choice { book, allowed, heights: vec![None; book.rules.len()], longest };
+        let mut choice = Choice { book, allowed, heights: vec![None; book.rules.len()], wish };
         choice.find_heights();
         choice
     }
@@ -53,8 +68,18 @@ impl<'a> Choice<'a> {
         }
     }
 
-    /// A rule for a place: any that has trees, for a long text rather a wide one; or one with the lowest tree once the
-    /// depth is used up.
+    /// Is the rule one that a tree of the wished shape is rather made of?
+    fn suits(&self, rule: usize) -> bool {
+        let arguments = &self.book.rules[rule].arguments;
+        match self.wish.shape {
+            Shape::Any => false,
+            Shape::Wide => arguments.len() > 1,
+            Shape::Deep => arguments.iter().filter(|a| matches!(a, Argument::Sort(_))).count() == 1,
+        }
+    }
+
+    /// A rule for a place: any that has trees, rather one that suits the shape; or one with the lowest tree once the depth
+    /// is used up.
     fn rule(&self, dice: &mut Dice, from: &[usize], depth: usize) -> Option<usize> {
         let living: Vec<usize> = from.iter().copied().filter(|&q| self.heights[q].is_some()).collect();
         if living.is_empty() {
@@ -63,9 +88,10 @@ impl<'a> Choice<'a> {
         if depth == 0 {
             return living.into_iter().min_by_key(|&q| self.heights[q]);
         }
-        let wide: Vec<usize> = living.iter().copied().filter(|&q| self.book.count(q) > 1).collect();
-        if self.longest > 12 && !wide.is_empty() && dice.chance(75) {
-            return Some(dice.pick(&wide));
+        let suited: Vec<usize> = living.iter().copied().filter(|&q| self.suits(q)).collect();
+        let percent = if self.wish.shape == Shape::Deep { 99 } else { 75 };
+        if !suited.is_empty() && dice.chance(percent) {
+            return Some(dice.pick(&suited));
         }
         Some(dice.pick(&living))
     }
@@ -73,11 +99,11 @@ impl<'a> Choice<'a> {
     /// Adds a tree of this rule; false if it gets too long.
     fn add(&self, dice: &mut Dice, rule: usize, depth: usize, out: &mut Grown) -> bool {
         out.listing.push(FIRST_RULE + rule as u16);
-        if out.text.len() > self.longest || out.listing.len() > 4200 {
+        if out.text.len() > self.wish.longest || out.listing.len() > 4200 {
             return false;
         }
         for (at, argument) in self.book.rules[rule].arguments.iter().enumerate() {
-            let depth = if 2 * out.text.len() > self.longest { 0 } else { depth };
+            let depth = if 2 * out.text.len() > self.wish.longest { 0 } else { depth };
             let good = match argument {
                 Argument::Class(k) => self.add_character(dice, *k, out),
                 Argument::Sort(_) => match self.rule(dice, &self.allowed[rule][at], depth) {
@@ -89,7 +115,7 @@ impl<'a> Choice<'a> {
                 return false;
             }
         }
-        out.text.len() <= self.longest
+        out.text.len() <= self.wish.longest
     }
 
     fn add_character(&self, dice: &mut Dice, class: usize, out: &mut Grown) -> bool {
@@ -104,19 +130,22 @@ impl<'a> Choice<'a> {
     }
 }
 
-/// The text of a random tree of the start sort, the longest of a few tries.
-fn spelled(dice: &mut Dice, book: &Book, longest: usize) -> Option<Grown> {
-    let careful = dice.chance(70);
-    let choice = Choice::new(book, careful, longest);
+/// The text of a random tree of the start sort, of a wide one the longest of some tries.
+pub fn spelled(dice: &mut Dice, book: &Book, wish: Wish) -> Option<Grown> {
+    let choice = Choice::new(book, wish);
     let starts: Vec<usize> = (0..book.rules.len()).filter(|&r| book.rules[r].result == book.start).collect();
     let mut best: Option<Grown> = None;
-    let tries = if longest > 12 { 12 } else { 3 };
+    let tries = if wish.shape == Shape::Wide { 12 } else { 3 };
     for _ in 0..tries {
-        let depth = if longest > 12 { dice.between(4, 90) } else { dice.below(7) };
+        let depth = match wish.shape {
+            Shape::Any => dice.below(7),
+            Shape::Wide => dice.between(4, 90),
+            Shape::Deep => dice.between(90, 4000),
+        };
         let root = choice.rule(dice, &starts, 1)?;
         let mut out = Grown { text: vec![], listing: vec![] };
         let good = choice.add(dice, root, depth, &mut out);
-        if good && best.as_ref().map_or(true, |b| out.text.len() > b.text.len() || longest <= 12) {
+        if good && best.as_ref().map_or(true, |b| out.text.len() > b.text.len() || wish.shape != Shape::Wide) {
             best = Some(out);
         }
     }
@@ -158,7 +187,9 @@ pub fn some_text(dice: &mut Dice, book: &Book, longest: usize) -> Grown {
     if style == 0 {
         return random(dice);
     }
-    let Some(mut grown) = spelled(dice, book, longest) else {
+    let shape = if longest > 12 { Shape::Wide } else { Shape::Any };
+    let wish = Wish { careful: dice.chance(70), longest, shape };
+    let Some(mut grown) = spelled(dice, book, wish) else {
         return random(dice);
     };
     if style <= 2 {

@@ -9,6 +9,7 @@
 //! several are therefore read off the kept trees, unless the search stopped because of their number.
 
 use crate::book::{Argument, Book, FIRST_RULE};
+use crate::pages::Line;
 use std::collections::HashSet;
 
 #[derive(Clone, Copy)]
@@ -236,13 +237,34 @@ impl<'a> Forest<'a> {
 
     /// A rule before its arguments, arguments in order.
     pub fn listing(&self, tree: usize) -> Vec<u16> {
-        let mut numbers = vec![FIRST_RULE + self.nodes[tree].rule as u16];
-        for part in &self.nodes[tree].parts {
+        self.lines(tree).iter().map(|line| line.number).collect()
+    }
+
+    /// The numbers of the listing, each with its depth and the part of the text over which it was grown.
+    pub fn lines(&self, tree: usize) -> Vec<Line> {
+        let mut lines = vec![];
+        self.add_lines(tree, 0, &mut lines);
+        lines
+    }
+
+    fn add_lines(&self, tree: usize, depth: usize, lines: &mut Vec<Line>) {
+        let node = &self.nodes[tree];
+        let line = |depth: usize, number: u16, start: usize, end: usize| {
+            Line { depth, number, start, spelled: self.text[start..end].to_vec() }
+        };
+        lines.push(line(depth, FIRST_RULE + node.rule as u16, node.start, node.end));
+        let mut at = node.start;
+        for part in &node.parts {
             match *part {
-                Part::Character(c) => numbers.push(c as u16),
-                Part::Tree(t) => numbers.extend(self.listing(t)),
+                Part::Character(c) => {
+                    lines.push(line(depth + 1, c as u16, at, at + 1));
+                    at += 1;
+                }
+                Part::Tree(t) => {
+                    self.add_lines(t, depth + 1, lines);
+                    at = self.nodes[t].end;
+                }
             }
         }
-        numbers
     }
 }

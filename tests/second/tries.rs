@@ -1,17 +1,16 @@
 //! Which listings are given to the listing check: the right one, it cut at each place, with one number changed, with
-//! something after it, against a text with more or less in it, random numbers, and lengths at the limits.
+//! something after it, against a text with more or less in it, random numbers, lengths at the limits, and now and then one
+//! of a long or deep tree. The page for the binder is asked for with all of them but most of the wrong ones.
 
-use crate::book::FIRST_RULE;
+use crate::book::{Book, FIRST_RULE};
 use crate::cases::Case;
-use crate::compare::Mismatch;
-use crate::others;
+use crate::compare::{Given, Mismatch};
+use crate::listing::to_bytes;
 use crate::prng::Dice;
 use crate::reading::Study;
 use crate::tally::Tally;
-
-fn to_bytes(numbers: &[u16]) -> Vec<u8> {
-    numbers.iter().flat_map(|n| n.to_le_bytes()).collect()
-}
+use crate::texts::{spelled, Shape, Wish};
+use crate::{others, page_calls};
 
 /// A number that might be taken for the right one.
 fn other_number(dice: &mut Dice, rules: usize, old: u16) -> u16 {
@@ -68,6 +67,15 @@ fn other_text(dice: &mut Dice, text: &[u8]) -> Vec<u8> {
     out
 }
 
+/// A text of its own with a right listing. It is not read, only its listing is checked and printed, so it may be long
+/// without taking long.
+fn another(dice: &mut Dice, book: &Book) -> Option<(Vec<u8>, Vec<u8>)> {
+    let shape = dice.pick(&[Shape::Any, Shape::Wide, Shape::Deep]);
+    let wish = Wish { careful: true, longest: dice.pick(&[12, 60, 120, 200]), shape };
+    let grown = spelled(dice, book, wish)?;
+    Some((grown.text, to_bytes(&grown.listing)))
+}
+
 pub fn listings(case: &Case, study: &Study, dice: &mut Dice, tally: &mut Tally) -> Result<(), Mismatch> {
     let rules = study.book.as_ref().map_or(3, |b| b.rules.len());
     let base = match &study.listing {
@@ -75,10 +83,7 @@ pub fn listings(case: &Case, study: &Study, dice: &mut Dice, tally: &mut Tally) 
         None => case.listing.clone(),
     };
     let mut tries: Vec<(Vec<u8>, Vec<u8>)> = vec![];
-    if study.book.is_err() {
-        let length = dice.below(9);
-        tries.push((case.text.clone(), dice.garbage(length)));
-    } else {
+    if let Ok(book) = &study.book {
         for numbers in variants(dice, &base, rules) {
             tries.push((case.text.clone(), to_bytes(&numbers)));
         }
@@ -86,6 +91,12 @@ pub fn listings(case: &Case, study: &Study, dice: &mut Dice, tally: &mut Tally) 
         let mut odd = to_bytes(&base);
         odd.push(dice.byte());
         tries.push((case.text.clone(), odd));
+        if dice.chance(20) {
+            tries.extend(another(dice, book));
+        }
+    } else {
+        let length = dice.below(9);
+        tries.push((case.text.clone(), dice.garbage(length)));
     }
     if dice.chance(3) {
         tries.push((case.text.clone(), at_limit(dice, &base)));
@@ -94,7 +105,9 @@ pub fn listings(case: &Case, study: &Study, dice: &mut Dice, tally: &mut Tally) 
         tries.push((vec![b'8'; length], vec![2; 2 + extra]));
     }
     for (text, numbers) in tries {
-        others::listing(&case.book, &study.book, &text, &numbers, dice, tally)?;
+        let given = Given { book: &case.book, text: &text, listing: &numbers };
+        others::listing(given, &study.book, dice, tally)?;
+        page_calls::all(given, &study.book, dice, tally)?;
     }
     Ok(())
 }

@@ -1,5 +1,6 @@
 -- Laws that the crates above share.
 
+pub mod AllLaws
 pub mod BoolLaws
 pub mod BelowLaws
 pub mod ProductLaws

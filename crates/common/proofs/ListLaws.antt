@@ -1,5 +1,5 @@
 -- Laws of lists made of a function, and of lists.
-use Prim.Native.Nat.{ℕ, zero, suc, _+_, _≤_, _<_}
+use Prim.Native.Nat.{ℕ, zero, suc, _+_, _-_, _≤_, _<_}
 use mathlib.Core.Path.{_≡_, refl, sym, _∙_, ap}
 use mathlib.Core.List.{List, [], _∷_, _++_, append-assoc, append-nil}
 use mathlib.Core.Logic.{by-cases}
@@ -7,8 +7,8 @@ use native.Mathlib.Omega.{arith}
 use native.Mathlib.Decide.{decLt}
 use native.Mathlib.Nat.{le-refl}
 use native.Mathlib.Numerals.{add-one}
-use lib.ListN.{length, getD, length-append, List·getD-append}
-use lib.Seq.{getD-at}
+use lib.ListN.{length, getD, take, drop, length-append, List·getD-append}
+use lib.Seq.{getD-at, drop-at, take-add, length-take-le, slice}
 use Rattle.common.specs.Lists.{tabulate, joined}
 
 -- ---- a list made of a function
@@ -57,3 +57,11 @@ joined-grows f g i (suc n) l =
     by-cases (decLt n i)
     (λ h. let e : i ≡ suc n = omega arith in rw e (le-refl (length (joined f (tabulate (suc n) g)))))
     (λ h. omega (arith, joined-grows f g i n (omega arith), ap length (rw add-one at (joined-tabulate-next f n g)), length-append (joined f (tabulate n g)) (f (g n))))
+
+-- ---- a part of a list
+
+-- the part that a slice from i to j lends
+pub part-slice : {A : Type 0} (l : List A) (i j : ℕ) → i ≤ j → j ≤ length l → take (j - i) (drop i l) ≡ slice i j l
+part-slice {A} l i j h k =
+    let e : i + (j - i) ≡ j = omega arith in
+    sym (ap (λ (n : ℕ). drop i (take n l)) (sym e) ∙ ap (drop i) (take-add i (j - i) l) ∙ drop-at (take i l) (take (j - i) (drop i l)) i (length-take-le i l (omega arith)))

@@ -16,3 +16,8 @@ overwritten front l = front ++ drop (length front) l
 unfoldable pub joined : {A B : Type 0} → (A → List B) → List A → List B
 joined f [] = []
 joined f (a ∷ l) = f a ++ joined f l
+
+-- P holds of each member of a list.
+abbrev pub All : {A : Type 0} → (A → Type 0) → List A → Type 0
+All P [] = Unit {0}
+All P (a ∷ l) = P a × All P l

@@ -1,11 +1,11 @@
 -- The law of the tests: a case whose tests are true holds, for all trees.
 use Prim.Native.Nat.{ℕ, zero, suc, _+_, _<_}
-use mathlib.Core.Path.{_≡_, refl, sym, _∙_, ap, ap₂, subst}
 use mathlib.Core.Bool.{Bool, true, not, _&&_, false≢true}
 use mathlib.Core.List.{List, [], _∷_, map}
 use mathlib.Core.Logic.{_↔_}
-use native.Mathlib.Omega.{arith}
+use mathlib.Core.Path.{_≡_, refl, sym, _∙_, ap, ap₂, subst}
 use native.Mathlib.Nat.{le-refl}
+use native.Mathlib.Omega.{arith}
 use lib.Dec.{leb, ltb, eqb}
 use lib.ListN.{length, getD, replicate}
 use lib.Seq.{take-length}
@@ -13,17 +13,18 @@ use borrow.Author.Tests.{ltb-true, leb-true, eqb-true, not-true, lt-ltb, le-ltb,
 use Rattle.charset.specs.Set.{characters}
 use Rattle.common.proofs.BelowLaws.{all-here}
 use Rattle.common.proofs.BoolLaws.{and-both, and-first-true, and-second-true, not-both}
+use Rattle.common.specs.Lists.{All}
+use Rattle.engine.specs.Refusals.{tooLong}
+use Rattle.flatten.proofs.TestsLaws.{TestsAre, tests-parses}
+use Rattle.flatten.specs.Reading.{Reading}
 use Rattle.grammar.proofs.VerdictLaws.{and-first}
 use Rattle.grammar.specs.Layout.{productions}
 use Rattle.grammar.specs.Verdict.{inOrder}
 use Rattle.grammar.specs.declared.Verdict.{Verdict}
 use Rattle.grammar.specs.declared.Verdict.the-variants.{Accepted, Refused}
 use Rattle.marked.proofs.CaseTests.{same, allBytes, starts, grammarOf, derives, derivesAt, parses, Spans, chartOf, emptyTest, stepTest, parseSum, accepts, refuses, Given, tests, every, Shown, caseOf, caseTest, tableTest}
-use Rattle.marked.specs.Cases.{Expected, noReading, oneReading, severalReadings, badGrammar, refused, Says, Statement, All}
-use Rattle.flatten.proofs.TestsLaws.{TestsAre, tests-parses}
-use Rattle.engine.specs.Refusals.{tooLong}
+use Rattle.marked.specs.Cases.{Expected, noReading, oneReading, severalReadings, badGrammar, refused, Says, Statement}
 use Rattle.parse.specs.Outcome.{tooShort, refusal}
-use Rattle.flatten.specs.Reading.{Reading}
 use Rattle.priority.proofs.CheckLaws.{accepted-formed}
 use Rattle.priority.specs.Check.{checked}
 use Rattle.theory.proofs.ClosedLaws.{everything-due, stands-counted, stands-same}

@@ -1,14 +1,14 @@
 -- The marked cases hold: the prover computes their tests.
 use Prim.Native.Nat.{ℕ}
-use mathlib.Core.Path.{_≡_, refl}
 use mathlib.Core.Bool.{true}
 use mathlib.Core.List.{List, [], _∷_}
-use Rattle.flatten.specs.Flat.{mayStand}
+use mathlib.Core.Path.{_≡_, refl}
 use Rattle.charset.specs.Set.{inRange}
 use Rattle.chart.specs.Layout.{spanCount}
-use Rattle.tables.specs.Layout.{rowCount}
 use Rattle.common.specs.Below.{sumBelow, allBelow, anyBelow}
-use Rattle.common.specs.Lists.{tabulate}
+use Rattle.common.specs.Lists.{All, tabulate}
+use Rattle.engine.specs.Refusals.{tooLong, chartTooShort}
+use Rattle.flatten.specs.Flat.{mayStand}
 use Rattle.grammar.specs.Check.{shortHeader, headerBytes, badHeader, shortContents, badArgumentCount, badRangeCount, badLength, namesArgument, badArgument, badProduction, badRange, declarationBytes, badDeclaration, sameProduction, repeatedProduction}
 use Rattle.grammar.specs.Classes.{isClass, classHas}
 use Rattle.grammar.specs.Layout.{argumentCount, rangeCount, productionAt, result, argument, classAt, low, high, declarationAt, kind, first, second, neededLength}
@@ -16,13 +16,13 @@ use Rattle.grammar.specs.Verdict.{firstRefusal}
 use Rattle.marked.proofs.CaseLaws.{table-true}
 use Rattle.marked.proofs.CaseTests.{same, allBytes, occurrences, grammarOf, derives, parses, Spans, chartOf, emptyTest, stepTest, parseSum, accepts, refuses, tests, every, Shown, caseTest, tableTest}
 use Rattle.marked.proofs.PromisedLaws.{all-promised}
-use Rattle.marked.specs.Cases.{Statement, Promised, All, caseA, caseB, caseC, caseD, caseE, caseF, caseG, caseH, caseI, caseJ, caseK, table}
-use Rattle.engine.specs.Refusals.{tooLong, chartTooShort}
+use Rattle.marked.specs.Cases.{Statement, Promised, caseA, caseB, caseC, caseD, caseE, caseF, caseG, caseH, caseI, caseJ, caseK, table}
 use Rattle.parse.specs.Outcome.{needed, refusal}
 use Rattle.priority.specs.Chain.{through}
 use Rattle.priority.specs.Check.{circle, checked}
 use Rattle.priority.specs.Conflict.{isSort, fits, isFirst, isLast, rightOrNonassoc, leftOrNonassoc, barred, conflicts}
 use Rattle.priority.specs.Priorities.{kindNumber, eitherWay, namesPair, covers, declaredIn, declarationOf, declarationsOf, isHigher}
+use Rattle.tables.specs.Layout.{rowCount}
 use Rattle.theory.specs.Steps.{charEntry, argumentSum, splitSum}
 use Rattle.theory.specs.Tree.{Tree, leaf, node, none, _▷_, yield, listing}
 

@@ -1,19 +1,19 @@
 -- A case that holds for the definitions holds of every outcome of the operation.
 use Prim.Native.Nat.{ℕ}
-use mathlib.Core.Path.{_≡_, refl, sym, _∙_, ap}
 use mathlib.Core.List.{List, [], _∷_}
+use mathlib.Core.Path.{_≡_, refl, sym, _∙_, ap}
 use native.Mathlib.Omega.{arith}
 use lib.ListN.{length, replicate, length-replicate}
-use Rattle.common.specs.Lists.{overwritten}
+use Rattle.common.specs.Lists.{All, overwritten}
 use Rattle.engine.proofs.AnswerLaws.{none-exactly, none-buffer, several-exactly, several-buffer, one-exactly, one-buffer}
+use Rattle.engine.specs.Refusals.{chartTooShort}
 use Rattle.engine.specs.declared.Answer.{Answer}
+use Rattle.flatten.specs.Reading.{Reading}
+use Rattle.marked.specs.Cases.{Expected, noReading, oneReading, severalReadings, badGrammar, refused, Says, Case, Statement, Answers, Promised}
 use Rattle.numbers.specs.Written.{bytesOf}
-use Rattle.marked.specs.Cases.{Expected, noReading, oneReading, severalReadings, badGrammar, refused, Says, Case, Statement, Answers, Promised, All}
 use Rattle.parse.proofs.AnswerLaws.{refused-outcome, accepted-outcome}
 use Rattle.parse.proofs.RefusalLaws.{refusal-grammar}
-use Rattle.engine.specs.Refusals.{chartTooShort}
 use Rattle.parse.specs.Outcome.{refusal, Outcome}
-use Rattle.flatten.specs.Reading.{Reading}
 use Rattle.priority.proofs.RefusalLaws.{checked-number}
 
 -- of the chart only the length decides on a refusal

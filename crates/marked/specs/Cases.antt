@@ -57,11 +57,6 @@ unfoldable pub Promised : Case → Type 0
 Promised c =
     (chart₀ l₀ : List ℕ) (r : Answer) (chart l : List ℕ) → length chart₀ ≡ c .lent → Outcome (c .book) (c .text) chart₀ l₀ r chart l → Answers (c .expected) l₀ r l
 
--- P holds of each member of a list.
-abbrev pub All : {A : Type 0} → (A → Type 0) → List A → Type 0
-All P [] = Unit {0}
-All P (a ∷ l) = P a × All P l
-
 -- ---- grammars and texts
 
 -- 01's book T, with these declarations and their number: the header, how many arguments and ranges, then production 0, a digit, 1, a product, and 2, a quotient,

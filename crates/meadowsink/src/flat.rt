@@ -1,8 +1,8 @@
 // Writing a character class grammar.
 use flatten::write_flat;
-use reply::write::write_reply;
 use reply::number;
 use reply::place;
+use reply::write::write_reply;
 ghost use mathlib.Core.Path.{_≡_};
 ghost use lib.ListN.{length};
 ghost use Rattle.flatten.specs.Flat.{flatGrammar};

@@ -3,6 +3,7 @@ use Prim.Native.Nat.{ℕ, _*_, _≤_}
 use mathlib.Core.Path.{_≡_}
 use mathlib.Core.List.{List}
 use lib.ListN.{length, getD}
+use lib.Seq.{slice}
 use Rattle.common.specs.Lists.{overwritten}
 use Rattle.flatten.specs.Reading.{Reading}
 use Rattle.listing.specs.Answer.{listingAnswer}
@@ -10,7 +11,8 @@ use Rattle.listing.specs.declared.ListingAnswer.{ListingAnswer}
 use Rattle.listing.specs.declared.ListingAnswer.the-variants.{Right, Wrong, Refused as NotChecked}
 use Rattle.numbers.specs.Numbers.{numbersOf}
 use Rattle.page.specs.Text.{lineLength, pageText}
-use Rattle.rows.specs.Rows.{Row, noRow, rows}
+use Rattle.rows.specs.Rows.{noRow, rows}
+use Rattle.rows.specs.declared.Row.{Row}
 use Rattle.theory.specs.Tree.{Tree, listing}
 use Rattle.writing.specs.Answer.{fitted}
 use Rattle.writing.specs.declared.WriteAnswer.{WriteAnswer}
@@ -36,7 +38,7 @@ pageIf Right needed room = fitted 24 needed room
 unfoldable pub pageAnswer : (b w l : List ℕ) (room : ℕ) → WriteAnswer
 pageAnswer b w l room = pageIf (listingAnswer b w l) (pageLength l) room
 
--- The buffer, which held page₀, then starts with the page of the parse listed and is beyond it what it was; a refusal changes nothing.
+-- The buffer, which held page₀, then starts with the page of the parse listed, and beyond it is what it was; a refusal changes nothing.
 unfoldable pub PageAfter : (b w l page₀ : List ℕ) → WriteAnswer → (page : List ℕ) → Type 0
 PageAfter b w l page₀ (Written n) page = (t : Tree) × Listed b w l t × (page ≡ overwritten (pageText w (rows 0 0 t)) page₀)
 PageAfter b w l page₀ (Refused number place) page = page ≡ page₀
@@ -47,17 +49,20 @@ pub record PageOutcome (b w l page₀ : List ℕ) (r : WriteAnswer) (page : List
 
 -- ---- the text under a number
 
--- By what checking the listing answers: the row of a number of the parse listed; no row if the listing has no such number, is wrong, or is not checked.
+-- By what checking the listing answers: the row of a number of the parse listed; and no row if the listing has no such number, is wrong, or is not checked.
 unfoldable pub RowIf : ListingAnswer → (b w l : List ℕ) (index : ℕ) → Row → Type 0
 RowIf Right b w l index r = (t : Tree) × Listed b w l t × (r ≡ getD (rows 0 0 t) index noRow)
 RowIf (Wrong k) b w l index r = r ≡ noRow
 RowIf (NotChecked number place) b w l index r = r ≡ noRow
 
--- The part of the text from start to end is the one under number `index`: that of its row, and the empty part at the start if there is none.
-pub record Under (b w l : List ℕ) (index start end : ℕ) : Type 0 where
+-- r is the row under number `index`; it says which part of the text that is. Without such a number it is the empty part at the text's start.
+pub record RowUnder (b w l : List ℕ) (index : ℕ) (r : Row) : Type 0 where
+  pub isRow : RowIf (listingAnswer b w l) b w l index r
+  pub ordered : r .start ≤ r .end
+  pub within : r .end ≤ length w
+
+-- `part` is the part of the text under number `index`.
+pub record TextUnder (b w l : List ℕ) (index : ℕ) (part : List ℕ) : Type 0 where
   pub row : Row
-  pub isRow : RowIf (listingAnswer b w l) b w l index row
-  pub starts : start ≡ row .start
-  pub ends : end ≡ row .end
-  pub ordered : start ≤ end
-  pub within : end ≤ length w
+  pub under : RowUnder b w l index row
+  pub isPart : part ≡ slice (row .start) (row .end) w

@@ -1,13 +1,13 @@
 -- The page of a tree's rows (02, [1]): a line of 73 bytes for each.
-use Prim.Native.Nat.{ℕ, _+_, _-_}
+use Prim.Native.Nat.{ℕ, _+_, _^_, _≤_, _<_}
 use mathlib.Core.Bool.{cond, _&&_}
 use mathlib.Core.List.{List, [], _∷_, _++_}
 use lib.Dec.{leb, ltb}
-use lib.ListN.{getD}
+use lib.ListN.{length, getD}
 use Rattle.common.specs.Lists.{tabulate, joined}
-use Rattle.rows.specs.Rows.{Row}
+use Rattle.rows.specs.declared.Row.{Row}
 use Rattle.writing.specs.Bytes.{space, lineFeed}
-use Rattle.writing.specs.Numeral.{setRight}
+use Rattle.writing.specs.Numeral.{numeralBase, setRight}
 
 -- ---- how wide the columns are
 
@@ -40,7 +40,7 @@ fullStop = 46
 unfoldable pub printed : ℕ → ℕ
 printed c = cond (leb space c && leb c tilde) c fullStop
 
--- column c of the text from start to end: its byte, or a space if the text ends before it
+-- column c of the text from start to end: its byte, or a space behind its last one
 unfoldable pub shown : (w : List ℕ) (start end c : ℕ) → ℕ
 shown w start end c = cond (ltb (start + c) end) (printed (getD w (start + c) 0)) space
 
@@ -58,3 +58,11 @@ rowText w r =
 
 unfoldable pub pageText : List ℕ → List Row → List ℕ
 pageText w rs = joined (rowText w) rs
+
+-- The numbers of a row fit their columns, and its text is a part of w.
+pub record RowFits (w : List ℕ) (r : Row) : Type 0 where
+  pub depth : r .depth < numeralBase ^ numberWidth
+  pub number : r .number < numeralBase ^ numberWidth
+  pub start : r .start < numeralBase ^ placeWidth
+  pub end : r .end < numeralBase ^ placeWidth
+  pub within : r .end ≤ length w

@@ -1,9 +1,11 @@
 -- Laws of the rows of a tree: one for each number of the listing, in its order; the text of each stands within that of the tree.
-use Prim.Native.Nat.{ℕ, zero, suc, _+_, _≤_, _<_}
-use mathlib.Core.List.{List, [], _∷_, _++_, map, map-append}
+use Prim.Native.Nat.{ℕ, _+_, _≤_, _<_}
+use mathlib.Core.List.{List, _++_, map, map-append}
 use mathlib.Core.Path.{_≡_, refl, sym, _∙_, ap, ap₂}
 use native.Mathlib.Omega.{arith}
 use lib.ListN.{length, getD, length-append, length-map}
+use Rattle.common.proofs.AllLaws.{all-append, all-weaker, all-at}
+use Rattle.common.specs.Lists.{All}
 use Rattle.rows.specs.Rows.{noRow, rows, rowsBelow}
 use Rattle.rows.specs.declared.Row.{Row}
 use Rattle.theory.specs.Tree.{Tree, leaf, node, Forest, none, _▷_, yield, yields, listing, listings}
@@ -43,47 +45,40 @@ mutual
   yields-short none = omega arith
   yields-short (f ▷ t) = omega (arith, length-append (yields f) (yield t), length-append (listings f) (listing t), yields-short f, yield-short t)
 
--- ---- where the texts stand
+-- ---- where numbers and texts stand
 
--- the text of a row stands from i to j at most
-abbrev pub Within : (i j : ℕ) → Row → Type 0
-Within i j r = (i ≤ r .start) × (r .start ≤ r .end) × (r .end ≤ j)
+-- A row of a tree of depth d, with n numbers, whose text stands from i to j.
+abbrev pub Within : (d n i j : ℕ) → Row → Type 0
+Within d n i j r = (d ≤ r .depth) × (r .depth < d + n) × (i ≤ r .start) × (r .start ≤ r .end) × (r .end ≤ j)
 
--- each of these rows
-abbrev AllWithin : (i j : ℕ) → List Row → Type 0
-AllWithin i j [] = Unit {0}
-AllWithin i j (r ∷ rs) = Within i j r × AllWithin i j rs
-
-within-append : (i j : ℕ) (rs qs : List Row) → AllWithin i j rs → AllWithin i j qs → AllWithin i j (rs ++ qs)
-within-append i j [] qs h k = k
-within-append i j (r ∷ rs) qs h k = (h .0, within-append i j rs qs (h .1) k)
-
-within-wider : (i j i′ j′ : ℕ) → i′ ≤ i → j ≤ j′ → (rs : List Row) → AllWithin i j rs → AllWithin i′ j′ rs
-within-wider i j i′ j′ l m [] h = tt
-within-wider i j i′ j′ l m (r ∷ rs) h = ((omega (arith, h .0 .0), h .0 .1, omega (arith, h .0 .2)), within-wider i j i′ j′ l m rs (h .1))
-
-within-at : (i j : ℕ) (rs : List Row) (k : ℕ) → AllWithin i j rs → k < length rs → Within i j (getD rs k noRow)
-within-at i j [] k h l = absurd (omega arith)
-within-at i j (r ∷ rs) zero h l = h .0
-within-at i j (r ∷ rs) (suc k) h l = within-at i j rs k (h .1) (omega arith)
+-- the rows of a part of a tree are rows of the tree
+within-wider : (d n i j d′ n′ i′ j′ : ℕ) → d′ ≤ d → d + n ≤ d′ + n′ → i′ ≤ i → j ≤ j′ → (rs : List Row) → All (Within d n i j) rs → All (Within d′ n′ i′ j′) rs
+within-wider d n i j d′ n′ i′ j′ a m c e =
+    all-weaker (Within d n i j) (Within d′ n′ i′ j′) (λ r h. (omega (arith, h .0), omega (arith, h .1), omega (arith, h .2), h .3, omega (arith, h .4)))
 
 mutual
-  unfolding rows yield
+  unfolding rows listing yield
 
-  all-within : (d i : ℕ) (t : Tree) → AllWithin i (i + length (yield t)) (rows d i t)
-  all-within d i (leaf c) = ((omega arith, omega arith, omega arith), tt)
-  all-within d i (node p f) = ((omega arith, omega arith, omega arith), all-within-below (d + 1) i f)
+  all-within : (d i : ℕ) (t : Tree) → All (Within d (length (listing t)) i (i + length (yield t))) (rows d i t)
+  all-within d i (leaf c) = ((omega arith, omega arith, omega arith, omega arith, omega arith), tt)
+  all-within d i (node p f) = (
+    (omega arith, omega arith, omega arith, omega arith, omega arith),
+    within-wider (d + 1) (length (listings f)) i (i + length (yields f)) d (length (listing (node p f))) i (i + length (yields f))
+        (omega arith) (omega arith) (omega arith) (omega arith) (rowsBelow (d + 1) i f) (all-within-below (d + 1) i f),
+  )
 
-  all-within-below : (d i : ℕ) (f : Forest) → AllWithin i (i + length (yields f)) (rowsBelow d i f)
+  all-within-below : (d i : ℕ) (f : Forest) → All (Within d (length (listings f)) i (i + length (yields f))) (rowsBelow d i f)
   all-within-below d i none = tt
   all-within-below d i (f ▷ t) =
-      let long = length-append (yields f) (yield t) in
-      let whole = i + length (yields f ++ yield t) in
+      let text = length-append (yields f) (yield t) in
+      let numbers = length-append (listings f) (listing t) in
       let next = i + length (yields f) in
-      within-append i whole (rowsBelow d i f) (rows d next t)
-      (within-wider i next i whole (omega arith) (omega arith) (rowsBelow d i f) (all-within-below d i f))
-      (within-wider next (next + length (yield t)) i whole (omega arith) (omega arith) (rows d next t) (all-within d next t))
+      all-append (Within d (length (listings (f ▷ t))) i (i + length (yields (f ▷ t)))) (rowsBelow d i f) (rows d next t)
+      (within-wider d (length (listings f)) i next d (length (listings (f ▷ t))) i (i + length (yields (f ▷ t)))
+      (omega arith) (omega arith) (omega arith) (omega arith) (rowsBelow d i f) (all-within-below d i f))
+      (within-wider d (length (listing t)) next (next + length (yield t)) d (length (listings (f ▷ t))) i (i + length (yields (f ▷ t)))
+      (omega arith) (omega arith) (omega arith) (omega arith) (rows d next t) (all-within d next t))
 
--- The text of each number stands within that of the tree, and ends at or after its start.
-pub row-within : (d i : ℕ) (t : Tree) (k : ℕ) → k < length (rows d i t) → Within i (i + length (yield t)) (getD (rows d i t) k noRow)
-row-within d i t k l = within-at i (i + length (yield t)) (rows d i t) k (all-within d i t) l
+-- The depth of each number is below the count of numbers; its text stands within that of the tree, and ends at or after its start.
+pub row-within : (d i : ℕ) (t : Tree) (k : ℕ) → k < length (rows d i t) → Within d (length (listing t)) i (i + length (yield t)) (getD (rows d i t) k noRow)
+row-within d i t k l = all-at (Within d (length (listing t)) i (i + length (yield t))) (rows d i t) k noRow (all-within d i t) l

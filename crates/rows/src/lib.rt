@@ -50,7 +50,10 @@ pub fn place_tree(
     let n = number_at(listing, at);
     if n < CHARACTERS {
         put_row(table, at, depth, place, place + 1);
-        return Next { number: at + 1, byte: place + 1 };
+        return Next {
+            number: at + 1,
+            byte: place + 1,
+        };
     }
     let count = argument_count(book, n - FIRST_PRODUCTION);
     let mut number = at + 1;
@@ -63,7 +66,10 @@ pub fn place_tree(
         d += 1;
     }
     put_row(table, at, depth, place, byte);
-    Next { number: number, byte: byte }
+    Next {
+        number: number,
+        byte: byte,
+    }
 }
 
 // Puts a row into the table.

@@ -32,6 +32,7 @@ use Rattle.writing.specs.declared.WriteAnswer.the-variants.{Written, Refused as
 use Rattle.charset.specs.Set.{characters}
 use Rattle.chart.specs.Counted.{entryOf}
 use Rattle.chart.specs.Layout.{textLimit, chartBytes}
+use Rattle.common.specs.Lists.{All}
 use Rattle.engine.specs.declared.Answer.{Answer}
 use Rattle.engine.specs.declared.Answer.the-variants.{None, One, Several, Refused as NotRead}
 use Rattle.numbers.specs.Written.{bytesOf}
@@ -40,7 +41,7 @@ use Rattle.grammar.specs.declared.Verdict.the-variants.{Accepted, Refused}
 use Rattle.listing.specs.Answer.{byteLimit, listingAnswer}
 use Rattle.numbers.specs.Numbers.{numbersOf}
 use Rattle.listing.specs.declared.ListingAnswer.the-variants.{Right, Refused as NotChecked}
-use Rattle.marked.specs.Cases.{All, Promised, table}
+use Rattle.marked.specs.Cases.{Promised, table}
 use Rattle.parse.specs.Outcome.{needed, Outcome}
 use Rattle.flatten.specs.Reading.{Reading, EntryList}
 use Rattle.priority.specs.Check.{checked}

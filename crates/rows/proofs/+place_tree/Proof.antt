@@ -134,10 +134,17 @@ place-tree-requires t c κs =
     let (p, g, listed) = production-listed (a .book .now) bytes (numbersOf (a .listing .now)) (a .at) (number-at .result) (number-at .ensures) (c .before .before .before .before .if1 .left) (start .pre .1 .1 .1 .0) (start .pre .1 .1 .1 .1) in
     let room = start .pre .1 .1 .0 in
     let within = progress-within (a .book .now) (numbersOf (a .listing .now)) (a .at) p g (a .depth) (a .place) (a .table .now) (turn .table) (turn .d) (turn .number) (turn .byte) (start .pre .1 .1 .0 .3) listed (turn .inv .0 p g listed) in
-    let there = listed-there (a .book .now) (numbersOf (a .listing .now)) (a .at) (node p g) listed in
-    (omega (arith, start .pre .0), (start .pre .1 .0, ((omega (arith, turn .inv .1), omega (arith, turn .inv .1), omega arith, omega arith),
-    argument-listed (a .book .now) bytes (numbersOf (a .listing .now)) (a .at) (number-at .result) (number-at .ensures) (a .depth) (a .place) (a .table .now)
-    (turn .table) (turn .d) (turn .number) (turn .byte) (turn .inv .0) (omega (arith, c .before .before .before .argument-count .ensures)) p g listed)))
+    let there = listed-there (a .book .now) (numbersOf (a .listing .now)) (a .at) (node p g) listed in (
+      omega (arith, start .pre .0),
+      (
+        start .pre .1 .0,
+        (
+          (omega (arith, turn .inv .1), omega (arith, turn .inv .1), omega arith, omega arith),
+          argument-listed (a .book .now) bytes (numbersOf (a .listing .now)) (a .at) (number-at .result) (number-at .ensures) (a .depth) (a .place) (a .table .now)
+              (turn .table) (turn .d) (turn .number) (turn .byte) (turn .inv .0) (omega (arith, c .before .before .before .argument-count .ensures)) p g listed,
+        ),
+      ),
+    )
 
 add-d : (t : ℕ) → place-tree-lts.Need-add-d (claims t) (place-tree-at t) place-tree.Post Inv-loop μ-loop
 add-d t c = omega arith
@@ -151,10 +158,12 @@ loop-again t c =
     let turn = c .before .before .before .before .before .loop in
     let place-tree = c .before .before .place-tree in
     let a = c .before .before .before .before .before .before .before .before .before .before .before .before .args in
-    let bytes : (k : ℕ) → getD (a .book .now) k 0 < characters = λ k. omega (arith, c .before .before .before .before .before .before .before .before .before .before .before .shared-slice-known .given k) in
-    (argument-placed (a .book .now) bytes (numbersOf (a .listing .now)) (a .at) (number-at .result) (number-at .ensures) (a .depth) (a .place) (a .table .now)
-    (turn .table) (turn .d) (turn .number) (turn .byte) (turn .inv .0) (place-tree .last .1 .1 .0) (place-tree .result) (omega (arith, c .before .before .before .before .before .before .argument-count .ensures)) (place-tree .ensures),
-    place-tree .kept .1 .1 .0 ∙ turn .inv .1, omega arith)
+    let bytes : (k : ℕ) → getD (a .book .now) k 0 < characters = λ k. omega (arith, c .before .before .before .before .before .before .before .before .before .before .before .shared-slice-known .given k) in (
+      argument-placed (a .book .now) bytes (numbersOf (a .listing .now)) (a .at) (number-at .result) (number-at .ensures) (a .depth) (a .place) (a .table .now)
+          (turn .table) (turn .d) (turn .number) (turn .byte) (turn .inv .0) (place-tree .last .1 .1 .0) (place-tree .result) (omega (arith, c .before .before .before .before .before .before .argument-count .ensures)) (place-tree .ensures),
+      place-tree .kept .1 .1 .0 ∙ turn .inv .1,
+      omega arith,
+    )
 
 put-row-requires-2 : (t : ℕ) → place-tree-lts.Need-put-row-requires-2 (claims t) (place-tree-at t) place-tree.Post Inv-loop μ-loop
 put-row-requires-2 t c κs =

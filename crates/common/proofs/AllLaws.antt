@@ -1,0 +1,21 @@
+-- Laws of what holds of each member of a list.
+use Prim.Native.Nat.{ℕ, zero, suc, _<_}
+use mathlib.Core.List.{List, [], _∷_, _++_}
+use native.Mathlib.Omega.{arith}
+use lib.ListN.{length, getD}
+use Rattle.common.specs.Lists.{All}
+
+module _ {A : Type 0} (P : A → Type 0) where
+  pub all-append : (l m : List A) → All P l → All P m → All P (l ++ m)
+  all-append [] m h k = k
+  all-append (a ∷ l) m h k = (h .0, all-append l m (h .1) k)
+
+  pub all-at : (l : List A) (k : ℕ) (d : A) → All P l → k < length l → P (getD l k d)
+  all-at [] k d h l = absurd (omega arith)
+  all-at (a ∷ l) zero d h i = h .0
+  all-at (a ∷ l) (suc k) d h i = all-at l k d (h .1) (omega arith)
+
+  -- what follows from P holds of each too
+  pub all-weaker : (Q : A → Type 0) → ((a : A) → P a → Q a) → (l : List A) → All P l → All Q l
+  all-weaker Q f [] h = tt
+  all-weaker Q f (a ∷ l) h = (f a (h .0), all-weaker Q f l (h .1))

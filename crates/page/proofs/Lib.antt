@@ -1,0 +1,3 @@
+-- Laws of the page.
+pub mod TextLaws
+pub mod RightLaws

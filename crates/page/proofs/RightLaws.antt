@@ -1,0 +1,73 @@
+-- What a listing that is right gives: the parse that it lists, and rows that fit the page.
+use Prim.Native.Nat.{ℕ, _+_, _*_, _/_, _≤_, _<_}
+use mathlib.Core.Path.{_≡_, refl, sym, _∙_, ap}
+use mathlib.Core.List.{List, [], append-nil}
+use native.Mathlib.Omega.{arith}
+use lib.ListN.{length, getD, List·getD-map}
+use Rattle.charset.specs.Set.{characters}
+use Rattle.chart.specs.Layout.{textLimit}
+use Rattle.common.proofs.AllLaws.{all-at}
+use Rattle.flatten.specs.Reading.{Reading}
+use Rattle.grammar.proofs.FormedLaws.{bodies-in}
+use Rattle.grammar.specs.Formed.{WellFormed}
+use Rattle.grammar.specs.Layout.{bodiesAt, startSort}
+use Rattle.listing.proofs.RefusedLaws.{right-exactly}
+use Rattle.listing.specs.Answer.{listingAnswer}
+use Rattle.listing.specs.declared.ListingAnswer.the-variants.{Right}
+use Rattle.numbers.proofs.NumbersLaws.{numbers-length}
+use Rattle.numbers.specs.Numbers.{numbersOf}
+use Rattle.page.specs.Answer.{Listed}
+use Rattle.page.specs.Text.{RowFits}
+use Rattle.priority.proofs.CheckLaws.{accepted-formed}
+use Rattle.rows.proofs.BuiltLaws.{SomeNumber, built-numbers}
+use Rattle.rows.proofs.RowsLaws.{row-numbers, rows-length, row-within}
+use Rattle.rows.specs.Rows.{noRow, rows}
+use Rattle.rows.specs.Table.{numberLimit}
+use Rattle.rows.specs.Walk.{ListedAt}
+use Rattle.rows.specs.declared.Row.{Row}
+use Rattle.theory.specs.Tree.{Tree, yield, listing}
+
+module _ (b w l : List ℕ) (bytes : (k : ℕ) → getD b k 0 < characters) (right : listingAnswer b w l ≡ Right) where
+  right-formed : WellFormed b
+  right-formed = accepted-formed b (right-exactly b w l bytes .0 right .0)
+
+  pub right-bodies : bodiesAt b ≤ length b
+  right-bodies = bodies-in b (right-formed .framed)
+
+  pub right-short : length w ≤ textLimit
+  right-short = right-exactly b w l bytes .0 right .1
+
+  pub right-few : length (numbersOf l) ≤ numberLimit
+  right-few = let h = right-exactly b w l bytes .0 right .3 in omega (arith, numbers-length l)
+
+  pub right-tree : (t : Tree) × Listed b w l t
+  right-tree = let (t, reading, listed) = right-exactly b w l bytes .0 right .4 in (t, record { reading = reading; listed = listed })
+
+  -- ---- the parse listed
+
+  module _ (t : Tree) (lent : Listed b w l t) where
+    -- it is listed from the first number on
+    pub listed-whole : ListedAt b (numbersOf l) 0 t
+    listed-whole =
+        record { sort = startSort b; built = lent .reading .built; others = []; begins = sym (lent .listed) ∙ sym (append-nil (listing t)) }
+
+    pub rows-count : length (rows 0 0 t) ≡ length (numbersOf l)
+    rows-count = rows-length 0 0 t ∙ ap (length {A = ℕ}) (lent .listed)
+
+    pub yield-count : length (yield t) ≡ length w
+    yield-count = ap (length {A = ℕ}) (lent .reading .spells)
+
+    -- the numbers of its rows fit their columns
+    pub row-fits : (k : ℕ) → k < length (rows 0 0 t) → RowFits w (getD (rows 0 0 t) k noRow)
+    row-fits k h =
+        let within = row-within 0 0 t k h in
+        let number : getD (rows 0 0 t) k noRow .number ≡ getD (listing t) k 0 =
+        sym (List·getD-map (λ (q : Row). q .number) (rows 0 0 t) k noRow) ∙ ap (λ (v : List ℕ). getD v k 0) (row-numbers 0 0 t) in
+        let small : getD (listing t) k 0 < _ = all-at SomeNumber (listing t) k 0 (built-numbers b bytes (right-formed .framed .fewProductions) t _ (lent .reading .built)) (omega (arith, rows-length 0 0 t)) in
+        record {
+          depth = omega (arith, within .1, rows-length 0 0 t, rows-count, right-few);
+          number = omega arith;
+          start = omega (arith, within .3, within .4, yield-count, right-short);
+          end = omega (arith, within .4, yield-count, right-short);
+          within = omega (arith, within .4, yield-count);
+        }
