@@ -19,3 +19,8 @@ module _ {A : Type 0} (P : A → Type 0) where
   pub all-weaker : (Q : A → Type 0) → ((a : A) → P a → Q a) → (l : List A) → All P l → All Q l
   all-weaker Q f [] h = tt
   all-weaker Q f (a ∷ l) h = (f a (h .0), all-weaker Q f l (h .1))
+
+  -- what holds at each index holds of each
+  pub all-of-at : (l : List A) (d : A) → ((k : ℕ) → k < length l → P (getD l k d)) → All P l
+  all-of-at [] d h = tt
+  all-of-at (a ∷ l) d h = (h 0 (omega arith), all-of-at l d (λ k i. h (suc k) (omega arith)))

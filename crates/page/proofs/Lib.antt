@@ -1,3 +1,5 @@
 -- Laws of the page.
 pub mod TextLaws
 pub mod RightLaws
+pub mod OutcomeLaws
+pub mod ReadLaws

@@ -4,3 +4,4 @@ pub mod RowsLaws
 pub mod WalkLaws
 pub mod TableLaws
 pub mod BuiltLaws
+pub mod UnderLaws

@@ -2,3 +2,4 @@
 pub mod Rows
 pub mod Table
 pub mod Walk
+pub mod Under

@@ -1,39 +1,59 @@
+-- `row_of_right` meets its contract.
+use Prim.Native.Nat.{ℕ, _<_}
+use mathlib.Core.Path.{refl, sym, subst}
+use native.Mathlib.Omega.{arith}
+use lib.ListN.{getD}
 use borrow.Author.Needs.{needs}
+use Rattle.charset.specs.Set.{characters}
+use Rattle.numbers.proofs.NumbersLaws.{numbers-length}
+use Rattle.page.proofs.OutcomeLaws.{row-beyond, row-there}
+use Rattle.page.proofs.RightLaws.{right-bodies, right-few, right-tree, listed-whole}
+use Rattle.page.specs.Answer.{RowUnder}
 use Rattle.page.proofs.row_of_right.Statement.{statement}
 use Rattle.page.proofs.row_of_right.Tie as tie
-use Rattle.page.proofs.row_of_right.Reads as reads
-use Rattle.page.proofs.row_of_right.Lts as lts
-use Rattle.page.proofs.no_row.Reads as no-row-reads
-use Rattle.rows.proofs.place_tree.Reads as place-tree-reads
-use Rattle.rows.proofs.row_at.Reads as row-at-reads
 
--- src/lib.rt:173:9
 no-row-requires : tie.Need-no-row-requires
 no-row-requires c κs = search needs
 
--- src/lib.rt:173:9
 returns : tie.Need-returns
-returns c = ?
+returns c =
+    let start = c .before .before .before .before .before in
+    let a = start .args in
+    let bytes : (k : ℕ) → getD (a .book .now) k 0 < characters = λ k. omega (arith, c .before .before .before .before .shared-slice-known .given k) in
+    subst (RowUnder (a .book .now) (a .text .now) (a .listing .now) (a .index)) (sym (c .no-row .ensures)) (row-beyond (a .book .now) (a .text .now) (a .listing .now) bytes (start .pre) (a .index) (c .before .if1 .taken))
 
--- src/lib.rt:176:31
 slice-aggregate-place-tree : tie.Need-slice-aggregate-place-tree
 slice-aggregate-place-tree c = search needs
 
--- src/lib.rt:176:5
 place-tree-requires : tie.Need-place-tree-requires
-place-tree-requires c κs = ?
+place-tree-requires c κs =
+    let start = c .before .before .before .before .before in
+    let a = start .args in
+    let bytes : (k : ℕ) → getD (a .book .now) k 0 < characters = λ k. omega (arith, c .before .before .before .before .shared-slice-known .given k) in
+    let (t, lent) = right-tree (a .book .now) (a .text .now) (a .listing .now) bytes (start .pre) in
+    (right-bodies (a .book .now) (a .text .now) (a .listing .now) bytes (start .pre), ((right-few (a .book .now) (a .text .now) (a .listing .now) bytes (start .pre), omega arith, omega arith, omega arith),
+    (t, listed-whole (a .book .now) (a .text .now) (a .listing .now) bytes (start .pre) t lent)))
 
--- src/lib.rt:177:21
 slice-aggregate-row-at : tie.Need-slice-aggregate-row-at
 slice-aggregate-row-at c = search needs
 
--- src/lib.rt:177:5
 row-at-requires : tie.Need-row-at-requires
-row-at-requires c κs = ?
+row-at-requires c κs =
+    let start = c .before .before .before .before .before .before .before .before in
+    let a = start .args in
+    let bytes : (k : ℕ) → getD (a .book .now) k 0 < characters = λ k. omega (arith, c .before .before .before .before .before .before .before .shared-slice-known .given k) in
+    let few = right-few (a .book .now) (a .text .now) (a .listing .now) bytes (start .pre) in
+    (omega (arith, numbers-length (a .listing .now)), omega (arith, numbers-length (a .listing .now), c .before .before .place-tree .kept .1 .1 .0))
 
--- src/lib.rt:168:1
 returns-2 : tie.Need-returns-2
-returns-2 c = ?
+returns-2 c =
+    let start = c .before .before .before .before .before .before .before .before .before in
+    let place-tree = c .before .before .before .place-tree in
+    let a = start .args in
+    let bytes : (k : ℕ) → getD (a .book .now) k 0 < characters = λ k. omega (arith, c .before .before .before .before .before .before .before .before .shared-slice-known .given k) in
+    subst (RowUnder (a .book .now) (a .text .now) (a .listing .now) (a .index)) (sym (c .row-at .ensures))
+    (row-there (a .book .now) (a .text .now) (a .listing .now) bytes (start .pre) _ (place-tree .last .1 .1 .0) refl (place-tree .result)
+    (λ t lent. place-tree .ensures t (listed-whole (a .book .now) (a .text .now) (a .listing .now) bytes (start .pre) t lent)) (a .index) (omega (arith, numbers-length (a .listing .now))))
 
 pub row-of-right-spec : {M : Type 1} → statement M
 row-of-right-spec =
