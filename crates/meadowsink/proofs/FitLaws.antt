@@ -5,13 +5,14 @@ use mathlib.Core.Bool.{_||_}
 use mathlib.Core.List.{List, [], _∷_}
 use native.Mathlib.Omega.{arith}
 use lib.Dec.{ltb, eqb}
-use lib.ListN.{length}
+use lib.ListN.{length, getD}
 use borrow.Author.Tests.{ltb-false}
 use Rattle.ccg.proofs.TextLaws.{tabulate-text-short}
 use Rattle.flatten.specs.Flat.{flatClass, flatLine, flatGrammar, plainClass}
 use Rattle.ccg.specs.Text.{grammarText}
 use Rattle.flatten.specs.Answer.{flatAnswer}
 use Rattle.writing.specs.declared.WriteAnswer.the-variants.{Refused as NotWritten}
+use Rattle.charset.specs.Set.{characters}
 use Rattle.chart.specs.Layout.{textLimit}
 use Rattle.common.proofs.BoolLaws.{or-second-false}
 use Rattle.common.proofs.ListLaws.{length-tabulate}
@@ -24,7 +25,10 @@ use Rattle.grammar.specs.declared.Verdict.the-variants.{Accepted, Refused as Re
 use Rattle.numbers.proofs.NumbersLaws.{numbers-length}
 use Rattle.listing.specs.Answer.{byteLimit, badListing, judged, listingAnswer}
 use Rattle.numbers.specs.Numbers.{numbersOf}
-use Rattle.listing.specs.declared.ListingAnswer.the-variants.{Refused as NotChecked}
+use Rattle.listing.specs.declared.ListingAnswer.{ListingAnswer}
+use Rattle.listing.specs.declared.ListingAnswer.the-variants.{Right, Wrong, Refused as NotChecked}
+use Rattle.page.proofs.RightLaws.{right-few}
+use Rattle.page.specs.Answer.{pageLength, pageIf, pageAnswer}
 use Rattle.parse.proofs.NumberLaws.{largestNumber, Numbered, grammar-numbered}
 use Rattle.engine.specs.Refusals.{tooLong}
 use Rattle.priority.proofs.CheckLaws.{accepted-formed}
@@ -112,3 +116,16 @@ module _ (b w l : List ℕ) where
   pub listing-fits : Fits (listingReply (listingAnswer b w l))
   unfolding listingAnswer listingReply
   listing-fits = unless-fits listingReply NotChecked refusals (judged b w l) (λ k place. refl) refusals-numbered (λ e. judged-fits (listing-short e))
+
+-- ---- the page
+
+module _ (b w l : List ℕ) (bytes : (k : ℕ) → getD b k 0 < characters) (size : ℕ) where
+  page-fits-if : (a : ListingAnswer) → listingAnswer b w l ≡ a → Fits (listingReply a) → Fits (writeReply (pageIf a (pageLength l) size))
+  unfolding pageIf listingReply writeReply pageLength
+  page-fits-if Right e h = write-fits 24 (pageLength l) size (omega arith) (omega (arith, right-few b w l bytes e))
+  page-fits-if (Wrong index) e h = refused-fits 23 index (omega arith)
+  page-fits-if (NotChecked number place) e h = h
+
+  pub page-fits : Fits (writeReply (pageAnswer b w l size))
+  unfolding pageAnswer
+  page-fits = page-fits-if (listingAnswer b w l) refl (listing-fits b w l)

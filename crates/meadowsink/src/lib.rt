@@ -5,3 +5,5 @@ pub mod check_listing;
 pub mod conflict;
 pub mod flat;
 pub mod read;
+pub mod text_under;
+pub mod write_page;

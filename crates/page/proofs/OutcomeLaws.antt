@@ -8,9 +8,11 @@ use native.Mathlib.Omega.{arith}
 use lib.ListN.{length, getD, List·getD-eq-default}
 use lib.Seq.{sets}
 use Rattle.charset.specs.Set.{characters}
+use Rattle.chart.specs.Layout.{textLimit}
 use Rattle.common.proofs.AllLaws.{all-of-at}
 use Rattle.common.specs.Lists.{All}
 use Rattle.listing.specs.Answer.{listingAnswer}
+use Rattle.listing.specs.declared.ListingAnswer.{ListingAnswer}
 use Rattle.listing.specs.declared.ListingAnswer.the-variants.{Right, Wrong, Refused as NotChecked}
 use Rattle.numbers.proofs.NumbersLaws.{numbers-length}
 use Rattle.numbers.specs.Numbers.{numbersOf}
@@ -114,3 +116,16 @@ module _ (b w l : List ℕ) (bytes : (k : ℕ) → getD b k 0 < characters) (rig
           answer = rw right (sym (fits .1 (needed-is, h)));
           after = (t, lent, put-start (pageText w (rows 0 0 t)) page₀ page n whole (omega (arith, numbers-length l, rows-count b w l bytes right t lent)));
         }
+
+-- ---- how far a row goes
+
+short-if : (b w l : List ℕ) → ((k : ℕ) → getD b k 0 < characters) → (index : ℕ) (r : Row) → r .end ≤ length w → (a : ListingAnswer) → listingAnswer b w l ≡ a → RowIf a b w l index r
+    → r .end ≤ textLimit
+unfolding RowIf
+short-if b w l bytes index r within Right e h = omega (arith, right-short b w l bytes e)
+short-if b w l bytes index r within (Wrong k) e h = omega (arith, ap (λ (q : Row). q .end) h)
+short-if b w l bytes index r within (NotChecked number place) e h = omega (arith, ap (λ (q : Row). q .end) h)
+
+-- a row under a number ends within the limit of texts
+pub under-short : (b w l : List ℕ) → ((k : ℕ) → getD b k 0 < characters) → (index : ℕ) (r : Row) → RowUnder b w l index r → r .end ≤ textLimit
+under-short b w l bytes index r under = short-if b w l bytes index r (under .within) (listingAnswer b w l) refl (under .isRow)

@@ -52,7 +52,10 @@ module _ (w : List ℕ) (r : Row) (fits : RowFits w r) where
         length-append (depth ++ number ++ start) end,
         length-append (depth ++ number) start,
         length-append depth number,
-        depth-length, number-length, start-length, end-length,
+        depth-length,
+        number-length,
+        start-length,
+        end-length,
         length-tabulate textWidth (shown w (r .start) (r .end)),
       )
 

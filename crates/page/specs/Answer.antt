@@ -1,5 +1,5 @@
 -- The promises of the operations "the page of a reading" and "the text under a number" (02, [1]), stated once, for every grammar, text, listing and buffer.
-use Prim.Native.Nat.{ℕ, _*_, _≤_}
+use Prim.Native.Nat.{ℕ, _+_, _*_, _≤_}
 use mathlib.Core.Path.{_≡_}
 use mathlib.Core.List.{List}
 use lib.ListN.{length, getD}
@@ -12,6 +12,7 @@ use Rattle.listing.specs.declared.ListingAnswer.the-variants.{Right, Wrong, Ref
 use Rattle.numbers.specs.Numbers.{numbersOf}
 use Rattle.page.specs.Text.{lineLength, pageText}
 use Rattle.rows.specs.Rows.{noRow, rows}
+use Rattle.rows.specs.Table.{places}
 use Rattle.rows.specs.declared.Row.{Row}
 use Rattle.theory.specs.Tree.{Tree, listing}
 use Rattle.writing.specs.Answer.{fitted}
@@ -66,3 +67,9 @@ pub record TextUnder (b w l : List ℕ) (index : ℕ) (part : List ℕ) : Type 0
   pub row : Row
   pub under : RowUnder b w l index row
   pub isPart : part ≡ slice (row .start) (row .end) w
+
+-- n says which part of the text is under number `index`: 256 × its start + its end.
+pub record PlacesUnder (b w l : List ℕ) (index n : ℕ) : Type 0 where
+  pub row : Row
+  pub under : RowUnder b w l index row
+  pub says : n ≡ places * row .start + row .end

@@ -2,6 +2,7 @@
 use listing::ListingAnswer;
 use listing::check_listing;
 use rows::NUMBER_LIMIT;
+use rows::PLACES;
 use rows::Row;
 use rows::place_tree;
 use rows::row_at;
@@ -19,7 +20,7 @@ ghost use Rattle.rows.specs.Rows.{noRow};
 ghost use Rattle.rows.specs.Table.{numberLimit, unpacked, tableRows};
 ghost use Rattle.writing.specs.Put.{Put, farthest};
 ghost use Rattle.page.specs.Text.{printed, shown, column, rowText, pageText, textWidth, lineLength, RowFits};
-ghost use Rattle.page.specs.Answer.{PageOutcome, RowUnder, TextUnder};
+ghost use Rattle.page.specs.Answer.{PageOutcome, RowUnder, TextUnder, PlacesUnder};
 
 // How wide depths and numbers are set.
 const NUMBER_WIDTH: usize = 4;
@@ -152,7 +153,7 @@ pub fn text_under<'a>(book: &[u8], text: &'a [u8], listing: &[u8], index: usize)
     &text[start..end]
 }
 
-// The row of a number, which says which part that is.
+// The row of a number, which says which part that is. Without such a number it is the empty part at the start.
 pub fn row_under(book: &[u8], text: &[u8], listing: &[u8], index: usize) -> Row
     ensures { λ r. ⌜ RowUnder (now (book .entry)) (now (text .entry)) (now (listing .entry)) index r ⌝ }
 {
@@ -162,6 +163,14 @@ pub fn row_under(book: &[u8], text: &[u8], listing: &[u8], index: usize) -> Row
         ListingAnswer::Wrong(_) => no_row(),
         ListingAnswer::Right => row_of_right(book, text, listing, index),
     }
+}
+
+// The start and the end of that part in one number, for programs that take no slice.
+pub fn places_under(book: &[u8], text: &[u8], listing: &[u8], index: usize) -> u64
+    ensures { λ r. ⌜ PlacesUnder (now (book .entry)) (now (text .entry)) (now (listing .entry)) index r ⌝ }
+{
+    let row = row_under(book, text, listing, index);
+    (PLACES * row.start + row.end) as u64
 }
 
 // The same for a listing that is right.

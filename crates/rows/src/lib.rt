@@ -16,7 +16,7 @@ ghost use Rattle.rows.specs.Walk.{ListedAt, Placed};
 pub const NUMBER_LIMIT: usize = 4096;
 
 // Every place in a text is below this.
-const PLACES: usize = 256;
+pub const PLACES: usize = 256;
 
 // Where a number of a listing stands: how far below the root; the number; where its text starts, and the index after the text's last byte.
 pub struct Row {

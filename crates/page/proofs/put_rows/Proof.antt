@@ -59,9 +59,11 @@ loop-again c =
     let a = start .args in
     let row : ℕ → Row = λ j. unpacked (getD (numbersOf (a .listing .now)) j 0) (getD (a .table .now) j 0) in
     let fits = start .pre .1 (turn .k) (omega (arith, numbers-length (a .listing .now))) in
-    let put = put-same _ _ _ _ _ _ (ap (rowText (a .text .now)) (c .before .before .before .row-at .ensures)) (c .before .before .put-row .ensures) in
-    (put-same _ _ _ _ _ _ (sym (joined-tabulate-next (rowText (a .text .now)) (turn .k) row)) (put-append _ _ _ _ _ _ _ _ (turn .inv .0) put),
-    omega (arith, put .next, turn .inv .1, row-length (a .text .now) (row (turn .k)) fits), omega (arith, numbers-length (a .listing .now)))
+    let put = put-same _ _ _ _ _ _ (ap (rowText (a .text .now)) (c .before .before .before .row-at .ensures)) (c .before .before .put-row .ensures) in (
+      put-same _ _ _ _ _ _ (sym (joined-tabulate-next (rowText (a .text .now)) (turn .k) row)) (put-append _ _ _ _ _ _ _ _ (turn .inv .0) put),
+      omega (arith, put .next, turn .inv .1, row-length (a .text .now) (row (turn .k)) fits),
+      omega (arith, numbers-length (a .listing .now)),
+    )
 
 same-length : tie.Need-same-length Inv-loop μ-loop
 same-length c = put-long _ _ _ _ _ (c .before .loop .inv .0)

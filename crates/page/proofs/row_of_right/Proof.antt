@@ -30,9 +30,13 @@ place-tree-requires c κs =
     let start = c .before .before .before .before .before in
     let a = start .args in
     let bytes : (k : ℕ) → getD (a .book .now) k 0 < characters = λ k. omega (arith, c .before .before .before .before .shared-slice-known .given k) in
-    let (t, lent) = right-tree (a .book .now) (a .text .now) (a .listing .now) bytes (start .pre) in
-    (right-bodies (a .book .now) (a .text .now) (a .listing .now) bytes (start .pre), ((right-few (a .book .now) (a .text .now) (a .listing .now) bytes (start .pre), omega arith, omega arith, omega arith),
-    (t, listed-whole (a .book .now) (a .text .now) (a .listing .now) bytes (start .pre) t lent)))
+    let (t, lent) = right-tree (a .book .now) (a .text .now) (a .listing .now) bytes (start .pre) in (
+      right-bodies (a .book .now) (a .text .now) (a .listing .now) bytes (start .pre),
+      (
+        (right-few (a .book .now) (a .text .now) (a .listing .now) bytes (start .pre), omega arith, omega arith, omega arith),
+        (t, listed-whole (a .book .now) (a .text .now) (a .listing .now) bytes (start .pre) t lent),
+      ),
+    )
 
 slice-aggregate-row-at : tie.Need-slice-aggregate-row-at
 slice-aggregate-row-at c = search needs

@@ -33,9 +33,13 @@ place-tree-requires c κs =
     let start = c .before .before .before .before .before .before in
     let a = start .args in
     let bytes : (k : ℕ) → getD (a .book .now) k 0 < characters = λ k. omega (arith, c .before .before .before .before .before .shared-slice-known .given k) in
-    let (t, lent) = right-tree (a .book .now) (a .text .now) (a .listing .now) bytes (start .pre) in
-    (right-bodies (a .book .now) (a .text .now) (a .listing .now) bytes (start .pre), ((right-few (a .book .now) (a .text .now) (a .listing .now) bytes (start .pre), omega arith, omega arith, omega arith),
-    (t, listed-whole (a .book .now) (a .text .now) (a .listing .now) bytes (start .pre) t lent)))
+    let (t, lent) = right-tree (a .book .now) (a .text .now) (a .listing .now) bytes (start .pre) in (
+      right-bodies (a .book .now) (a .text .now) (a .listing .now) bytes (start .pre),
+      (
+        (right-few (a .book .now) (a .text .now) (a .listing .now) bytes (start .pre), omega arith, omega arith, omega arith),
+        (t, listed-whole (a .book .now) (a .text .now) (a .listing .now) bytes (start .pre) t lent),
+      ),
+    )
 
 slice-aggregate-put-rows : tie.Need-slice-aggregate-put-rows
 slice-aggregate-put-rows c = search needs
@@ -46,10 +50,11 @@ put-rows-requires c κs =
     let place-tree = c .before .before .before .place-tree in
     let a = start .args in
     let bytes : (k : ℕ) → getD (a .book .now) k 0 < characters = λ k. omega (arith, c .before .before .before .before .before .before .before .before .before .shared-slice-known .given k) in
-    let few = right-few (a .book .now) (a .text .now) (a .listing .now) bytes (start .pre) in
-    ((omega (arith, place-tree .kept .1 .1 .0), omega (arith, place-tree .kept .1 .1 .0)),
-    table-fits (a .book .now) (a .text .now) (a .listing .now) bytes (start .pre) _ (place-tree .last .1 .1 .0) refl (place-tree .result)
-    (λ t lent. place-tree .ensures t (listed-whole (a .book .now) (a .text .now) (a .listing .now) bytes (start .pre) t lent)))
+    let few = right-few (a .book .now) (a .text .now) (a .listing .now) bytes (start .pre) in (
+      (omega (arith, place-tree .kept .1 .1 .0), omega (arith, place-tree .kept .1 .1 .0)),
+      table-fits (a .book .now) (a .text .now) (a .listing .now) bytes (start .pre) _ (place-tree .last .1 .1 .0) refl (place-tree .result)
+          (λ t lent. place-tree .ensures t (listed-whole (a .book .now) (a .text .now) (a .listing .now) bytes (start .pre) t lent)),
+    )
 
 same-length : tie.Need-same-length
 same-length c = search needs
