@@ -92,6 +92,15 @@ module _ (b w l : List ℕ) where
   by-grammar (there a (here e)) small = absurd (omega (arith, text-long w e .0))
   by-grammar (there a (there c (here e))) small = absurd (omega (arith, listing-refused l e .0))
 
+  small-number : {n k : ℕ} → FirstIn lines n k → n ≤ 11
+  small-number (here e) = omega (arith, checked-number b e)
+  small-number (there a (here e)) = omega (arith, text-long w e .0)
+  small-number (there a (there c (here e))) = omega (arith, listing-refused l e .0)
+
+  -- No number but 1 to 11 is given.
+  pub refused-small : (n k : ℕ) → listingAnswer b w l ≡ Refused n k → n ≤ 11
+  refused-small n k e = small-number (order-first lines (refused-if b w l n k e))
+
   -- 1 to 9: as the grammar is refused.
   pub grammar-exactly : (n k : ℕ) → n ≤ 9 → (listingAnswer b w l ≡ Refused n k) ↔ (checked b ≡ Rejected n k)
   grammar-exactly n k small = ((λ e. by-grammar (order-first lines (refused-if b w l n k e)) small), (λ h. refused-answer n k (rw h refl)))

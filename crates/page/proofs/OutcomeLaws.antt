@@ -1,16 +1,12 @@
 -- The promises of the page and of the row under a number, case by case of what checking the listing answers.
 use Prim.Native.Nat.{ℕ, _*_, _/_, _≤_, _<_}
-use mathlib.Core.Path.{_≡_, refl, sym, _∙_, ap, ap₂, subst}
 use mathlib.Core.List.{List}
-use mathlib.Core.Logic.{by-cases}
-use native.Mathlib.Decide.{decLt}
+use mathlib.Core.Path.{_≡_, refl, sym, _∙_, ap, subst}
 use native.Mathlib.Omega.{arith}
 use lib.ListN.{length, getD, List·getD-eq-default}
-use lib.Seq.{sets}
 use Rattle.charset.specs.Set.{characters}
 use Rattle.chart.specs.Layout.{textLimit}
 use Rattle.common.proofs.AllLaws.{all-of-at}
-use Rattle.common.specs.Lists.{All}
 use Rattle.listing.specs.Answer.{listingAnswer}
 use Rattle.listing.specs.declared.ListingAnswer.{ListingAnswer}
 use Rattle.listing.specs.declared.ListingAnswer.the-variants.{Right, Wrong, Refused as NotChecked}
@@ -27,7 +23,7 @@ use Rattle.rows.specs.Table.{numberLimit, unpacked, tableRows}
 use Rattle.rows.specs.Walk.{Placed}
 use Rattle.rows.specs.declared.Next.{Next}
 use Rattle.rows.specs.declared.Row.{Row}
-use Rattle.theory.specs.Tree.{Tree, listing}
+use Rattle.theory.specs.Tree.{Tree}
 use Rattle.writing.proofs.AnswerLaws.{written-exactly, refused-exactly}
 use Rattle.writing.proofs.PutLaws.{put-same, put-start}
 use Rattle.writing.specs.Put.{Put}

@@ -1,13 +1,12 @@
 -- What a listing that is right gives: the parse that it lists, and rows that fit the page.
-use Prim.Native.Nat.{ℕ, _+_, _*_, _/_, _≤_, _<_}
-use mathlib.Core.Path.{_≡_, refl, sym, _∙_, ap}
+use Prim.Native.Nat.{ℕ, _≤_, _<_}
 use mathlib.Core.List.{List, [], append-nil}
+use mathlib.Core.Path.{_≡_, sym, _∙_, ap}
 use native.Mathlib.Omega.{arith}
-use lib.ListN.{length, getD, List·getD-map}
+use lib.ListN.{length, getD}
 use Rattle.charset.specs.Set.{characters}
 use Rattle.chart.specs.Layout.{textLimit}
 use Rattle.common.proofs.AllLaws.{all-at}
-use Rattle.flatten.specs.Reading.{Reading}
 use Rattle.grammar.proofs.FormedLaws.{bodies-in}
 use Rattle.grammar.specs.Formed.{WellFormed}
 use Rattle.grammar.specs.Layout.{bodiesAt, startSort}
@@ -20,15 +19,14 @@ use Rattle.page.specs.Answer.{Listed}
 use Rattle.page.specs.Text.{RowFits}
 use Rattle.priority.proofs.CheckLaws.{accepted-formed}
 use Rattle.rows.proofs.BuiltLaws.{SomeNumber, built-numbers}
-use Rattle.rows.proofs.RowsLaws.{row-numbers, rows-length, row-within}
+use Rattle.rows.proofs.RowsLaws.{row-number, rows-length, row-within}
 use Rattle.rows.specs.Rows.{noRow, rows}
 use Rattle.rows.specs.Table.{numberLimit}
 use Rattle.rows.specs.Walk.{ListedAt}
-use Rattle.rows.specs.declared.Row.{Row}
 use Rattle.theory.specs.Tree.{Tree, yield, listing}
 
 module _ (b w l : List ℕ) (bytes : (k : ℕ) → getD b k 0 < characters) (right : listingAnswer b w l ≡ Right) where
-  right-formed : WellFormed b
+  pub right-formed : WellFormed b
   right-formed = accepted-formed b (right-exactly b w l bytes .0 right .0)
 
   pub right-bodies : bodiesAt b ≤ length b
@@ -61,8 +59,7 @@ module _ (b w l : List ℕ) (bytes : (k : ℕ) → getD b k 0 < characters) (rig
     pub row-fits : (k : ℕ) → k < length (rows 0 0 t) → RowFits w (getD (rows 0 0 t) k noRow)
     row-fits k h =
         let within = row-within 0 0 t k h in
-        let number : getD (rows 0 0 t) k noRow .number ≡ getD (listing t) k 0 =
-        sym (List·getD-map (λ (q : Row). q .number) (rows 0 0 t) k noRow) ∙ ap (λ (v : List ℕ). getD v k 0) (row-numbers 0 0 t) in
+        let number = row-number 0 0 t k in
         let small : getD (listing t) k 0 < _ = all-at SomeNumber (listing t) k 0 (built-numbers b bytes (right-formed .framed .fewProductions) t _ (lent .reading .built)) (omega (arith, rows-length 0 0 t)) in
         record {
           depth = omega (arith, within .1, rows-length 0 0 t, rows-count, right-few);

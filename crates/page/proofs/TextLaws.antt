@@ -1,14 +1,14 @@
 -- Laws of the page's text: each line has its length.
-use Prim.Native.Nat.{ℕ, suc, _+_, _*_, _^_, _≤_, _<_}
-use mathlib.Core.Path.{_≡_, refl, sym, _∙_, ap}
+use Prim.Native.Nat.{ℕ, suc, _+_, _*_, _^_, _<_}
 use mathlib.Core.List.{List, [], _∷_, _++_}
+use mathlib.Core.Path.{_≡_, refl, _∙_, ap}
 use native.Mathlib.Omega.{arith}
 use lib.ListN.{length, length-append}
 use Rattle.common.proofs.ListLaws.{length-tabulate}
 use Rattle.common.specs.Lists.{All, tabulate, joined}
 use Rattle.page.specs.Text.{numberWidth, placeWidth, textWidth, lineLength, shown, column, rowText, pageText, RowFits}
 use Rattle.rows.specs.declared.Row.{Row}
-use Rattle.writing.proofs.NumeralLaws.{numeral-fits, set-right-length, set-right-long}
+use Rattle.writing.proofs.NumeralLaws.{numeral-fits, set-right-length}
 use Rattle.writing.specs.Bytes.{space, lineFeed}
 use Rattle.writing.specs.Numeral.{numeralBase, setRight}
 

@@ -10,7 +10,7 @@ use writing::WriteAnswer;
 use writing::put;
 use writing::put_right;
 ghost use mathlib.Core.Path.{_≡_};
-ghost use Prim.Native.Nat.{ℕ, _+_, _*_, _≤_, _<_};
+ghost use Prim.Native.Nat.{ℕ, _+_, _≤_, _<_};
 ghost use lib.ListN.{length, getD};
 ghost use Rattle.common.specs.Lists.{tabulate};
 ghost use Rattle.listing.specs.Answer.{listingAnswer};

@@ -3,7 +3,7 @@ use Prim.Native.Nat.{ℕ, _+_, _≤_, _<_}
 use mathlib.Core.List.{List, _++_, map, map-append}
 use mathlib.Core.Path.{_≡_, refl, sym, _∙_, ap, ap₂}
 use native.Mathlib.Omega.{arith}
-use lib.ListN.{length, getD, length-append, length-map}
+use lib.ListN.{length, getD, length-append, length-map, List·getD-map}
 use Rattle.common.proofs.AllLaws.{all-append, all-weaker, all-at}
 use Rattle.common.specs.Lists.{All}
 use Rattle.rows.specs.Rows.{noRow, rows, rowsBelow}
@@ -24,6 +24,10 @@ mutual
   row-numbers-below d i (f ▷ t) =
       map-append (λ (r : Row). r .number) (rowsBelow d i f) (rows d (i + length (yields f)) t)
       ∙ ap₂ (λ (v w : List ℕ). v ++ w) (row-numbers-below d i f) (row-numbers d (i + length (yields f)) t)
+
+-- the number of a row is that of the listing
+pub row-number : (d i : ℕ) (t : Tree) (k : ℕ) → getD (rows d i t) k noRow .number ≡ getD (listing t) k 0
+row-number d i t k = sym (List·getD-map (λ (r : Row). r .number) (rows d i t) k noRow) ∙ ap (λ (v : List ℕ). getD v k 0) (row-numbers d i t)
 
 pub rows-length : (d i : ℕ) (t : Tree) → length (rows d i t) ≡ length (listing t)
 rows-length d i t = sym (length-map (rows d i t) (λ (r : Row). r .number)) ∙ ap (length {A = ℕ}) (row-numbers d i t)

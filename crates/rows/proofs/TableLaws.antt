@@ -8,11 +8,11 @@ use lib.Seq.{ext-getD, sets}
 use Rattle.common.proofs.ListLaws.{length-tabulate, getD-tabulate}
 use Rattle.common.proofs.OverwrittenLaws.{sets-front}
 use Rattle.common.specs.Lists.{tabulate}
-use Rattle.rows.proofs.RowsLaws.{row-numbers, rows-length, row-within}
+use Rattle.rows.proofs.RowsLaws.{row-number, rows-length, row-within}
 use Rattle.rows.specs.Rows.{row, noRow, rows}
-use Rattle.rows.specs.declared.Row.{Row}
 use Rattle.rows.specs.Table.{places, packed, word, unpacked, tableRows}
 use Rattle.rows.specs.Walk.{words}
+use Rattle.rows.specs.declared.Row.{Row}
 use Rattle.theory.specs.Tree.{Tree, yield, listing}
 
 -- a word says its row, if the places are in range
@@ -42,8 +42,7 @@ module _ (t : Tree) (table₀ table : List ℕ) (wrote : table ≡ sets table₀
   row-said k l =
       let r = getD (rows 0 0 t) k noRow in
       let within = row-within 0 0 t k (omega (arith, rows-length 0 0 t)) in
-      let number : getD (listing t) k 0 ≡ r .number = ap (λ (v : List ℕ). getD v k 0) (sym (row-numbers 0 0 t)) ∙ List·getD-map (λ (q : Row). q .number) (rows 0 0 t) k noRow in
-      ap₂ unpacked number (word-at k l) ∙ unpacked-word r (omega arith) (omega arith)
+      ap₂ unpacked (sym (row-number 0 0 t k)) (word-at k l) ∙ unpacked-word r (omega arith) (omega arith)
 
   -- all rows
   pub rows-said : tableRows (listing t) table ≡ rows 0 0 t

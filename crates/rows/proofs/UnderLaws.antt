@@ -7,10 +7,10 @@ use native.Mathlib.Decide.{decLt}
 use native.Mathlib.Omega.{arith}
 use lib.ListN.{length, getD, take, drop, length-append, List·getD-append}
 use lib.Seq.{take-at, drop-at, drop-append-le, drop-append-add, getD-append-add}
+use Rattle.rows.proofs.RowsLaws.{rows-below-length}
 use Rattle.rows.specs.Rows.{noRow, rows, rowsBelow}
 use Rattle.rows.specs.Under.{Stands}
 use Rattle.rows.specs.declared.Row.{Row}
-use Rattle.rows.proofs.RowsLaws.{rows-below-length}
 use Rattle.theory.specs.Tree.{Tree, leaf, node, Forest, none, _▷_, yield, yields, listing, listings, At, atEnd, further, Subtree, itself, below}
 
 -- ---- a part of a text that starts at i

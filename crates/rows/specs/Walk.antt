@@ -6,7 +6,6 @@ use lib.ListN.{length, drop}
 use lib.Seq.{sets}
 use Rattle.flatten.specs.Trees.{Built}
 use Rattle.rows.specs.Rows.{rows}
-use Rattle.rows.specs.declared.Row.{Row}
 use Rattle.rows.specs.Table.{word}
 use Rattle.rows.specs.declared.Next.{Next}
 use Rattle.theory.specs.Tree.{Tree, yield, listing}

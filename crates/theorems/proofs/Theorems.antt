@@ -1,13 +1,15 @@
 -- The theorems of the page, each from the law that proves it.
-use Prim.Native.Nat.{ℕ}
-use mathlib.Core.Path.{_≡_, refl, sym, subst, subst⁻¹, fun-ext}
+use Prim.Native.Nat.{ℕ, _<_}
+use mathlib.Core.Path.{_≡_, refl, sym, _∙_, ap, subst, subst⁻¹, fun-ext}
 use mathlib.Core.Logic.{⊎-elim}
 use mathlib.Core.List.{List}
-use lib.ListN.{length}
+use lib.ListN.{length, getD}
+use lib.Seq.{slice}
 use Rattle.flatten.proofs.AnswerLaws.{flat-fits, flat-too-long, flat-grammar}
 use Rattle.flatten.proofs.FlatClassLaws.{flat-any, flat-argument}
 use Rattle.flatten.proofs.FlatLaws.{flat-trees}
 use Rattle.flatten.proofs.VisserLaws.{flat-completed, flat-visser}
+use Rattle.ccg.proofs.ListingLaws.{listing-determines}
 use Rattle.ccg.proofs.WrittenLaws.{text-determines}
 use Rattle.flatten.proofs.FlatWrittenLaws.{flat-written}
 use Rattle.ccg.specs.Ccg.{Class, Line, Generated}
@@ -18,6 +20,10 @@ use Rattle.grammar.specs.Layout.{startSort}
 use Rattle.theorems.proofs.OneRightLaws.{one-right}
 use Rattle.listing.proofs.RefusedLaws.{grammar-exactly as listing-grammar, ten-exactly as listing-ten, eleven-exactly, right-exactly}
 use Rattle.marked.proofs.Marked.{marked-outcomes}
+use Rattle.page.proofs.AnswerLaws.{page-fits, page-too-long, page-wrong, page-refused}
+use Rattle.page.proofs.LinesLaws.{line-says, page-beyond, part-spelled, row-none}
+use Rattle.page.proofs.UniqueLaws.{one-listed, page-one, row-one, part-one}
+use Rattle.page.specs.Answer.{pageLength, PageAfter, PageOutcome}
 use Rattle.parse.proofs.AnswerLaws.{parsed-outcome, refused-unchanged, grammar-exactly, ten-exactly, twenty-exactly}
 use Rattle.parse.proofs.OutcomeLaws.{outcome-unique}
 use Rattle.flatten.specs.Reading.{Reading}
@@ -25,7 +31,12 @@ use Rattle.priority.proofs.CheckLaws.{accepted-formed}
 use Rattle.question.proofs.AnswerLaws.{conflict-yes, conflict-no, conflict-absent, conflict-refused}
 use Rattle.priority.proofs.DeclarationLaws.{accepted-declares}
 use Rattle.priority.proofs.RefusalLaws.{refused-first, first-refused, accepted-free, free-accepted}
-use Rattle.theorems.specs.Theorems.{Bytes, AcceptedExactly, RefusedExactly, ConflictExactly, FlatExactly, Refuses, OneOutcome, ListingExactly, OneIsRight, Declares, FlatIsVisser, FlatIsCompleted, FlatTrees, FlatArguments, ReadingsAreFlat, Read, TextDetermines, Archived, FlatIsWritten, MarkedCases}
+use Rattle.rows.proofs.RowsLaws.{row-number}
+use Rattle.rows.proofs.UnderLaws.{row-stands}
+use Rattle.rows.specs.declared.Row.{Row}
+use Rattle.writing.specs.declared.WriteAnswer.{WriteAnswer}
+use Rattle.writing.specs.declared.WriteAnswer.the-variants.{Written, Refused as NotWritten}
+use Rattle.theorems.specs.Theorems.{Bytes, AcceptedExactly, RefusedExactly, ConflictExactly, FlatExactly, Refuses, OneOutcome, ListingExactly, OneIsRight, Declares, FlatIsVisser, FlatIsCompleted, FlatTrees, FlatArguments, ReadingsAreFlat, Read, TextDetermines, Archived, FlatIsWritten, ListingDetermines, OneListed, PageExactly, PageSays, Pages, Parts, MarkedCases}
 
 -- ---- demand 1
 
@@ -126,6 +137,59 @@ archived b bytes e g form text top starts w t =
       (λ h. flat .1 (subst⁻¹ (λ (k : List Line). Generated k (plainClass b (startSort b)) t) same (subst⁻¹ (λ (cc : Class). Generated g cc t) tops (h .0)), h .1)),
       (λ r. let h = flat .0 r in (subst (λ (cc : Class). Generated g cc t) tops (subst (λ (k : List Line). Generated k (plainClass b (startSort b)) t) same (h .0)), h .1)),
     )
+
+-- ---- request 1
+
+pub listing-determines-tree : ListingDetermines
+listing-determines-tree = listing-determines
+
+pub one-listed-reading : OneListed
+one-listed-reading = one-listed
+
+pub page-exactly : (b w l : List ℕ) (room : ℕ) → PageExactly b w l room
+unfolding pageLength
+page-exactly b w l room =
+    record { written = page-fits b w l room; tooLong = page-too-long b w l room; wrong = page-wrong b w l room; refused = page-refused b w l room }
+
+-- a page that was refused
+refused-page : (b w l page₀ : List ℕ) (r : WriteAnswer) (page : List ℕ) (n k : ℕ) → r ≡ NotWritten n k → PageAfter b w l page₀ r page → page ≡ page₀
+unfolding PageAfter
+refused-page b w l page₀ r page n k e after = subst (λ (a : WriteAnswer). PageAfter b w l page₀ a page) e after
+
+-- and one that was written
+written-page : (b : List ℕ) → Bytes b → (w l page₀ : List ℕ) (r : WriteAnswer) (page : List ℕ) (n : ℕ) → r ≡ Written n → PageOutcome b w l page₀ r page → PageSays b w l page₀ page
+unfolding PageAfter pageLength
+written-page b bytes w l page₀ r page n e o =
+    let right = page-fits b w l (length page₀) n .0 (sym (o .answer) ∙ e) .0 in
+    let (t, lent, after) : PageAfter b w l page₀ (Written n) page = subst (λ (a : WriteAnswer). PageAfter b w l page₀ a page) e (o .after) in
+    record {
+      tree = t;
+      listed = lent;
+      number = λ k h. row-number 0 0 t k ∙ ap (λ (v : List ℕ). getD v k 0) (lent .listed);
+      line = line-says b bytes w l right t lent page₀ page after;
+      stands = λ k h. row-stands t k (subst (λ (v : List ℕ). k < length v) (sym (lent .listed)) h);
+      beyond = page-beyond b bytes w l right t lent page₀ page after;
+    }
+
+pub pages : Pages
+pages b bytes w l page₀ r page o = (
+  record {
+    answer = o .answer;
+    one = λ r′ page′ o′. page-one b bytes w l page₀ r r′ page page′ o o′;
+    unchanged = λ n k e. refused-page b w l page₀ r page n k e (o .after);
+  },
+  (λ n e. written-page b bytes w l page₀ r page n e o),
+)
+
+pub parts : Parts
+parts b bytes w l index part under =
+    record {
+      one = λ part′ other. part-one b bytes w l index part part′ under other;
+      place = λ r other. under .isPart ∙ ap (λ (q : Row). slice (q .start) (q .end) w) (row-one b bytes w l index (under .row) r (under .under) other);
+      onePlace = row-one b bytes w l index;
+      spells = λ right t lent h. part-spelled b bytes w l right t lent index part under h;
+      none = λ absent r other. let e = row-none b w l index r other absent in (ap (λ (q : Row). q .start) e, ap (λ (q : Row). q .end) e);
+    }
 
 -- ---- the marked cases
 

@@ -7,6 +7,8 @@
 --     flatten::write_flat          answers  flatAnswer b (how long its buffer is), and leaves there  bufferAfter
 --     parse::parse                 answers some r and leaves some chart and l with  Outcome b w chart₀ l₀ r chart l
 --     listing::check_listing       answers  listingAnswer b w l
+--     page::write_page             answers some r and leaves some page with  PageOutcome b w l page₀ r page
+--     page::text_under             hands back some part of the text with  TextUnder b w l index part
 -- A call that is proved ends.
 --
 -- Words. A tree (theory/specs/Tree) is a character or a production (rule) with a list of trees; `yield` is what it spells and `listing` its numbers, a
@@ -14,14 +16,16 @@
 -- (flatten/specs/Trees); `Conflict b p i q`: production q as argument i of p is a pattern of Definition 2.6 (priority/specs/Conflict); `ConflictFree`: no subtree's root
 -- has one. `Reading b w t`: t is built at the start sort, has no conflict and spells w (flatten/specs/Reading); `EntryList b w p d i j f`: f has such trees for the first
 -- d arguments of p, and they spell w from i to j. `Generated g cc t`: t is a tree of the character class grammar g (a list of lines) in the class cc (ccg/specs/Ccg).
--- `Only P t`: P holds of t and of nothing else; `Two P`: of two different things; `Counts P v`: of none, one or two, as v is 0, 1 or 2 (theory/specs/Counts).
-use Prim.Native.Nat.{ℕ, _*_, _/_, _%_, _≤_, _<_}
+-- `Listed b w l t`: t is the reading of w whose listing l is (page/specs/Answer); `rows 0 0 t`: for each number of its listing depth, number, start and end
+-- (rows/specs/Rows). `Only P t`: P holds of t and of nothing else; `Two P`: of two different things; `Counts P v`: of none, one or two, as v is 0, 1 or 2 (theory/specs/Counts).
+use Prim.Native.Nat.{ℕ, _+_, _*_, _/_, _%_, _≤_, _<_}
 use mathlib.Core.Path.{_≡_}
 use mathlib.Core.Bool.{true}
 use mathlib.Core.List.{List, _++_}
 use mathlib.Core.Logic.{_↔_, _⊎_}
 use lib.ListN.{length, getD, take, drop}
-use Rattle.ccg.specs.Ccg.{Class, Line, Generated}
+use lib.Seq.{slice}
+use Rattle.ccg.specs.Ccg.{Class, Line, OwnNumbers, Generated}
 use Rattle.flatten.specs.Flat.{flatClass, flatGrammar, plainClass}
 use Rattle.ccg.specs.Text.{grammarText}
 use Rattle.flatten.specs.Answer.{flatAnswer}
@@ -40,8 +44,10 @@ use Rattle.grammar.specs.Layout.{productions, startSort, argumentCount, result,
 use Rattle.grammar.specs.declared.Verdict.the-variants.{Accepted, Refused}
 use Rattle.listing.specs.Answer.{byteLimit, listingAnswer}
 use Rattle.numbers.specs.Numbers.{numbersOf}
-use Rattle.listing.specs.declared.ListingAnswer.the-variants.{Right, Refused as NotChecked}
+use Rattle.listing.specs.declared.ListingAnswer.the-variants.{Right, Wrong, Refused as NotChecked}
 use Rattle.marked.specs.Cases.{Promised, table}
+use Rattle.page.specs.Answer.{Listed, pageAnswer, PageOutcome, RowUnder, TextUnder}
+use Rattle.page.specs.Read.{ReadBack}
 use Rattle.parse.specs.Outcome.{needed, Outcome}
 use Rattle.flatten.specs.Reading.{Reading, EntryList}
 use Rattle.priority.specs.Check.{checked}
@@ -50,9 +56,13 @@ use Rattle.question.specs.Answer.{There, conflictAnswer}
 use Rattle.priority.specs.Priorities.{PriorityDeclaration}
 use Rattle.priority.specs.Refusals.{Holds, First}
 use Rattle.question.specs.declared.ConflictAnswer.the-variants.{Yes, No, Refused as NotAsked}
+use Rattle.rows.specs.Rows.{noRow, rows}
+use Rattle.rows.specs.Under.{Stands}
+use Rattle.rows.specs.declared.Row.{Row}
 use Rattle.theory.specs.Counts.{Only, Two, Counts}
 use Rattle.writing.specs.Answer.{bufferAfter}
-use Rattle.theory.specs.Tree.{Tree, node, Forest, productionNumber, yield, listing}
+use Rattle.writing.specs.declared.WriteAnswer.{WriteAnswer}
+use Rattle.theory.specs.Tree.{Tree, node, Forest, productionNumber, yield, listing, Subtree}
 
 -- The numbers of a list are bytes, as those of a slice are.
 abbrev pub Bytes : List ℕ → Type 0
@@ -186,6 +196,59 @@ Archived =
 -- There is one: the flat grammar itself is in that form.
 abbrev pub FlatIsWritten : Type 0
 FlatIsWritten = (b : List ℕ) → Bytes b → checked b ≡ Accepted → WrittenForm (flatGrammar b)
+
+-- ---- Request 1. "For a book, text and listing we want a page of 73 bytes a number: its depth, the number, where its text starts and ends, and the first 54 bytes of its
+-- text. The text under a number is that part of the lent text, handed back and not copied."
+
+-- A listing determines its tree, by every character class grammar whose lines have their own numbers.
+abbrev pub ListingDetermines : Type 0
+ListingDetermines =
+    (g : List Line) → OwnNumbers g → (cc dd : Class) (t u : Tree) → Generated g cc t → Generated g dd u → listing t ≡ listing u → t ≡ u
+
+-- So a listing that is right is that of one reading.
+abbrev pub OneListed : Type 0
+OneListed = (b : List ℕ) → Bytes b → (w l : List ℕ) → listingAnswer b w l ≡ Right → (t u : Tree) → Listed b w l t → Listed b w l u → t ≡ u
+
+-- The page is written exactly if the listing is right and 73 bytes a number fit; else 24 and these bytes, 23 and the index, or what checking the listing refuses.
+pub record PageExactly (b w l : List ℕ) (room : ℕ) : Type 0 where
+  pub written : (n : ℕ) → (pageAnswer b w l room ≡ Written n) ↔ ((listingAnswer b w l ≡ Right) × (n ≡ 73 * length (numbersOf l)) × (n ≤ room))
+  pub tooLong : (k : ℕ) → (pageAnswer b w l room ≡ NotWritten 24 k) ↔ ((listingAnswer b w l ≡ Right) × (k ≡ 73 * length (numbersOf l)) × (room < k))
+  pub wrong : (k : ℕ) → (pageAnswer b w l room ≡ NotWritten 23 k) ↔ (listingAnswer b w l ≡ Wrong k)
+  pub refused : (n k : ℕ) → n ≤ 11 → (pageAnswer b w l room ≡ NotWritten n k) ↔ (listingAnswer b w l ≡ NotChecked n k)
+
+-- What was lent determines the answer and every byte of the buffer; by a refusal none is changed.
+pub record OnePage (b w l page₀ : List ℕ) (r : WriteAnswer) (page : List ℕ) : Type 0 where
+  pub answer : r ≡ pageAnswer b w l (length page₀)
+  pub one : (r′ : WriteAnswer) (page′ : List ℕ) → PageOutcome b w l page₀ r′ page′ → (r ≡ r′) × (page ≡ page′)
+  pub unchanged : (n k : ℕ) → r ≡ NotWritten n k → page ≡ page₀
+
+-- A page that was written is that of the reading listed: each line can be read back (depth, number, start and end are the values of their columns), and where its row
+-- says that the text stands, a subtree does whose listing begins at that number. Beyond the page the buffer is what it was.
+pub record PageSays (b w l page₀ page : List ℕ) : Type 0 where
+  pub tree : Tree
+  pub listed : Listed b w l tree
+  pub number : (k : ℕ) → k < length (numbersOf l) → getD (rows 0 0 tree) k noRow .number ≡ getD (numbersOf l) k 0
+  pub line : (k : ℕ) → k < length (numbersOf l) → ReadBack w (getD (rows 0 0 tree) k noRow) (slice (73 * k) (73 * (k + 1)) page)
+  pub stands : (k : ℕ) → k < length (numbersOf l) → Stands tree k (getD (rows 0 0 tree) k noRow)
+  pub beyond : drop (73 * length (numbersOf l)) page ≡ drop (73 * length (numbersOf l)) page₀
+
+abbrev pub Pages : Type 0
+Pages =
+    (b : List ℕ) → Bytes b → (w l page₀ : List ℕ) (r : WriteAnswer) (page : List ℕ) → PageOutcome b w l page₀ r page
+    → OnePage b w l page₀ r page × ((n : ℕ) → r ≡ Written n → PageSays b w l page₀ page)
+
+-- The part handed back is what the subtree spells whose listing begins at that number, in the reading listed; if the listing isn't right or has no such number, it is
+-- the empty one at the text's start. Where it starts and ends is determined, and so are its bytes.
+pub record PartSays (b w l : List ℕ) (index : ℕ) (part : List ℕ) : Type 0 where
+  pub one : (part′ : List ℕ) → TextUnder b w l index part′ → part ≡ part′
+  pub place : (r : Row) → RowUnder b w l index r → part ≡ slice (r .start) (r .end) w
+  pub onePlace : (r r′ : Row) → RowUnder b w l index r → RowUnder b w l index r′ → r ≡ r′
+  pub spells : listingAnswer b w l ≡ Right → (t : Tree) → Listed b w l t → index < length (numbersOf l)
+      → (s : Tree) × Subtree s t × ((others : List ℕ) × (drop index (numbersOf l) ≡ listing s ++ others)) × (part ≡ yield s)
+  pub none : (listingAnswer b w l ≡ Right → length (numbersOf l) ≤ index) → (r : Row) → RowUnder b w l index r → (r .start ≡ 0) × (r .end ≡ 0)
+
+abbrev pub Parts : Type 0
+Parts = (b : List ℕ) → Bytes b → (w l : List ℕ) (index : ℕ) (part : List ℕ) → TextUnder b w l index part → PartSays b w l index part
 
 -- ---- The paper's marked cases: any outcome of reading each of them, whatever chart and buffer held, is the one marked.
 abbrev pub MarkedCases : Type 0

@@ -1,9 +1,9 @@
 -- Writing a text into a lent buffer: written and refused, each exactly under its condition.
 use Prim.Native.Nat.{ℕ, _≤_, _<_}
-use mathlib.Core.Path.{_≡_, refl, sym, _∙_, ap}
 use mathlib.Core.Logic.{_↔_, by-cases}
-use native.Mathlib.Omega.{arith}
+use mathlib.Core.Path.{_≡_, refl, sym, _∙_, ap}
 use native.Mathlib.Decide.{decLt}
+use native.Mathlib.Omega.{arith}
 use borrow.Author.Tests.{le-leb, lt-leb}
 use Rattle.writing.specs.Answer.{fitted}
 use Rattle.writing.specs.declared.WriteAnswer.the-variants.{Written, Refused}
@@ -16,7 +16,7 @@ refused-written m n k e = let z : _≡_ {A = ℕ} 0 1 = cc in omega arith
 same-written : (n m : ℕ) → Written n ≡ Written m → n ≡ m
 same-written n m e = cc
 
-same-refused : (n k m j : ℕ) → Refused n k ≡ Refused m j → (n ≡ m) × (k ≡ j)
+pub same-refused : (n k m j : ℕ) → Refused n k ≡ Refused m j → (n ≡ m) × (k ≡ j)
 same-refused n k m j e = (cc, cc)
 
 -- ---- does it fit?

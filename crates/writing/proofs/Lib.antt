@@ -1,4 +1,5 @@
 -- Laws of writing into a lent buffer, and of numerals.
+
 pub mod PutLaws
 pub mod NumeralLaws
 pub mod AnswerLaws

@@ -1,13 +1,13 @@
 -- Laws of writing into a lent buffer: pieces put one behind the other are the whole put at once.
 use Prim.Native.Nat.{ℕ, suc, _+_, _≤_}
-use mathlib.Core.Path.{_≡_, refl, sym, _∙_, ap, ap₂, subst}
 use mathlib.Core.List.{List, [], _∷_, _++_}
-use native.Mathlib.Omega.{arith}
+use mathlib.Core.Path.{_≡_, refl, sym, _∙_, ap, ap₂, subst}
 use native.Mathlib.Nat.{zero-add}
+use native.Mathlib.Omega.{arith}
 use lib.ListN.{length, drop, length-append}
 use lib.Seq.{set-out, sets, length-sets, sets-eq}
-use Rattle.writing.specs.Put.{Put}
 use Rattle.common.proofs.OverwrittenLaws.{sets-append}
+use Rattle.writing.specs.Put.{Put}
 
 pub put-none : (l : List ℕ) (at : ℕ) → Put [] l at l at
 put-none l at = record { wrote = refl; next = omega arith }
