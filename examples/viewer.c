@@ -1,10 +1,12 @@
 /*
  * The sheet viewer: says how a line is to be taken by a book.
  *
- *     viewer [--names NAMES] BOOK [LINE]    the answer in words, and the tree if there is one reading; without LINE it is read from standard input
- *     viewer --flat BOOK                    the flat book; on standard error the numbers allowed at the top, to be kept beside it
+ *     viewer [--names NAMES] BOOK [LINE]           the answer in words, and the tree if there is one reading; without LINE it is read from standard input
+ *     viewer --page [--names NAMES] BOOK [LINE]    the page of the one reading, a line for each number of its listing; else the answer in words
+ *     viewer --flat BOOK                           the flat book; on standard error the numbers allowed at the top, to be kept beside it
  *
  * NAMES has the name of a rule on each line, as tools/book writes it. A rule without a name is shown as `rule N`, counted from 0 as in the book.
+ * A page has numbers only, so names change nothing on it; include/meadowsink.h says what stands in each column.
  * A refusal has its number and place; `book --explain BOOK PLACE` says what stands at that byte of a book.
  * The exit status is 0 for an answer, 1 for a refusal, 2 if the viewer was called wrongly, a file can't be read or something doesn't fit the machine.
  */
@@ -22,6 +24,7 @@ enum {
     START = 4,             /* its byte that is the start sort */
     PRODUCTION_BASE = 258, /* rule 0 in a listing; characters are below */
     NUMBERS_MOST = 32768,  /* numbers of the longest listing that is written */
+    LINE_BYTES = 73,       /* bytes of a page for each number */
     KIND_NONE = 0,         /* the kinds of answers, and the number of a refusal */
     KIND_ONE = 1,
     KIND_REFUSED = 3,
@@ -104,8 +107,11 @@ static const char *const words_for[] = {
     [8] = "the rule at byte %llu of the book is equal to an earlier one",
     [9] = "rule %llu, counted from 0, is higher than itself, by a circle of declarations",
     [10] = "the line has %llu bytes; the most is 200",
+    [11] = "the listing has %llu bytes, too many for a page; the most is 8192",
     [CHART_SHORT] = "the chart is too short; it needs %llu bytes",
     [22] = "there is one reading, but it has more than %llu numbers, too many to show",
+    [23] = "the listing is not right at number %llu, counted from 0",
+    [24] = "the page is too short; it needs %llu bytes",
 };
 
 static int refuse(uint64_t number, uint64_t place) {
@@ -160,9 +166,28 @@ static void print_node(Node node) {
     putchar('\n');
 }
 
-static void print_tree(void) {
-    size_t count = place_node(0, 0);
+static int print_tree(size_t count) {
+    puts("one reading");
+    place_node(0, 0);
     for (size_t i = 0; i < count; i++) print_node(nodes[i]);
+    return ANSWERED;
+}
+
+/* ---- the page */
+
+typedef uint64_t PageCall(const uint8_t *, size_t, const uint8_t *, size_t, const uint8_t *, size_t, uint8_t *, size_t);
+
+static uint64_t call_page(PageCall *operation, size_t count, uint8_t *page, size_t size) {
+    return operation(book.bytes, book.length, line.bytes, line.length, listing, 2 * count, page, size);
+}
+
+static int print_page(size_t count) {
+    size_t size = LINE_BYTES * count;
+    uint8_t *page = reserve(size, "a page");
+    uint64_t answer = call_page(meadowsink_page, count, page, size);
+    if (answer % 4 == KIND_REFUSED) return refuse(answer / 4, call_page(meadowsink_page_place, count, page, size));
+    fwrite(page, 1, answer / 4, stdout);
+    return ANSWERED;
 }
 
 /* ---- parsing a line */
@@ -173,8 +198,8 @@ static uint64_t call(Call *operation, uint8_t *chart, size_t size) {
     return operation(book.bytes, book.length, line.bytes, line.length, chart, size, listing, sizeof listing);
 }
 
-/* The library says how long the chart must be, if it gets as far. */
-static int parse_line(void) {
+/* The library says how long the chart must be, if it gets as far. `print_one` is given how many numbers the only reading has. */
+static int parse_line(int (*print_one)(size_t)) {
     uint8_t *chart = NULL;
     size_t size = 0;
     uint64_t answer = call(meadowsink_read, chart, size);
@@ -184,8 +209,8 @@ static int parse_line(void) {
         answer = call(meadowsink_read, chart, size);
     }
     if (answer % 4 == KIND_REFUSED) return refuse(answer / 4, call(meadowsink_read_place, chart, size));
-    puts(answer % 4 == KIND_NONE ? "no reading" : answer % 4 == KIND_ONE ? "one reading" : "several readings");
-    if (answer % 4 == KIND_ONE) print_tree();
+    if (answer % 4 == KIND_ONE) return print_one(answer / 4);
+    puts(answer % 4 == KIND_NONE ? "no reading" : "several readings");
     return ANSWERED;
 }
 
@@ -223,15 +248,28 @@ static void load_line(const char *given) {
     memcpy(line.bytes, given, line.length);
 }
 
+static void load_file(Area *area, const char *name) { load(area, fopen(name, "rb"), name); }
+
+/* Goes past the option if it is the next word, and says whether it is. */
+static int option(const char *name, int count, char **words, int *at) {
+    int given = *at < count && strcmp(words[*at], name) == 0;
+    *at += given;
+    return given;
+}
+
 int main(int count, char **words) {
-    int flat = count > 1 && strcmp(words[1], "--flat") == 0, named = count > 2 && strcmp(words[1], "--names") == 0;
-    int at = flat ? 2 : named ? 3 : 1, most = flat ? 1 : 2;
-    if (count <= at || count > at + most) fail("usage: viewer [--names NAMES] BOOK [LINE]  or  viewer --flat BOOK");
-    if (named) load(&names, fopen(words[2], "rb"), words[2]);
-    load(&book, fopen(words[at], "rb"), words[at]);
+    int at = 1, flat = option("--flat", count, words, &at);
+    int paged = !flat && option("--page", count, words, &at);
+    const char *named = !flat && option("--names", count, words, &at) ? words[at++] : NULL;
+    int most = flat ? 1 : 2;
+    if (count <= at || count > at + most) fail("usage: viewer [--page] [--names NAMES] BOOK [LINE]  or  viewer --flat BOOK");
+    if (named != NULL) load_file(&names, named);
+    load_file(&book, words[at]);
     if (!flat) load_line(words[at + 1]);
     uint64_t answer = meadowsink_check(book.bytes, book.length);
-    int status = answer % 4 == KIND_REFUSED ? refuse(answer / 4, meadowsink_check_place(book.bytes, book.length)) : flat ? print_flat() : parse_line();
+    int status = answer % 4 == KIND_REFUSED ? refuse(answer / 4, meadowsink_check_place(book.bytes, book.length))
+                 : flat                     ? print_flat()
+                                            : parse_line(paged ? print_page : print_tree);
     if (fflush(stdout) != 0 || ferror(stdout)) fail("standard output can't be written");
     return status;
 }

@@ -16,10 +16,11 @@ extern "C" {
  * Areas. Each area is a pointer and a length in bytes. A `const` area is only read, and such areas may overlap one another; an area that is written must not
  * overlap any other. What it holds before a call doesn't matter. An area of length 0 may have any pointer, NULL too.
  *
- * Stack. Every call needs less than 2 MB of stack, and those that read a text less than 512 KB, whatever the book and the text.
+ * Stack. Every call needs less than 2 MB of stack, and those that parse a text less than 512 KB, whatever the book and the text.
  *
  * Two calls to an operation. The first gives its answer, 4 * value + kind, where kind 3 is a refusal and the value its number. The second, whose name ends
  * in `_place`, takes the same areas, does the same to them, and gives the place of the refusal; it is 0 if nothing is refused, but 0 may also be a place.
+ * meadowsink_text_under refuses nothing, so it has no second call, and its result is not of this form.
  *
  * Refusals, with their places. Bytes and rules are counted from 0. The book's refusals, 1 to 9, come before the others.
  *
@@ -39,6 +40,8 @@ extern "C" {
  *        arguments + 1. Place: how many it needs.
  *   21   the written grammar doesn't fit. Place: how many bytes it needs.
  *   22   there is one parse, but its listing doesn't fit. Place: how many numbers of it are written.
+ *   23   the listing is not right. Place: the index, from 0, that meadowsink_check_listing gives.
+ *   24   the page doesn't fit. Place: how many bytes it needs, 73 for each number of the listing.
  */
 
 /*
@@ -140,6 +143,58 @@ uint64_t meadowsink_check_listing(const uint8_t *book, size_t book_length, const
 /* The place of the refusal. */
 uint64_t meadowsink_check_listing_place(const uint8_t *book, size_t book_length, const uint8_t *text, size_t text_length, const uint8_t *listing,
                                         size_t listing_length);
+
+/*
+ * Writes the page of a parse: a line for each number of its listing, in the listing's order.
+ *
+ *   book     the bytes of the grammar
+ *   text     the bytes of the text, at most 200
+ *   listing  the numbers, as meadowsink_read writes them; at most 8,192 bytes
+ *   page     where the lines go
+ *
+ * A line has 73 bytes, which are its columns 1 to 73:
+ *
+ *   1 to 4     the depth: 0 for the first number, and for each argument of a rule one more than for the rule
+ *   6 to 9     the number: 258 + r for rule r, or a character
+ *   11 to 13   where its text starts, as an index into `text`, from 0. The text of a rule is what its arguments spell, that of a character is its one byte.
+ *   15 to 17   where its text ends: the index after its last byte, so equal to the start if the text is empty
+ *   19 to 72   the first 54 bytes of its text, and spaces if it has fewer; a byte below 32 or above 126 is written as a full stop
+ *   73         a line feed, byte 10
+ *
+ * The four figures are in base ten and set right, with spaces before them. Columns 5, 10, 14 and 18 are spaces.
+ *
+ * The result is 4 * value + kind:
+ *
+ *   kind 1   written; the value is how many bytes. They stand at the start of `page`. Bytes beyond them are as they were.
+ *   kind 3   refused; the value is the number of the refusal: one of 1 to 9, else the first of 10, 11, 23 and 24. `page` is as it was.
+ *
+ * A page needs 73 bytes for each number of the listing: 73 times the value of meadowsink_read, kind 1. Or make the call with a `page` of length 0. It is then
+ * refused with 24 if nothing else is wrong, as a listing that is right is never empty, and meadowsink_page_place gives the bytes; any other number is a fault
+ * of the book, the text or the listing, whose place it then gives.
+ */
+uint64_t meadowsink_page(const uint8_t *book, size_t book_length, const uint8_t *text, size_t text_length, const uint8_t *listing, size_t listing_length,
+                         uint8_t *page, size_t page_length);
+
+/* The place of the refusal. It writes to `page` as meadowsink_page does. */
+uint64_t meadowsink_page_place(const uint8_t *book, size_t book_length, const uint8_t *text, size_t text_length, const uint8_t *listing,
+                               size_t listing_length, uint8_t *page, size_t page_length);
+
+/*
+ * Tells which part of a text is under a number of a listing: the text that the number's line of the page speaks of, whole.
+ *
+ *   book     the bytes of the grammar
+ *   text     the bytes of the text, at most 200
+ *   listing  the numbers, as meadowsink_read writes them; at most 8,192 bytes
+ *   index    which number of the listing, from 0
+ *
+ * The result is 256 * start + end. The part is the `end - start` bytes at `text + start`: bytes of the caller's own text, which are not copied, so any number
+ * of callers may use them and other parts of it at once, for as long as they keep the text.
+ *
+ * For an index that the listing doesn't have, and where meadowsink_page would be refused by 1 to 11 or 23, the result is 0, the empty part at the text's start.
+ * An empty part there may also be the answer; meadowsink_check_listing says whether the listing is right.
+ */
+uint64_t meadowsink_text_under(const uint8_t *book, size_t book_length, const uint8_t *text, size_t text_length, const uint8_t *listing,
+                               size_t listing_length, size_t index);
 
 #ifdef __cplusplus
 }

@@ -71,6 +71,28 @@ trees() {
     run viewer --flat T.book
 }
 
+# One, none and several; empty parts in the middle; bytes from 32 to 126 and others; 54 bytes of a text and more; what has too many numbers.
+pages() {
+    echo '# pages'
+    run viewer --page T.book '8/4*2'
+    run viewer --page --names T.names T.book 8
+    printf '8\n' | run viewer --page T.book
+    run viewer --page T.book ''
+    run viewer --page d.book '8/4*2'
+    run viewer --page i.book ''
+    run viewer --page loops.book '-1.5m'
+    bytes 31 32 126 127 200 0 | run viewer --page any.book
+    run viewer --page any.book abcdefghijklmnopqrstuvwxyzabcdefghijklmnopqrstuvwxyz0123 | head -n 8
+    run viewer --page any.book "$(repeat 200 a)" | sed -n '1,2p;$p'
+    run viewer --page any.book "$(repeat 201 a)"
+    run viewer --page empty 8
+    run viewer --page "$here/books/power.book" '' | sed "s|$here/||"
+    echo 'ladder, 44 a: its lines, those that have not 72 columns, and the deepest'
+    "$examples/viewer" --page "$here/books/ladder.book" "$(repeat 44 a)" > ladder
+    awk 'length != 72 { odd++ } $1 > depth { depth = $1 } END { print NR, odd + 0, depth }' ladder
+    run viewer --page "$here/books/ladder.book" "$(repeat 45 a)" | sed "s|$here/||"
+}
+
 lengths() {
     echo '# long lines'
     answer arithmetic "12+(3*4-5)/6*$(repeat 187 7)"
@@ -113,13 +135,19 @@ refusals() {
     refused 1 3 3 3 0 0 1 3 3 1 1 1 0 64 0 0 65 0 0 0 65 0 48 57 42 42 47 47 2 1 1 2 2 2 2 1 2
     refused 1 3 3 2 0 0 1 3 3 1 1 1 0 64 0 0 65 0 0 0 66 0 48 57 42 42 47 47 1 1 2 1 2 1
     run viewer --names T.names b 8
+    run viewer --page b 8
     run viewer --flat b
 }
 
 misuse() {
     echo '# wrong calls'
     run viewer
+    run viewer --names
     run viewer --names T.names
+    run viewer --page
+    run viewer --page --names T.names
+    run viewer --page T.book 8 8
+    run viewer --flat --page T.book
     run viewer T.book 8 8
     run viewer missing 8
     run viewer . 8
@@ -157,16 +185,19 @@ wrapper() {
     run wrapper b 8
     run wrapper empty 8
     run wrapper i.book ''
+    run wrapper loops.book '-1.5m' | tail -n 1
+    run wrapper any.book "$(printf '\303\251')" | tail -n 1
     run wrapper missing
-    run wrapper "$here/books/ladder.book" "$(repeat 200 a)" | tail -n 2 | cut -c 1-80
+    run wrapper "$here/books/ladder.book" "$(repeat 200 a)" | tail -n 4 | cut -c 1-80
     run wrapper "$here/books/power.book" '' | tail -n 1
 }
 
-transcript() {
+everything() {
     cd "$dir" || exit 1
     : > empty
     "$tool" --names T.names "$here/books/T.txt" T.book
     trees
+    pages
     lengths
     refusals
     misuse
@@ -174,10 +205,15 @@ transcript() {
     wrapper
 }
 
+# A bar shows where each line of a page ends.
+transcript() {
+    everything | sed '/^[ 0-9]\{3\}[0-9] [ 0-9]\{3\}[0-9] [ 0-9]\{2\}[0-9] [ 0-9]\{2\}[0-9] /s/$/|/'
+}
+
 if [ "$3" = --print ]; then
     transcript
     exit 0
 fi
-(transcript) > "$dir/out"
+transcript > "$dir/out"
 diff tests/examples.out "$dir/out" || exit 1
 echo 'examples: all as it should be'

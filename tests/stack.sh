@@ -55,14 +55,31 @@ reading() {
     both "$READ_STACK" 'kind 2 value 0' 0 read "$books/dense.book" 200
 }
 
-# 4,096 numbers are the most: each in the one before it, complete and with more still missing; and with eight arguments, of which the last goes down.
+# The calls that are lent a listing: each one is checked, written as a page, and asked for the text under its last number.
+listing() { # SHAPE JUDGED PAGE PAGE-PLACE PART WORD..
+    shape=$1
+    judged=$2
+    page=$3
+    page_place=$4
+    part=$5
+    shift 5
+    both "$CALL_STACK" "$judged $shape" 0 check_listing "$@"
+    both "$CALL_STACK" "$page $shape" "$page_place" page "$@"
+    run "$CALL_STACK" "$part $shape" text_under "$@"
+}
+
+# 4,096 numbers are the most: each in the one before it, complete, with a letter lowest, and with more still missing; and with eight arguments, of which the
+# last goes down. A page has 73 bytes for each.
 listings() {
     book loop 'start s' 'loop: s = s' 'end: s ='
+    book letter 'start s' 'loop: s = s' "end: s = 'a'"
     book wide 'start s' 's = s s s s s s s s'
-    book last 'start s' 's = e e e e e e e s' 'end: s =' 'e ='
-    both "$CALL_STACK" 'kind 0 value 0 numbers 4096 levels 4096' 0 check_listing "$dir/loop.book" 0 258 / 259
-    both "$CALL_STACK" 'kind 1 value 4096 numbers 4096 levels 4096' 0 check_listing "$dir/wide.book" 0 258
-    both "$CALL_STACK" 'kind 0 value 0 numbers 4089 levels 512' 0 check_listing "$dir/last.book" 0 258 260 260 260 260 260 260 260 / 259
+    book last 'start s' 's = e e e e e e e s' "end: s = 'a'" 'e ='
+    listing 'numbers 4096 levels 4096' 'kind 0 value 0' 'kind 1 value 299008 depth 4095' 0 'start 0 end 0' "$dir/loop.book" 0 258 / 259
+    listing 'numbers 4096 levels 4095' 'kind 0 value 0' 'kind 1 value 299008 depth 4095' 0 'start 0 end 1' "$dir/letter.book" 1 258 / 259 97
+    listing 'numbers 4096 levels 4096' 'kind 1 value 4096' 'kind 3 value 23' 4096 'start 0 end 0' "$dir/wide.book" 0 258
+    listing 'numbers 4090 levels 512' 'kind 0 value 0' 'kind 1 value 298570 depth 512' 0 'start 0 end 1' "$dir/last.book" 1 \
+        258 260 260 260 260 260 260 260 / 259 97
 }
 
 # Rule 2 of the deepest book may stand below rule 0 and not below itself. The lines of its flat text have 30 * 17 + 22 + 31 * 24 + 23 + 10 bytes.

@@ -6,10 +6,13 @@
  *     stack_call conflict BOOK P I Q
  *     stack_call flat BOOK
  *     stack_call check_listing BOOK N NUMBER.. [/ NUMBER..]
+ *     stack_call page BOOK N NUMBER.. [/ NUMBER..]
+ *     stack_call text_under BOOK N NUMBER.. [/ NUMBER..]        under the last number
  *
  * The numbers before the slash are repeated as long as they and those behind it fit 4,096 numbers.
- * With `_place` behind its name the operation's second call is made. The answer is printed as its kind and value, or as the place; behind the kind and value
- * of one reading stands how many levels of rules its listing has, and so for a listing that was checked.
+ * With `_place` behind its name the operation's second call is made. The answer is printed as its kind and value, as the place, or as the part's start and
+ * end; behind the kind and value of one reading stands how many levels of rules its listing has, and so for a listing that was lent. Behind those of a page
+ * stands the depth on its last line.
  */
 #include <stdio.h>
 #include <stdlib.h>
@@ -26,11 +29,12 @@ enum {
     book_limit = 65536,
     listing_limit = 65536,
     checked_limit = 4096,
+    line_length = 73,
     chart_limit = rule_limit * (argument_limit + 1) * (text_limit + 1) * (text_limit + 2) / 2
 };
 
 /* Nothing large is on this program's own stack. */
-static uint8_t book[book_limit], text[text_limit], chart[chart_limit], out[listing_limit];
+static uint8_t book[book_limit], text[text_limit], chart[chart_limit], out[listing_limit], lines[line_length * checked_limit];
 static size_t book_length, text_length;
 static int pending[listing_limit];
 
@@ -73,6 +77,10 @@ static void print_answer(uint64_t answer) {
     printf("kind %llu value %llu", (unsigned long long)(answer % 4), (unsigned long long)(answer / 4));
 }
 
+static void print_place(uint64_t place) {
+    printf("place %llu", (unsigned long long)place);
+}
+
 /* Numbers in base ten; those before the slash as often as they fit. */
 static size_t fill_listing(int count, char **numbers) {
     int repeated = 0;
@@ -91,7 +99,7 @@ static size_t fill_listing(int count, char **numbers) {
 
 static void read_text(int place) {
     if (place) {
-        printf("place %llu", (unsigned long long)meadowsink_read_place(book, book_length, text, text_length, chart, sizeof chart, out, sizeof out));
+        print_place(meadowsink_read_place(book, book_length, text, text_length, chart, sizeof chart, out, sizeof out));
         return;
     }
     uint64_t answer = meadowsink_read(book, book_length, text, text_length, chart, sizeof chart, out, sizeof out);
@@ -106,26 +114,50 @@ static void check(int place) {
 static void conflict(int place, char **numbers) {
     size_t p = strtoul(numbers[0], NULL, 10), i = strtoul(numbers[1], NULL, 10), q = strtoul(numbers[2], NULL, 10);
     if (place)
-        printf("place %llu", (unsigned long long)meadowsink_conflict_place(book, book_length, p, i, q));
+        print_place(meadowsink_conflict_place(book, book_length, p, i, q));
     else
         print_answer(meadowsink_conflict(book, book_length, p, i, q));
 }
 
 static void flat(int place) {
     if (place)
-        printf("place %llu", (unsigned long long)meadowsink_flat_place(book, book_length, out, sizeof out));
+        print_place(meadowsink_flat_place(book, book_length, out, sizeof out));
     else
         print_answer(meadowsink_flat(book, book_length, out, sizeof out));
 }
 
-static void check_listing(int place, int count, char **numbers) {
-    size_t length = fill_listing(count, numbers);
+static void check_listing(int place, size_t length) {
+    if (place)
+        print_place(meadowsink_check_listing_place(book, book_length, text, text_length, out, length));
+    else
+        print_answer(meadowsink_check_listing(book, book_length, text, text_length, out, length));
+}
+
+static void page(int place, size_t length) {
     if (place) {
-        printf("place %llu", (unsigned long long)meadowsink_check_listing_place(book, book_length, text, text_length, out, length));
+        print_place(meadowsink_page_place(book, book_length, text, text_length, out, length, lines, sizeof lines));
         return;
     }
-    print_answer(meadowsink_check_listing(book, book_length, text, text_length, out, length));
-    printf(" numbers %zu levels %zu", length / 2, levels(length / 2));
+    uint64_t answer = meadowsink_page(book, book_length, text, text_length, out, length, lines, sizeof lines);
+    print_answer(answer);
+    if (answer % 4 == 1) printf(" depth %d", atoi((const char *)lines + answer / 4 - line_length));
+}
+
+static void text_under(size_t length) {
+    uint64_t part = meadowsink_text_under(book, book_length, text, text_length, out, length, length / 2 - 1);
+    printf("start %llu end %llu", (unsigned long long)(part / 256), (unsigned long long)(part % 256));
+}
+
+static void with_listing(const char *operation, int place, size_t length) {
+    if (strcmp(operation, "check_listing") == 0)
+        check_listing(place, length);
+    else if (strcmp(operation, "page") == 0)
+        page(place, length);
+    else if (strcmp(operation, "text_under") == 0 && !place)
+        text_under(length);
+    else
+        fail("no such call");
+    if (!place) printf(" numbers %zu levels %zu", length / 2, levels(length / 2));
 }
 
 int main(int count, char **words) {
@@ -143,9 +175,9 @@ int main(int count, char **words) {
     } else if (strcmp(words[1], "read") == 0 && count == 4) {
         load_text(words[3]);
         read_text(place);
-    } else if (strcmp(words[1], "check_listing") == 0 && count > 4) {
+    } else if (count > 4) {
         load_text(words[3]);
-        check_listing(place, count - 4, words + 4);
+        with_listing(words[1], place, fill_listing(count - 4, words + 4));
     } else {
         return fail("no such call");
     }

@@ -1,19 +1,20 @@
 // Makes every call of the library in a thread with a small stack; tests/stack.sh runs it.
 //
-//     stack_thread BOOKS OTHER-BOOKS KILOBYTES    BOOKS is books/, OTHER-BOOKS has the book `loop` that tests/stack.sh makes
+//     stack_thread BOOKS OTHER-BOOKS KILOBYTES    BOOKS is books/, OTHER-BOOKS has `loop`, `letter` and `last`, which tests/stack.sh makes
 #[path = "second/library.rs"]
 mod library;
 #[path = "second/prng.rs"]
 #[allow(dead_code)]
 mod prng;
 
-use library::{check, check_listing, conflict, flat, read, Lent, Make};
+use library::{check, check_listing, conflict, flat, page, read, text_under, Lent, Make};
 use prng::Dice;
 use std::path::{Path, PathBuf};
 use std::{env, fs, process, thread};
 
 const LISTING_BYTES: usize = 65_536;
 const CHECKED_NUMBERS: usize = 4_096;
+const LINE_BYTES: usize = 73;
 // Room for the chart of 64 rules of 8 arguments and 200 characters.
 const CHART_BYTES: usize = 64 * 9 * 201 * 202 / 2;
 
@@ -62,16 +63,19 @@ impl Areas {
         self.expect("the numbers that read wrote", if expected % 4 == ONE { expected / 4 } else { place }, written);
     }
 
-    // Rule 0 in itself as deep as numbers allow, and rule 1 lowest.
-    fn expect_listing(&mut self, path: PathBuf) {
-        let mut numbers = vec![258u16; CHECKED_NUMBERS - 1];
-        numbers.push(259);
+    // Numbers that go down, as often as they fit, and those that end the tree: the last has the whole text.
+    fn expect_listing(&mut self, path: PathBuf, text: &[u8], down: &[u16], end: &[u16]) {
+        let numbers = [down.repeat((CHECKED_NUMBERS - end.len()) / down.len()), end.to_vec()].concat();
         let bytes: Vec<u8> = numbers.iter().flat_map(|number| number.to_le_bytes()).collect();
-        let (mut book, mut text, mut listing) = (self.book(path), self.lend(&[]), self.lend(&bytes));
-        for make in [Make::Number, Make::Place] {
-            let answer = check_listing(make, &mut book, &mut text, &mut listing);
-            self.expect("check_listing", 0, answer);
+        let room = LINE_BYTES * numbers.len();
+        let (mut book, mut lent, mut listing, mut lines) = (self.book(path), self.lend(text), self.lend(&bytes), self.lend(&vec![0; room]));
+        for (make, written) in [(Make::Number, 4 * room as u64 + WRITTEN), (Make::Place, 0)] {
+            self.expect("check_listing", 0, check_listing(make, &mut book, &mut lent, &mut listing));
+            self.expect("page", written, page(make, &mut book, &mut lent, &mut listing, &mut lines));
         }
+        self.expect("the bytes beside the page", 1, lines.sides_stayed() as u64);
+        self.expect("the last byte of the page", b'\n' as u64, lines.contents()[room - 1] as u64);
+        self.expect("text_under", text.len() as u64, text_under(&mut book, &mut lent, &mut listing, numbers.len() - 1));
     }
 
     fn expect_others(&mut self, path: PathBuf) {
@@ -91,7 +95,9 @@ fn make_calls(books: &Path, others: &Path) -> usize {
     areas.expect_reading(books.join("ladder.book"), 200, 4 * 18_204 + ONE, 0);
     areas.expect_reading(books.join("deepest.book"), 200, 4 * 19_094 + ONE, 0);
     areas.expect_reading(books.join("power.book"), 0, 4 * 22 + REFUSED, LISTING_BYTES as u64 / 2);
-    areas.expect_listing(others.join("loop.book"));
+    areas.expect_listing(others.join("loop.book"), b"", &[258], &[259]);
+    areas.expect_listing(others.join("letter.book"), b"a", &[258], &[259, 97]);
+    areas.expect_listing(others.join("last.book"), b"a", &[258, 260, 260, 260, 260, 260, 260, 260], &[259, 97]);
     areas.expect_others(books.join("deepest.book"));
     areas.failures
 }

@@ -7,6 +7,7 @@ static const uint8_t book_t[] = {1, 3, 3, 3, 0, 0, 1, 3, 3, 1, 1, 1, 0, 64, 0, 0
 static const uint16_t numbers[] = {259, 260, 258, 56, 47, 258, 52, 42, 258, 50};
 static uint8_t chart[4096];
 static uint8_t listing[70000];
+static uint8_t page[1000];
 static int failures;
 
 static void expect(int holds, const char *what) {
@@ -163,11 +164,126 @@ static void read_place(void) {
     expect(meadowsink_read_place(book_t, 5, (const uint8_t *)"8", 1, chart, sizeof chart, listing, sizeof listing) == 5, "1: the book's places");
 }
 
+/* ---- the page, and the text under a number */
+
+enum { LINE = 73, PAGE = 10 * LINE };
+
+/* The page of 8/4*2: 258 is a digit, 259 a product and 260 a quotient. */
+static void lay_out(char *bytes) {
+    static const char *const lines[] = {
+        "   0  259   0   5 8/4*2",
+        "   1  260   0   3 8/4",
+        "   2  258   0   1 8",
+        "   3   56   0   1 8",
+        "   2   47   1   2 /",
+        "   2  258   2   3 4",
+        "   3   52   2   3 4",
+        "   1   42   3   4 *",
+        "   1  258   4   5 2",
+        "   2   50   4   5 2",
+    };
+    for (int i = 0; i < 10; i++) sprintf(bytes + LINE * i, "%-72s\n", lines[i]);
+}
+
+typedef uint64_t PageCall(const uint8_t *, size_t, const uint8_t *, size_t, const uint8_t *, size_t, uint8_t *, size_t);
+
+/* The page of the listing that is there, over garbage. */
+static uint64_t call_page(PageCall *operation, const char *text, size_t listing_length, size_t page_length) {
+    memset(page, 0x5a, sizeof page);
+    return operation(book_t, sizeof book_t, (const uint8_t *)text, strlen(text), listing, listing_length, page, page_length);
+}
+
+static void write_page(void) {
+    static char wanted[PAGE + 1];
+    lay_out(wanted);
+    list(listing);
+    expect(call_page(meadowsink_page, "8/4*2", 20, PAGE) == 4 * 730 + 1, "an exact fit is enough for the page");
+    expect(memcmp(page, wanted, PAGE) == 0 && untouched(page, PAGE, sizeof page, 0x5a), "the page");
+    expect(call_page(meadowsink_page, "8/4*2", 20, sizeof page) == 4 * 730 + 1, "room beyond the page");
+    expect(memcmp(page, wanted, PAGE) == 0 && untouched(page, PAGE, sizeof page, 0x5a), "bytes beyond the page stay");
+    expect(call_page(meadowsink_page_place, "8/4*2", 20, sizeof page) == 0, "no place if the page is written");
+    expect(memcmp(page, wanted, PAGE) == 0 && untouched(page, PAGE, sizeof page, 0x5a), "the call for the place writes the page, too");
+}
+
+static uint64_t under(size_t index) {
+    return meadowsink_text_under(book_t, sizeof book_t, (const uint8_t *)"8/4*2", 5, listing, 20, index);
+}
+
+static void text_under(void) {
+    static const char text[] = "8/4*2";
+    static const struct {
+        uint64_t start, end;
+        const char *spelled;
+    } parts[] = {{0, 5, "8/4*2"}, {0, 3, "8/4"}, {0, 1, "8"}, {0, 1, "8"}, {1, 2, "/"}, {2, 3, "4"}, {2, 3, "4"}, {3, 4, "*"}, {4, 5, "2"}, {4, 5, "2"}};
+    list(listing);
+    for (size_t i = 0; i < 10; i++) {
+        uint64_t places = under(i);
+        expect(places == 256 * parts[i].start + parts[i].end, "the places of the text under a number");
+        expect(strncmp(text + places / 256, parts[i].spelled, places % 256 - places / 256) == 0, "the text under a number");
+    }
+    expect(under(10) == 0, "nothing is under a number beyond the last");
+    expect(under(256) == 0 && under((size_t)1 << 32) == 0 && under(SIZE_MAX / 2 + 2) == 0 && under(SIZE_MAX) == 0, "nor if high bits could be lost");
+}
+
+/* What is lent in each of these: so many bytes of book T, a text, so many bytes of the listing of 8/4*2, with zeros behind it, and so many of a page. */
+typedef struct {
+    const char *what;
+    size_t book_length;
+    const char *text;
+    size_t listing_length, page_length;
+    uint64_t number, place;
+} Refusal;
+
+/* Both calls refuse and change nothing; under number 4 is `/` if only the page is too short, and else nothing. */
+static void expect_refused(Refusal r) {
+    const uint8_t *text = (const uint8_t *)r.text;
+    size_t length = strlen(r.text);
+    memset(page, 0x5a, sizeof page);
+    expect(meadowsink_page(book_t, r.book_length, text, length, listing, r.listing_length, page, r.page_length) == 4 * r.number + 3, r.what);
+    expect(meadowsink_page_place(book_t, r.book_length, text, length, listing, r.listing_length, page, r.page_length) == r.place, r.what);
+    expect(untouched(page, 0, sizeof page, 0x5a), "a refusal changes nothing");
+    uint64_t part = meadowsink_text_under(book_t, r.book_length, text, length, listing, r.listing_length, 4);
+    expect(part == (r.number == 24 ? 256 * 1 + 2 : 0), r.what);
+}
+
+static void refuse_page(void) {
+    static char overlong[202];
+    memset(overlong, '8', 201);
+    const Refusal refusals[] = {
+        {"1: five bytes of a book", 5, "8/4*2", 20, PAGE, 1, 5},
+        {"4: a book of a byte less", sizeof book_t - 1, "8/4*2", 20, PAGE, 4, 36},
+        {"10: a text of 201 bytes", sizeof book_t, overlong, 20, PAGE, 10, 201},
+        {"11: an odd count of bytes", sizeof book_t, "8/4*2", 19, PAGE, 11, 19},
+        {"11: a listing over 8,192 bytes", sizeof book_t, "8/4*2", 8194, PAGE, 11, 8194},
+        {"23: another character", sizeof book_t, "8/4*3", 20, PAGE, 23, 9},
+        {"23: a number is missing", sizeof book_t, "8/4*2", 18, PAGE, 23, 9},
+        {"23: a number too many", sizeof book_t, "8/4*2", 22, PAGE, 23, 10},
+        {"23: text is left over", sizeof book_t, "8/4*22", 20, PAGE, 23, 10},
+        {"23: no numbers", sizeof book_t, "8/4*2", 0, PAGE, 23, 0},
+        {"23: 8,192 bytes are not too many", sizeof book_t, "8/4*2", 8192, PAGE, 23, 10},
+        {"24: one byte short", sizeof book_t, "8/4*2", 20, PAGE - 1, 24, 730},
+        {"24: no room at all", sizeof book_t, "8/4*2", 20, 0, 24, 730},
+        /* two faults at once */
+        {"1 before 10", 5, overlong, 20, PAGE, 1, 5},
+        {"1 before 11", 5, "8/4*2", 19, PAGE, 1, 5},
+        {"1 before 23", 5, "8/4*3", 20, PAGE, 1, 5},
+        {"1 before 24", 5, "8/4*2", 20, 0, 1, 5},
+        {"10 before 11", sizeof book_t, overlong, 19, PAGE, 10, 201},
+        {"10 before 24", sizeof book_t, overlong, 20, 0, 10, 201},
+        {"11 before 23", sizeof book_t, "8/4*3", 21, PAGE, 11, 21},
+        {"11 before 24", sizeof book_t, "8/4*2", 8193, 0, 11, 8193},
+        {"23 before 24", sizeof book_t, "8/4*3", 20, PAGE - 1, 23, 9},
+    };
+    memset(listing, 0, sizeof listing);
+    list(listing);
+    for (size_t i = 0; i < sizeof refusals / sizeof refusals[0]; i++) expect_refused(refusals[i]);
+}
+
 /* ---- areas */
 
 /* An empty area may be NULL. */
 static void empty_areas(void) {
-    static const uint8_t empty_rule[] = {1, 1, 0, 0, 0, 0, 0, 0};
+    static const uint8_t empty_rule[] = {1, 1, 0, 0, 0, 0, 0, 0}, its_listing[] = {258 % 256, 258 / 256};
     expect(meadowsink_check(NULL, 0) == 4 * 1 + 3 && meadowsink_check_place(NULL, 0) == 0, "1: no book at all");
     expect(meadowsink_conflict(NULL, 0, 0, 0, 0) == 4 * 1 + 3 && meadowsink_conflict_place(NULL, 0, 0, 0, 0) == 0, "1: no book to ask");
     expect(meadowsink_flat(NULL, 0, NULL, 0) == 4 * 1 + 3 && meadowsink_flat_place(NULL, 0, NULL, 0) == 0, "1: no book to write");
@@ -179,6 +295,12 @@ static void empty_areas(void) {
     expect(meadowsink_read(empty_rule, sizeof empty_rule, NULL, 0, chart, sizeof chart, NULL, 0) == 4 * 22 + 3, "22: no listing");
     expect(meadowsink_check_listing(NULL, 0, NULL, 0, NULL, 0) == 4 * 1 + 3, "1: no book to check by");
     expect(meadowsink_check_listing(book_t, sizeof book_t, NULL, 0, NULL, 0) == 4 * 0 + 1, "no number is wrong at 0");
+    expect(meadowsink_page(NULL, 0, NULL, 0, NULL, 0, NULL, 0) == 4 * 1 + 3, "1: no book to write a page by");
+    expect(meadowsink_page(book_t, sizeof book_t, NULL, 0, NULL, 0, NULL, 0) == 4 * 23 + 3, "23: no listing");
+    expect(meadowsink_page(empty_rule, sizeof empty_rule, NULL, 0, its_listing, 2, NULL, 0) == 4 * 24 + 3, "24: no page");
+    expect(meadowsink_page_place(empty_rule, sizeof empty_rule, NULL, 0, its_listing, 2, NULL, 0) == 73, "24: its place");
+    expect(meadowsink_text_under(NULL, 0, NULL, 0, NULL, 0, 0) == 0, "no part by no book");
+    expect(meadowsink_text_under(empty_rule, sizeof empty_rule, NULL, 0, its_listing, 2, 0) == 0, "no part of no text");
 }
 
 /* Areas that are only read may overlap. */
@@ -187,6 +309,8 @@ static void shared_areas(void) {
     expect(meadowsink_read(book_t, sizeof book_t, book_t + 22, 1, chart, sizeof chart, listing, sizeof listing) == 4 * 2 + 1, "a text inside the book: 0");
     expect(listing[0] == 2 && listing[1] == 1 && listing[2] == 48 && listing[3] == 0, "its listing");
     expect(meadowsink_check_listing(book_t, sizeof book_t, listing + 2, 1, listing, 4) == 0, "a text inside the listing");
+    expect(meadowsink_page(book_t, sizeof book_t, listing + 2, 1, listing, 4, page, sizeof page) == 4 * 146 + 1, "its page");
+    expect(meadowsink_text_under(book_t, sizeof book_t, listing + 2, 1, listing, 4, 1) == 256 * 0 + 1, "the text under its character");
 }
 
 int main(void) {
@@ -196,6 +320,9 @@ int main(void) {
     check_listing();
     read_text();
     read_place();
+    write_page();
+    text_under();
+    refuse_page();
     empty_areas();
     shared_areas();
     if (failures == 0) printf("viewer call: all as it should be\n");

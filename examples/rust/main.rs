@@ -1,9 +1,9 @@
-// Each call of the wrapper once: checks a book, writes its flat book, reads a line, and checks the listing.
+// Each call of the wrapper once: checks a book, writes its flat book, reads a line, checks the listing, writes its page, and takes parts of the line.
 //
 //     wrapper [BOOK [LINE]]    book T and the line 8/4*2 if nothing is said
 mod meadowsink;
 
-use meadowsink::{Answer, Conflict, Flat, Judgement, Verdict};
+use meadowsink::{Answer, Conflict, Judgement, Verdict, Written};
 use std::ffi::OsString;
 use std::os::unix::ffi::OsStrExt;
 use std::{env, fs, process};
@@ -16,10 +16,7 @@ fn print_book(book: &[u8]) {
         Verdict::Accepted => println!("book: accepted"),
         Verdict::Refused { number, place } => println!("book: refused {number} {place}"),
     }
-    match meadowsink::flat(book) {
-        Flat::Written(text) => print!("flat book:\n{text}"),
-        Flat::Refused { number, place } => println!("flat book: refused {number} {place}"),
-    }
+    print_written("flat book", meadowsink::flat(book));
     match meadowsink::conflict(book, 1, 2, 1) {
         Conflict::No => println!("rule 1 as argument 2 of rule 1: no clash"),
         Conflict::Yes => println!("rule 1 as argument 2 of rule 1: a clash"),
@@ -37,7 +34,23 @@ fn print_reading(book: &[u8], line: &[u8]) {
             let words: Vec<String> = listing.iter().map(u16::to_string).collect();
             println!("readings: one {}", words.join(" "));
             print_judgement(meadowsink::check_listing(book, line, &listing));
+            print_written("page", meadowsink::page(book, line, &listing));
+            print_parts(book, line, &listing);
         }
+    }
+}
+
+// Both parts are slices of the line, and are held at once.
+fn print_parts(book: &[u8], line: &[u8], listing: &[u16]) {
+    let last = listing.len() - 1;
+    let parts = [0, last].map(|index| meadowsink::text_under(book, line, listing, index));
+    println!("under number 0: \"{}\", under number {last}: \"{}\"", parts[0].escape_ascii(), parts[1].escape_ascii());
+}
+
+fn print_written(what: &str, written: Written) {
+    match written {
+        Written::Text(text) => print!("{what}:\n{text}"),
+        Written::Refused { number, place } => println!("{what}: refused {number} {place}"),
     }
 }
 

@@ -18,10 +18,10 @@ pub enum Conflict {
     Refused { number: u64, place: u64 },
 }
 
-/// The character class grammar of a book, as text.
+/// What is written as text: the character class grammar of a book, or the page of a parse.
 #[derive(Debug, PartialEq)]
-pub enum Flat {
-    Written(String),
+pub enum Written {
+    Text(String),
     Refused { number: u64, place: u64 },
 }
 
@@ -44,6 +44,7 @@ pub enum Judgement {
 
 const CHART_SHORT: u64 = 20;
 const FLAT_SHORT: u64 = 21;
+const PAGE_SHORT: u64 = 24;
 const LISTING_BYTES: usize = 65_536; // the library writes no longer listing
 
 // ---- the calls in C, each by the slices it takes
@@ -52,6 +53,7 @@ type OfBook = unsafe extern "C" fn(*const u8, usize) -> u64;
 type OfRules = unsafe extern "C" fn(*const u8, usize, usize, usize, usize) -> u64;
 type OfFlat = unsafe extern "C" fn(*const u8, usize, *mut u8, usize) -> u64;
 type OfListing = unsafe extern "C" fn(*const u8, usize, *const u8, usize, *const u8, usize) -> u64;
+type OfPage = unsafe extern "C" fn(*const u8, usize, *const u8, usize, *const u8, usize, *mut u8, usize) -> u64;
 type OfText = unsafe extern "C" fn(*const u8, usize, *const u8, usize, *mut u8, usize, *mut u8, usize) -> u64;
 
 extern "C" {
@@ -65,6 +67,9 @@ extern "C" {
     fn meadowsink_read_place(book: *const u8, n: usize, text: *const u8, t: usize, chart: *mut u8, c: usize, listing: *mut u8, l: usize) -> u64;
     fn meadowsink_check_listing(book: *const u8, n: usize, text: *const u8, t: usize, listing: *const u8, l: usize) -> u64;
     fn meadowsink_check_listing_place(book: *const u8, n: usize, text: *const u8, t: usize, listing: *const u8, l: usize) -> u64;
+    fn meadowsink_page(book: *const u8, n: usize, text: *const u8, t: usize, listing: *const u8, l: usize, page: *mut u8, p: usize) -> u64;
+    fn meadowsink_page_place(book: *const u8, n: usize, text: *const u8, t: usize, listing: *const u8, l: usize, page: *mut u8, p: usize) -> u64;
+    fn meadowsink_text_under(book: *const u8, n: usize, text: *const u8, t: usize, listing: *const u8, l: usize, index: usize) -> u64;
 }
 
 // In each of these the pointers and lengths are those of slices that live during the call; those that are written are borrowed exclusively.
@@ -83,6 +88,14 @@ fn call_flat(operation: OfFlat, book: &[u8], out: &mut [u8]) -> u64 {
 
 fn call_listing(operation: OfListing, book: &[u8], text: &[u8], listing: &[u8]) -> u64 {
     unsafe { operation(book.as_ptr(), book.len(), text.as_ptr(), text.len(), listing.as_ptr(), listing.len()) }
+}
+
+fn call_page(operation: OfPage, book: &[u8], text: &[u8], listing: &[u8], page: &mut [u8]) -> u64 {
+    unsafe { operation(book.as_ptr(), book.len(), text.as_ptr(), text.len(), listing.as_ptr(), listing.len(), page.as_mut_ptr(), page.len()) }
+}
+
+fn call_number(book: &[u8], text: &[u8], listing: &[u8], index: usize) -> u64 {
+    unsafe { meadowsink_text_under(book.as_ptr(), book.len(), text.as_ptr(), text.len(), listing.as_ptr(), listing.len(), index) }
 }
 
 fn call_text(operation: OfText, book: &[u8], text: &[u8], chart: &mut [u8], listing: &mut [u8]) -> u64 {
@@ -109,16 +122,8 @@ pub fn conflict(book: &[u8], p: usize, i: usize, q: usize) -> Conflict {
 }
 
 /// Writes the character class grammar of a book.
-pub fn flat(book: &[u8]) -> Flat {
-    let needed = call_flat(meadowsink_flat_place, book, &mut []);
-    let (_, number) = split(call_flat(meadowsink_flat, book, &mut []));
-    if number != FLAT_SHORT {
-        return Flat::Refused { number, place: needed };
-    }
-    let mut out = vec![0; needed as usize];
-    let (_, length) = split(call_flat(meadowsink_flat, book, &mut out));
-    out.truncate(length as usize);
-    Flat::Written(String::from_utf8_lossy(&out).into_owned())
+pub fn flat(book: &[u8]) -> Written {
+    write(FLAT_SHORT, |out| call_flat(meadowsink_flat, book, out), |out| call_flat(meadowsink_flat_place, book, out))
 }
 
 /// Parses a text. The chart is room to work in: it may be empty at first, grows as needed, and may be lent again.
@@ -140,12 +145,43 @@ pub fn read(book: &[u8], text: &[u8], chart: &mut Vec<u8>) -> Answer {
 
 /// Checks whether numbers are the listing of a parse of a text.
 pub fn check_listing(book: &[u8], text: &[u8], listing: &[u16]) -> Judgement {
-    let bytes: Vec<u8> = listing.iter().flat_map(|n| n.to_le_bytes()).collect();
+    let bytes = to_bytes(listing);
     match split(call_listing(meadowsink_check_listing, book, text, &bytes)) {
         (0, _) => Judgement::Right,
         (1, index) => Judgement::Wrong { index },
         (_, number) => Judgement::Refused { number, place: call_listing(meadowsink_check_listing_place, book, text, &bytes) },
     }
+}
+
+/// Writes the page of a parse of a text: a line of 73 bytes for each number of its listing.
+pub fn page(book: &[u8], text: &[u8], listing: &[u16]) -> Written {
+    let bytes = to_bytes(listing);
+    write(PAGE_SHORT, |out| call_page(meadowsink_page, book, text, &bytes, out), |out| call_page(meadowsink_page_place, book, text, &bytes, out))
+}
+
+/// The part of the text under a number of a listing, counted from 0. It is a slice of the text that was lent, not a copy. Without such a number, or if the
+/// listing is not right, it is the empty part at the text's start.
+pub fn text_under<'a>(book: &[u8], text: &'a [u8], listing: &[u16], index: usize) -> &'a [u8] {
+    let places = call_number(book, text, &to_bytes(listing), index) as usize;
+    &text[places / 256..places % 256]
+}
+
+// Two bytes a number, low byte first.
+fn to_bytes(listing: &[u16]) -> Vec<u8> {
+    listing.iter().flat_map(|n| n.to_le_bytes()).collect()
+}
+
+// With no room at all the refusal that has the number `short` tells how many bytes are needed.
+fn write(short: u64, answer: impl Fn(&mut [u8]) -> u64, place: impl Fn(&mut [u8]) -> u64) -> Written {
+    let needed = place(&mut []);
+    let (_, number) = split(answer(&mut []));
+    if number != short {
+        return Written::Refused { number, place: needed };
+    }
+    let mut out = vec![0; needed as usize];
+    let (_, length) = split(answer(&mut out));
+    out.truncate(length as usize);
+    Written::Text(String::from_utf8_lossy(&out).into_owned())
 }
 
 // The kind and the value of a result.

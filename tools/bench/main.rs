@@ -3,6 +3,7 @@
 //     bench FOLDER
 //
 // Both get the same bytes and fill the same chart, which holds garbage before; the charts are compared. Times are the best of several runs.
+mod pages;
 mod rival;
 mod texts;
 
@@ -137,5 +138,6 @@ fn main() {
     let over = benchmark(&folder);
     worst(&folder);
     fixed_cost(&folder);
+    pages::pages(&folder);
     println!("\n{over} of {} above {GOAL} times the rival", BENCHMARK.len() * 3);
 }
