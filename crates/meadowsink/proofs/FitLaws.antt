@@ -122,7 +122,7 @@ module _ (b w l : List ℕ) where
 module _ (b w l : List ℕ) (bytes : (k : ℕ) → getD b k 0 < characters) (size : ℕ) where
   page-fits-if : (a : ListingAnswer) → listingAnswer b w l ≡ a → Fits (listingReply a) → Fits (writeReply (pageIf a (pageLength l) size))
   unfolding pageIf listingReply writeReply pageLength
-  page-fits-if Right e h = write-fits 24 (pageLength l) size (omega arith) (omega (arith, right-few b w l bytes e))
+  page-fits-if Right e h = write-fits 24 (pageLength l) size (omega arith) (omega (arith, right-few (record { bytes = bytes; right = e })))
   page-fits-if (Wrong index) e h = refused-fits 23 index (omega arith)
   page-fits-if (NotChecked number place) e h = h
 

@@ -5,7 +5,6 @@ use mathlib.Core.Path.{_≡_, refl, sym, _∙_, ap, ap₂, subst}
 use native.Mathlib.Omega.{arith}
 use lib.ListN.{length, getD, drop, List·getD-eq-default}
 use lib.Seq.{slice, drop-at, take-append-le}
-use Rattle.charset.specs.Set.{characters}
 use Rattle.common.proofs.AllLaws.{all-of-at}
 use Rattle.common.specs.Lists.{All, overwritten}
 use Rattle.listing.specs.Answer.{listingAnswer}
@@ -13,7 +12,7 @@ use Rattle.listing.specs.declared.ListingAnswer.{ListingAnswer}
 use Rattle.listing.specs.declared.ListingAnswer.the-variants.{Right, Wrong, Refused as NotChecked}
 use Rattle.numbers.specs.Numbers.{numbersOf}
 use Rattle.page.proofs.ReadLaws.{row-read, page-line}
-use Rattle.page.proofs.RightLaws.{rows-count, row-fits}
+use Rattle.page.proofs.RightLaws.{RightListing, rows-count, row-fits}
 use Rattle.page.proofs.TextLaws.{page-length}
 use Rattle.page.proofs.UniqueLaws.{one-listed}
 use Rattle.page.specs.Answer.{Listed, pageLength, RowIf, RowUnder, TextUnder}
@@ -25,27 +24,27 @@ use Rattle.rows.specs.Rows.{noRow, rows}
 use Rattle.rows.specs.declared.Row.{Row}
 use Rattle.theory.specs.Tree.{Tree, yield, listing, Subtree}
 
-module _ (b : List ℕ) (bytes : (k : ℕ) → getD b k 0 < characters) (w l : List ℕ) (right : listingAnswer b w l ≡ Right) (t : Tree) (lent : Listed b w l t) where
+module _ {b w l : List ℕ} (given : RightListing b w l) {t : Tree} (lent : Listed b w l t) where
   all-fit : All (RowFits w) (rows 0 0 t)
-  all-fit = all-of-at (RowFits w) (rows 0 0 t) noRow (row-fits b w l bytes right t lent)
+  all-fit = all-of-at (RowFits w) (rows 0 0 t) noRow (row-fits given lent)
 
   -- 73 bytes a number
   pub page-long : length (pageText w (rows 0 0 t)) ≡ pageLength l
   unfolding pageLength
-  page-long = page-length w (rows 0 0 t) all-fit ∙ ap (λ (n : ℕ). lineLength * n) (rows-count b w l bytes right t lent)
+  page-long = page-length w (rows 0 0 t) all-fit ∙ ap (λ (n : ℕ). lineLength * n) (rows-count given lent)
 
   module _ (page₀ page : List ℕ) (after : page ≡ overwritten (pageText w (rows 0 0 t)) page₀) where
     -- each line says its row
     pub line-says : (k : ℕ) → k < length (numbersOf l) → ReadBack w (getD (rows 0 0 t) k noRow) (slice (lineLength * k) (lineLength * (k + 1)) page)
     line-says k h =
         let text = pageText w (rows 0 0 t) in
-        let there : k < length (rows 0 0 t) = omega (arith, rows-count b w l bytes right t lent) in
+        let there : k < length (rows 0 0 t) = omega (arith, rows-count given lent) in
         let within : lineLength * (k + 1) ≤ length text = omega (arith, page-length w (rows 0 0 t) all-fit) in
         let line : slice (lineLength * k) (lineLength * (k + 1)) page ≡ rowText w (getD (rows 0 0 t) k noRow) =
         ap (slice (lineLength * k) (lineLength * (k + 1))) after
         ∙ ap (drop (lineLength * k)) (take-append-le (lineLength * (k + 1)) text (drop (length text) page₀) within)
         ∙ page-line w (rows 0 0 t) all-fit k noRow there in
-        subst (ReadBack w (getD (rows 0 0 t) k noRow)) (sym line) (row-read w (getD (rows 0 0 t) k noRow) (row-fits b w l bytes right t lent k there))
+        subst (ReadBack w (getD (rows 0 0 t) k noRow)) (sym line) (row-read w (getD (rows 0 0 t) k noRow) (row-fits given lent k there))
 
     -- beyond the page nothing is changed
     pub page-beyond : drop (pageLength l) page ≡ drop (pageLength l) page₀
@@ -55,13 +54,13 @@ module _ (b : List ℕ) (bytes : (k : ℕ) → getD b k 0 < characters) (w l : L
 
   -- ---- the text under a number
 
-  module _ (index : ℕ) (part : List ℕ) (under : TextUnder b w l index part) where
+  module _ {index : ℕ} {part : List ℕ} (under : TextUnder b w l index part) where
     -- its row is that of the parse listed
     row-is : under .row ≡ getD (rows 0 0 t) index noRow
     unfolding RowIf
     row-is =
-        let (u, other, e) : RowIf Right b w l index (under .row) = rw right at (under .under .isRow) in
-        e ∙ ap (λ (v : Tree). getD (rows 0 0 v) index noRow) (one-listed b bytes w l right u t other lent)
+        let (u, other, e) : RowIf Right b w l index (under .row) = rw (given .right) at (under .under .isRow) in
+        e ∙ ap (λ (v : Tree). getD (rows 0 0 v) index noRow) (one-listed b (given .bytes) w l (given .right) u t other lent)
 
     pub part-spelled : index < length (numbersOf l) → (s : Tree) × Subtree s t × ((others : List ℕ) × (drop index (numbersOf l) ≡ listing s ++ others)) × (part ≡ yield s)
     part-spelled h =

@@ -9,7 +9,7 @@ use Rattle.chart.specs.Layout.{textLimit}
 use Rattle.common.proofs.AllLaws.{all-at}
 use Rattle.grammar.proofs.FormedLaws.{bodies-in}
 use Rattle.grammar.specs.Formed.{WellFormed}
-use Rattle.grammar.specs.Layout.{bodiesAt, startSort}
+use Rattle.grammar.specs.Layout.{startSort}
 use Rattle.listing.proofs.RefusedLaws.{right-exactly}
 use Rattle.listing.specs.Answer.{listingAnswer}
 use Rattle.listing.specs.declared.ListingAnswer.the-variants.{Right}
@@ -22,28 +22,30 @@ use Rattle.rows.proofs.BuiltLaws.{SomeNumber, built-numbers}
 use Rattle.rows.proofs.RowsLaws.{row-number, rows-length, row-within}
 use Rattle.rows.specs.Rows.{noRow, rows}
 use Rattle.rows.specs.Table.{numberLimit}
-use Rattle.rows.specs.Walk.{ListedAt}
+use Rattle.rows.specs.Walk.{ListedAt, WalkFrom}
 use Rattle.theory.specs.Tree.{Tree, yield, listing}
 
-module _ (b w l : List ℕ) (bytes : (k : ℕ) → getD b k 0 < characters) (right : listingAnswer b w l ≡ Right) where
-  pub right-formed : WellFormed b
-  right-formed = accepted-formed b (right-exactly b w l bytes .0 right .0)
+-- The listing l of the text w is right by grammar b, which has bytes.
+pub record RightListing (b w l : List ℕ) : Type 0 where
+  pub bytes : (k : ℕ) → getD b k 0 < characters
+  pub right : listingAnswer b w l ≡ Right
 
-  pub right-bodies : bodiesAt b ≤ length b
-  right-bodies = bodies-in b (right-formed .framed)
+module _ {b w l : List ℕ} (given : RightListing b w l) where
+  pub right-formed : WellFormed b
+  right-formed = accepted-formed b (right-exactly b w l (given .bytes) .0 (given .right) .0)
 
   pub right-short : length w ≤ textLimit
-  right-short = right-exactly b w l bytes .0 right .1
+  right-short = right-exactly b w l (given .bytes) .0 (given .right) .1
 
   pub right-few : length (numbersOf l) ≤ numberLimit
-  right-few = let h = right-exactly b w l bytes .0 right .3 in omega (arith, numbers-length l)
+  right-few = let h = right-exactly b w l (given .bytes) .0 (given .right) .3 in omega (arith, numbers-length l)
 
   pub right-tree : (t : Tree) × Listed b w l t
-  right-tree = let (t, reading, listed) = right-exactly b w l bytes .0 right .4 in (t, record { reading = reading; listed = listed })
+  right-tree = let (t, reading, listed) = right-exactly b w l (given .bytes) .0 (given .right) .4 in (t, record { reading = reading; listed = listed })
 
   -- ---- the parse listed
 
-  module _ (t : Tree) (lent : Listed b w l t) where
+  module _ {t : Tree} (lent : Listed b w l t) where
     -- it is listed from the first number on
     pub listed-whole : ListedAt b (numbersOf l) 0 t
     listed-whole =
@@ -60,7 +62,8 @@ module _ (b w l : List ℕ) (bytes : (k : ℕ) → getD b k 0 < characters) (rig
     row-fits k h =
         let within = row-within 0 0 t k h in
         let number = row-number 0 0 t k in
-        let small : getD (listing t) k 0 < _ = all-at SomeNumber (listing t) k 0 (built-numbers b bytes (right-formed .framed .fewProductions) t _ (lent .reading .built)) (omega (arith, rows-length 0 0 t)) in
+        let numbers = built-numbers b (given .bytes) (right-formed .framed .fewProductions) t (startSort b) (lent .reading .built) in
+        let small = all-at SomeNumber (listing t) k 0 numbers (omega (arith, rows-length 0 0 t)) in
         record {
           depth = omega (arith, within .1, rows-length 0 0 t, rows-count, right-few);
           number = omega arith;
@@ -68,3 +71,17 @@ module _ (b w l : List ℕ) (bytes : (k : ℕ) → getD b k 0 < characters) (rig
           end = omega (arith, within .4, yield-count, right-short);
           within = omega (arith, within .4, yield-count);
         }
+
+  -- the walk may begin at the first number
+  pub right-walk : (table : List ℕ) → length table ≡ numberLimit → WalkFrom b (numbersOf l) table 0 0 0
+  right-walk table long =
+      let (t, lent) = right-tree in
+      record {
+        tree = t;
+        listed = listed-whole lent;
+        framed = bodies-in b (right-formed .framed);
+        room = omega (arith, right-few);
+        few = omega arith;
+        deep = omega arith;
+        far = omega arith;
+      }

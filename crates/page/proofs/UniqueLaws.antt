@@ -27,7 +27,7 @@ module _ (b : List ℕ) (bytes : (k : ℕ) → getD b k 0 < characters) (w l : L
   -- a listing that is right is that of one parse
   pub one-listed : listingAnswer b w l ≡ Right → (t u : Tree) → Listed b w l t → Listed b w l u → t ≡ u
   one-listed right t u h k =
-      let formed = right-formed b w l bytes right in
+      let formed = right-formed (record { bytes = bytes; right = right }) in
       let cc = plainClass b (startSort b) in
       listing-determines (flatGrammar b) (flat-numbered b) cc cc t u
       (flat-trees b formed bytes (startSort b) t .0 (h .reading .built, h .reading .free)) (flat-trees b formed bytes (startSort b) u .0 (k .reading .built, k .reading .free))

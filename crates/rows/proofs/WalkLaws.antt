@@ -16,8 +16,8 @@ use Rattle.grammar.specs.Layout.{productions, argumentCount, argument}
 use Rattle.grammar.specs.Limits.{classBase}
 use Rattle.rows.proofs.RowsLaws.{rows-below-length, yields-short}
 use Rattle.rows.specs.Rows.{rows, rowsBelow}
-use Rattle.rows.specs.Table.{word, packed}
-use Rattle.rows.specs.Walk.{ListedAt, words, Placed}
+use Rattle.rows.specs.Table.{numberLimit, word, packed}
+use Rattle.rows.specs.Walk.{ListedAt, WalkFrom, words, Placed}
 use Rattle.rows.specs.declared.Next.{Next}
 use Rattle.theory.specs.Tree.{Tree, leaf, node, Forest, none, _▷_, productionNumber, yield, yields, listing, listings, size}
 
@@ -60,7 +60,7 @@ front-listings {f} (more {g} {t} h) =
     (others ++ listing t, rw e (append-assoc (listings f) others (listing t)))
 
 module _ (b : List ℕ) (p : ℕ) where
-  pub arguments-size : (f : Forest) (d : ℕ) → Arguments b p f d → size f ≡ d
+  arguments-size : (f : Forest) (d : ℕ) → Arguments b p f d → size f ≡ d
   unfolding Built size
   arguments-size none zero h = refl
   arguments-size none (suc d) h = absurd h
@@ -108,12 +108,12 @@ pub record Progress (g : Forest) (depth at place : ℕ) (table₀ table : List �
   after : byte ≡ place + length (yields front)
 
 module _ (b numbers : List ℕ) (p : ℕ) (g : Forest) (depth at place : ℕ) (table₀ : List ℕ) (listed : ListedAt b numbers at (node p g)) where
-  pub progress-none : Progress g depth at place table₀ table₀ 0 (at + 1) place
+  progress-none : Progress g depth at place table₀ table₀ 0 (at + 1) place
   unfolding rows listing yield size
   progress-none = record { front = none; isFront = front-none g; count = refl; wrote = refl; next = omega arith; after = omega arith }
 
   -- the tree behind the first ones
-  pub listed-next : (f : Forest) (t : Tree) → Front (f ▷ t) g → ListedAt b numbers (at + 1 + length (listings f)) t
+  listed-next : (f : Forest) (t : Tree) → Front (f ▷ t) g → ListedAt b numbers (at + 1 + length (listings f)) t
   unfolding Built listing
   listed-next f t h =
       let (others, e) = front-listings h in
@@ -127,7 +127,7 @@ module _ (b numbers : List ℕ) (p : ℕ) (g : Forest) (depth at place : ℕ) (t
         begins = drop-behind at numbers (productionNumber p) (listings f) behind (listed .begins ∙ ap (λ (v : List ℕ). productionNumber p ∷ v) moved);
       }
 
-  pub progress-next : (table table′ : List ℕ) (d number byte : ℕ) (r : Next) → d < size g → Progress g depth at place table₀ table d number byte
+  progress-next : (table table′ : List ℕ) (d number byte : ℕ) (r : Next) → d < size g → Progress g depth at place table₀ table d number byte
       → ((t : Tree) → ListedAt b numbers number t → Placed t (depth + 1) number byte table table′ r) → Progress g depth at place table₀ table′ (d + 1) (r .number) (r .byte)
   unfolding rows listing yield size
   progress-next table table′ d number byte r l made placed =
@@ -150,7 +150,7 @@ module _ (b numbers : List ℕ) (p : ℕ) (g : Forest) (depth at place : ℕ) (t
       }
 
   -- all are placed: then the production
-  pub progress-all : (table : List ℕ) (d number byte : ℕ) → size g ≤ d → Progress g depth at place table₀ table d number byte
+  progress-all : (table : List ℕ) (d number byte : ℕ) → size g ≤ d → Progress g depth at place table₀ table d number byte
       → Placed (node p g) depth at place table₀ (set table at (packed depth place byte)) (next number byte)
   unfolding rows listing yield
   progress-all table d number byte l made =
@@ -180,7 +180,7 @@ module _ (b numbers : List ℕ) (at : ℕ) where
   listed-front : (t : Tree) (listed : ListedAt b numbers at t) → drop at numbers ≡ rootNumber t ∷ drop 1 (listing t) ++ listed .others
   listed-front t listed = listed .begins ∙ ap (λ (v : List ℕ). v ++ listed .others) (listing-some t)
 
-  pub listed-there : (t : Tree) → ListedAt b numbers at t → at < length numbers
+  listed-there : (t : Tree) → ListedAt b numbers at t → at < length numbers
   listed-there t listed = omega (arith, ap (length {A = ℕ}) (listed-front t listed), length-drop at numbers)
 
   listed-root : (t : Tree) → ListedAt b numbers at t → getD numbers at 0 ≡ rootNumber t
@@ -189,7 +189,7 @@ module _ (b numbers : List ℕ) (at : ℕ) where
       ap (λ (j : ℕ). getD numbers j 0) k ∙ sym (getD-drop at numbers 0 0) ∙ ap (λ (v : List ℕ). getD v 0 0) (listed-front t listed)
 
   -- the trees placed stand within the numbers, and have at most as many characters
-  pub progress-within : (p : ℕ) (g : Forest) (depth place : ℕ) (table₀ table : List ℕ) (d number byte : ℕ) → place ≤ at → ListedAt b numbers at (node p g)
+  progress-within : (p : ℕ) (g : Forest) (depth place : ℕ) (table₀ table : List ℕ) (d number byte : ℕ) → place ≤ at → ListedAt b numbers at (node p g)
       → Progress g depth at place table₀ table d number byte → (at < number) × (byte < number) × (number ≤ length numbers)
   unfolding listing
   progress-within p g depth place table₀ table d number byte l listed made =
@@ -203,54 +203,93 @@ module _ (b numbers : List ℕ) (at : ℕ) where
         omega (arith, made .next, length-append (listings g) (listed .others), length-drop at numbers),
       )
 
-module _ (b : List ℕ) (bytes : (k : ℕ) → getD b k 0 < characters) (numbers : List ℕ) (at : ℕ) where
-  module _ (n : ℕ) (here : n ≡ getD numbers at 0) where
-    -- a production, with as many arguments as the grammar says
-    pub listed-production : (p : ℕ) (g : Forest) → ListedAt b numbers at (node p g)
-        → (productionNumber 0 ≤ n) × (n - productionNumber 0 < productions b) × (size g ≡ argumentCount b (n - productionNumber 0))
-    unfolding Built
-    listed-production p g listed =
-        let number : n ≡ productionNumber p = here ∙ listed-root b numbers at (node p g) listed in
-        let same : n - productionNumber 0 ≡ p = omega arith in
-        (omega arith, rw same (listed .built .0), rw same (arguments-size b p g (argumentCount b p) (listed .built .2)))
+-- n is the number at `at`; what the grammar has are bytes.
+pub record Found (b numbers : List ℕ) (at n : ℕ) : Type 0 where
+  pub bytes : (k : ℕ) → getD b k 0 < characters
+  pub here : n ≡ getD numbers at 0
 
-    -- a character is no production, and the other way round
-    pub listed-character : (c : ℕ) → ListedAt b numbers at (leaf c) → n < characters
-    unfolding Built
-    listed-character c listed =
-        let small = class-character b bytes (listed .sort - classBase) c (listed .built .1) in
-        omega (arith, listed-root b numbers at (leaf c) listed)
+-- Whatever production is listed at `at`, the first d of its arguments are placed.
+abbrev pub SoFar : (b numbers : List ℕ) (depth at place : ℕ) (table₀ table : List ℕ) (d number byte : ℕ) → Type 0
+SoFar b numbers depth at place table₀ table d number byte = (p : ℕ) (g : Forest) → ListedAt b numbers at (node p g) → Progress g depth at place table₀ table d number byte
 
-    -- a number that is no character's is a production's
-    pub production-listed : characters ≤ n → (t : Tree) → ListedAt b numbers at t → (p : ℕ) × (g : Forest) × ListedAt b numbers at (node p g)
-    production-listed l (leaf c) listed = absurd (omega (arith, listed-character c listed))
-    production-listed l (node p g) listed = (p, g, listed)
+module _ {b numbers : List ℕ} {at n : ℕ} (found : Found b numbers at n) where
+  -- a production, with as many arguments as the grammar says
+  listed-production : (p : ℕ) (g : Forest) → ListedAt b numbers at (node p g)
+      → (productionNumber 0 ≤ n) × (n - productionNumber 0 < productions b) × (size g ≡ argumentCount b (n - productionNumber 0))
+  unfolding Built
+  listed-production p g listed =
+      let number : n ≡ productionNumber p = found .here ∙ listed-root b numbers at (node p g) listed in
+      let same : n - productionNumber 0 ≡ p = omega arith in
+      (omega arith, rw same (listed .built .0), rw same (arguments-size b p g (argumentCount b p) (listed .built .2)))
 
-    module _ (depth place : ℕ) (table₀ : List ℕ) where
-      pub placed-character : n < characters → (t : Tree) → ListedAt b numbers at t
-          → Placed t depth at place table₀ (set table₀ at (packed depth place (place + 1))) (next (at + 1) (place + 1))
-      unfolding rows listing yield
-      placed-character l (leaf c) listed = record { wrote = refl; number = refl; byte = refl }
-      placed-character l (node p g) listed = absurd (omega (arith, listed-production p g listed .0))
+  listed-character : (c : ℕ) → ListedAt b numbers at (leaf c) → n < characters
+  unfolding Built
+  listed-character c listed =
+      let small = class-character b (found .bytes) (listed .sort - classBase) c (listed .built .1) in
+      omega (arith, found .here, listed-root b numbers at (leaf c) listed)
 
-      module _ (table : List ℕ) (d number byte : ℕ) (made : (p : ℕ) (g : Forest) → ListedAt b numbers at (node p g) → Progress g depth at place table₀ table d number byte) where
-        pub placed-production : characters ≤ n → argumentCount b (n - productionNumber 0) ≤ d
-            → (t : Tree) → ListedAt b numbers at t → Placed t depth at place table₀ (set table at (packed depth place byte)) (next number byte)
-        placed-production l h (leaf c) listed = absurd (omega (arith, listed-character c listed))
-        placed-production l h (node p g) listed =
-            progress-all b numbers p g depth at place table₀ listed table d number byte (omega (arith, listed-production p g listed .2)) (made p g listed)
+  -- a number that is no character's is a production's
+  production-listed : characters ≤ n → (t : Tree) → ListedAt b numbers at t → (p : ℕ) × (g : Forest) × ListedAt b numbers at (node p g)
+  production-listed l (leaf c) listed = absurd (omega (arith, listed-character c listed))
+  production-listed l (node p g) listed = (p, g, listed)
 
-        -- the tree of the next argument is listed
-        pub argument-listed : d < argumentCount b (n - productionNumber 0) → (p : ℕ) (g : Forest) → ListedAt b numbers at (node p g)
-            → (u : Tree) × ListedAt b numbers number u
-        argument-listed h p g listed =
+  -- ---- a step of the walk
+
+  module _ {depth place : ℕ} {table₀ : List ℕ} where
+    pub walk-character : n < characters → (t : Tree) → ListedAt b numbers at t
+        → Placed t depth at place table₀ (set table₀ at (packed depth place (place + 1))) (next (at + 1) (place + 1))
+    unfolding rows listing yield
+    walk-character l (leaf c) listed = record { wrote = refl; number = refl; byte = refl }
+    walk-character l (node p g) listed = absurd (omega (arith, listed-production p g listed .0))
+
+    module _ (from : WalkFrom b numbers table₀ depth at place) (l : characters ≤ n) where
+      -- a production that the grammar has
+      pub walk-production : (productionNumber 0 ≤ n) × (n - productionNumber 0 < productions b)
+      walk-production = let (p, g, listed) = production-listed l (from .tree) (from .listed) in let h = listed-production p g listed in (h .0, h .1)
+
+      module _ {table : List ℕ} {d number byte : ℕ} (made : SoFar b numbers depth at place table₀ table d number byte) where
+        pub walk-within : (at < number) × (byte < number) × (number ≤ length numbers)
+        walk-within =
+            let (p, g, listed) = production-listed l (from .tree) (from .listed) in
+            progress-within b numbers at p g depth place table₀ table d number byte (from .far) listed (made p g listed)
+
+        -- the walk goes on at the next argument
+        pub walk-argument : length table ≡ length table₀ → d < argumentCount b (n - productionNumber 0) → WalkFrom b numbers table (depth + 1) number byte
+        walk-argument same h =
+            let (p, g, listed) = production-listed l (from .tree) (from .listed) in
             let now = made p g listed in
             let (u, front) = front-next (now .isFront) (omega (arith, now .count, listed-production p g listed .2)) in
-            (u, subst (λ (j : ℕ). ListedAt b numbers j u) (sym (now .next)) (listed-next b numbers p g depth at place table₀ listed (now .front) u front))
+            record {
+              tree = u;
+              listed = subst (λ (j : ℕ). ListedAt b numbers j u) (sym (now .next)) (listed-next b numbers p g depth at place table₀ listed (now .front) u front);
+              framed = from .framed;
+              room = omega (arith, from .room);
+              few = omega (arith, from .few);
+              deep = omega (arith, from .deep, walk-within .0);
+              far = omega (arith, walk-within .1);
+            }
 
-        -- and, if it is placed, one argument more is
-        pub argument-placed : (table′ : List ℕ) (r : Next) → d < argumentCount b (n - productionNumber 0)
+        -- and one argument more is placed
+        pub walk-placed : {table′ : List ℕ} {r : Next} → d < argumentCount b (n - productionNumber 0)
             → ((t : Tree) → ListedAt b numbers number t → Placed t (depth + 1) number byte table table′ r)
-            → (p : ℕ) (g : Forest) → ListedAt b numbers at (node p g) → Progress g depth at place table₀ table′ (d + 1) (r .number) (r .byte)
-        argument-placed table′ r h placed p g listed =
+            → SoFar b numbers depth at place table₀ table′ (d + 1) (r .number) (r .byte)
+        walk-placed {table′} {r} h placed p g listed =
             progress-next b numbers p g depth at place table₀ listed table table′ d number byte r (omega (arith, listed-production p g listed .2)) (made p g listed) placed
+
+        -- until all are
+        pub walk-all : argumentCount b (n - productionNumber 0) ≤ d → (t : Tree) → ListedAt b numbers at t
+            → Placed t depth at place table₀ (set table at (packed depth place byte)) (next number byte)
+        walk-all h (leaf c) listed = absurd (omega (arith, listed-character c listed))
+        walk-all h (node p g) listed =
+            progress-all b numbers p g depth at place table₀ listed table d number byte (omega (arith, listed-production p g listed .2)) (made p g listed)
+
+-- before the first argument
+pub walk-begun : {b numbers : List ℕ} {depth at place : ℕ} {table : List ℕ} → SoFar b numbers depth at place table table 0 (at + 1) place
+walk-begun {b} {numbers} {depth} {at} {place} {table} p g listed = progress-none b numbers p g depth at place table listed
+
+-- there is a number, and neither depth nor place is beyond the table
+pub walk-there : {b numbers table : List ℕ} {depth at place : ℕ} → WalkFrom b numbers table depth at place
+    → (at < length numbers) × (at < length table) × (depth < numberLimit) × (place < numberLimit)
+walk-there {b} {numbers} {table} {depth} {at} {place} from =
+    let there = listed-there b numbers at (from .tree) (from .listed) in
+    (there, omega (arith, from .room), omega (arith, from .room, from .few, from .deep), omega (arith, from .room, from .few, from .far))

@@ -1,12 +1,13 @@
 -- The walk over a tree that a listing lists, and what it leaves in the table.
-use Prim.Native.Nat.{ℕ, _+_}
+use Prim.Native.Nat.{ℕ, _+_, _≤_}
 use mathlib.Core.Path.{_≡_}
 use mathlib.Core.List.{List, _++_, map}
 use lib.ListN.{length, drop}
 use lib.Seq.{sets}
 use Rattle.flatten.specs.Trees.{Built}
+use Rattle.grammar.specs.Layout.{bodiesAt}
 use Rattle.rows.specs.Rows.{rows}
-use Rattle.rows.specs.Table.{word}
+use Rattle.rows.specs.Table.{numberLimit, word}
 use Rattle.rows.specs.declared.Next.{Next}
 use Rattle.theory.specs.Tree.{Tree, yield, listing}
 
@@ -16,6 +17,16 @@ pub record ListedAt (b numbers : List ℕ) (at : ℕ) (t : Tree) : Type 0 where
   pub built : Built b sort t
   pub others : List ℕ
   pub begins : drop at numbers ≡ listing t ++ others
+
+-- The walk may go on at number `at`: a tree is listed there, and the table has room for all numbers. A number's index is at least its depth, and at least its place in the text.
+pub record WalkFrom (b numbers table : List ℕ) (depth at place : ℕ) : Type 0 where
+  pub tree : Tree
+  pub listed : ListedAt b numbers at tree
+  pub framed : bodiesAt b ≤ length b
+  pub room : length numbers ≤ length table
+  pub few : length table ≤ numberLimit
+  pub deep : depth ≤ at
+  pub far : place ≤ at
 
 -- the words of a tree's rows
 abbrev pub words : (d i : ℕ) → Tree → List ℕ

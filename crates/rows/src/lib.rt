@@ -6,11 +6,10 @@ use tables::FIRST_PRODUCTION;
 ghost use mathlib.Core.Path.{_≡_};
 ghost use Prim.Native.Nat.{_≤_, _<_};
 ghost use lib.ListN.{length, getD, set};
-ghost use Rattle.grammar.specs.Layout.{bodiesAt};
 ghost use Rattle.numbers.specs.Numbers.{numbersOf};
 ghost use Rattle.theory.specs.Tree.{Tree};
 ghost use Rattle.rows.specs.Table.{numberLimit, packed, unpacked};
-ghost use Rattle.rows.specs.Walk.{ListedAt, Placed};
+ghost use Rattle.rows.specs.Walk.{ListedAt, WalkFrom, Placed};
 
 // Most numbers of a listing.
 pub const NUMBER_LIMIT: usize = 4096;
@@ -42,9 +41,7 @@ pub fn place_tree(
     at: usize,
     place: usize,
 ) -> Next
-    requires { ⌜ bodiesAt (now book) ≤ length (now book) ⌝ }
-    requires { ⌜ (length (numbersOf (now listing)) ≤ length (now table)) × (length (now table) ≤ numberLimit) × (depth ≤ at) × (place ≤ at) ⌝ }
-    requires { ⌜ ((t : Tree) × ListedAt (now book) (numbersOf (now listing)) at t) ⌝ }
+    requires { ⌜ WalkFrom (now book) (numbersOf (now listing)) (now table) depth at place ⌝ }
     ensures { λ r. ⌜ ((t : Tree) → ListedAt (now (book .entry)) (numbersOf (now (listing .entry))) at t → Placed t depth at place (now (table .entry)) (now (table .exit)) r) ⌝ }
 {
     let n = number_at(listing, at);

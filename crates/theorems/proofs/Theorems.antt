@@ -22,6 +22,7 @@ use Rattle.listing.proofs.RefusedLaws.{grammar-exactly as listing-grammar, ten-
 use Rattle.marked.proofs.Marked.{marked-outcomes}
 use Rattle.page.proofs.AnswerLaws.{page-fits, page-too-long, page-wrong, page-refused}
 use Rattle.page.proofs.LinesLaws.{line-says, page-beyond, part-spelled, row-none}
+use Rattle.page.proofs.RightLaws.{RightListing}
 use Rattle.page.proofs.UniqueLaws.{one-listed, page-one, row-one, part-one}
 use Rattle.page.specs.Answer.{pageLength, PageAfter, PageOutcome}
 use Rattle.parse.proofs.AnswerLaws.{parsed-outcome, refused-unchanged, grammar-exactly, ten-exactly, twenty-exactly}
@@ -160,15 +161,15 @@ refused-page b w l page₀ r page n k e after = subst (λ (a : WriteAnswer). Pag
 written-page : (b : List ℕ) → Bytes b → (w l page₀ : List ℕ) (r : WriteAnswer) (page : List ℕ) (n : ℕ) → r ≡ Written n → PageOutcome b w l page₀ r page → PageSays b w l page₀ page
 unfolding PageAfter pageLength
 written-page b bytes w l page₀ r page n e o =
-    let right = page-fits b w l (length page₀) n .0 (sym (o .answer) ∙ e) .0 in
+    let given : RightListing b w l = record { bytes = bytes; right = page-fits b w l (length page₀) n .0 (sym (o .answer) ∙ e) .0 } in
     let (t, lent, after) : PageAfter b w l page₀ (Written n) page = subst (λ (a : WriteAnswer). PageAfter b w l page₀ a page) e (o .after) in
     record {
       tree = t;
       listed = lent;
       number = λ k h. row-number 0 0 t k ∙ ap (λ (v : List ℕ). getD v k 0) (lent .listed);
-      line = line-says b bytes w l right t lent page₀ page after;
+      line = line-says given lent page₀ page after;
       stands = λ k h. row-stands t k (subst (λ (v : List ℕ). k < length v) (sym (lent .listed)) h);
-      beyond = page-beyond b bytes w l right t lent page₀ page after;
+      beyond = page-beyond given lent page₀ page after;
     }
 
 pub pages : Pages
@@ -187,7 +188,7 @@ parts b bytes w l index part under =
       one = λ part′ other. part-one b bytes w l index part part′ under other;
       place = λ r other. under .isPart ∙ ap (λ (q : Row). slice (q .start) (q .end) w) (row-one b bytes w l index (under .row) r (under .under) other);
       onePlace = row-one b bytes w l index;
-      spells = λ right t lent h. part-spelled b bytes w l right t lent index part under h;
+      spells = λ right t lent h. part-spelled (record { bytes = bytes; right = right }) lent under h;
       none = λ absent r other. let e = row-none b w l index r other absent in (ap (λ (q : Row). q .start) e, ap (λ (q : Row). q .end) e);
     }
 
