@@ -1,5 +1,5 @@
 -- The promise of the operation "checking a listing" (01), stated once, for every grammar, text and listing.
-use Prim.Native.Nat.{ℕ, _%_}
+use Prim.Native.Nat.{ℕ, _*_, _%_}
 use mathlib.Core.Bool.{_||_}
 use mathlib.Core.List.{List, [], _∷_}
 use lib.Dec.{ltb, eqb}
@@ -9,7 +9,7 @@ use Rattle.grammar.specs.Layout.{startSort}
 use Rattle.grammar.specs.Verdict.{refuseIf, inOrder, unlessRefused}
 use Rattle.grammar.specs.declared.Verdict.{Verdict}
 use Rattle.listing.specs.Judge.{judge}
-use Rattle.numbers.specs.Numbers.{numbersOf}
+use Rattle.numbers.specs.Numbers.{listingLimit, numbersOf}
 use Rattle.listing.specs.declared.ListingAnswer.{ListingAnswer}
 use Rattle.listing.specs.declared.ListingAnswer.the-variants.{Refused}
 use Rattle.engine.specs.Refusals.{tooLong}
@@ -17,7 +17,7 @@ use Rattle.priority.specs.Check.{checked}
 
 -- most bytes of a listing that is checked
 abbrev pub byteLimit : ℕ
-byteLimit = 8192
+byteLimit = 2 * listingLimit
 
 -- 11: the listing has an odd byte count, or one over the limit; the place is the byte count
 unfoldable pub badListing : List ℕ → Verdict

@@ -5,6 +5,7 @@ use engine::check_text;
 use flatten::flatten;
 use grammar::Verdict;
 use grammar::limits::ARGUMENT_LIMIT;
+use numbers::LISTING_LIMIT;
 use numbers::number_at;
 use priority::check_grammar;
 use tables::FIRST_PRODUCTION;
@@ -34,7 +35,7 @@ ghost use Rattle.listing.specs.Parts.{afterPart, Walked, duesFrom};
 ghost use Rattle.listing.specs.declared.ListingAnswer.the-variants.{Refused};
 
 // Most bytes of a listing that is checked.
-pub const BYTE_LIMIT: usize = 8192;
+const BYTE_LIMIT: usize = 2 * LISTING_LIMIT;
 
 // What checking a listing gives.
 pub enum ListingAnswer {

@@ -9,6 +9,9 @@ ghost use Rattle.common.specs.Bytes.{byteValues};
 ghost use Rattle.numbers.specs.Numbers.{numbersOf};
 ghost use Rattle.numbers.specs.Written.{room, Written};
 
+// Most numbers of a listing that is lent.
+pub const LISTING_LIMIT: usize = 4096;
+
 // Number `at` of the listing: two bytes, the low one first.
 pub fn number_at(listing: &[u8], at: usize) -> usize
     requires { ⌜ at < length (numbersOf (now listing)) ⌝ }

@@ -11,7 +11,7 @@ use Rattle.listing.specs.Answer.{listingAnswer}
 use Rattle.listing.specs.declared.ListingAnswer.{ListingAnswer}
 use Rattle.listing.specs.declared.ListingAnswer.the-variants.{Right, Wrong, Refused as NotChecked}
 use Rattle.numbers.proofs.NumbersLaws.{numbers-length}
-use Rattle.numbers.specs.Numbers.{numbersOf}
+use Rattle.numbers.specs.Numbers.{listingLimit, numbersOf}
 use Rattle.page.proofs.RightLaws.{RightListing, listed-whole, right-short, right-few, right-tree, rows-count, yield-count, row-fits}
 use Rattle.page.proofs.TextLaws.{page-length}
 use Rattle.page.specs.Answer.{Listed, pageLength, pageIf, pageAnswer, PageAfter, PageOutcome, RowIf, RowUnder}
@@ -19,7 +19,7 @@ use Rattle.page.specs.Text.{lineLength, pageText, RowFits}
 use Rattle.rows.proofs.RowsLaws.{row-within}
 use Rattle.rows.proofs.TableLaws.{row-said, rows-said}
 use Rattle.rows.specs.Rows.{noRow, rows}
-use Rattle.rows.specs.Table.{numberLimit, unpacked, tableRows}
+use Rattle.rows.specs.Table.{unpacked, tableRows}
 use Rattle.rows.specs.Walk.{ListedAt, Placed}
 use Rattle.rows.specs.declared.Next.{Next}
 use Rattle.rows.specs.declared.Row.{Row}
@@ -73,7 +73,7 @@ module _ {b w l : List ℕ} (given : RightListing b w l) where
 
   -- ---- with its rows in a table
 
-  module _ (table₀ table : List ℕ) (long : length table₀ ≡ numberLimit) (r : Next)
+  module _ (table₀ table : List ℕ) (long : length table₀ ≡ listingLimit) (r : Next)
       (placed : (t : Tree) → ListedAt b (numbersOf l) 0 t → Placed t 0 0 0 table₀ table r) where
     row-of : (t : Tree) → Listed b w l t → (k : ℕ) → k < length (numbersOf l) → unpacked (getD (numbersOf l) k 0) (getD table k 0) ≡ getD (rows 0 0 t) k noRow
     row-of t lent k h =

@@ -14,14 +14,13 @@ use Rattle.listing.proofs.RefusedLaws.{right-exactly}
 use Rattle.listing.specs.Answer.{listingAnswer}
 use Rattle.listing.specs.declared.ListingAnswer.the-variants.{Right}
 use Rattle.numbers.proofs.NumbersLaws.{numbers-length}
-use Rattle.numbers.specs.Numbers.{numbersOf}
+use Rattle.numbers.specs.Numbers.{listingLimit, numbersOf}
 use Rattle.page.specs.Answer.{Listed}
 use Rattle.page.specs.Text.{RowFits}
 use Rattle.priority.proofs.CheckLaws.{accepted-formed}
 use Rattle.rows.proofs.BuiltLaws.{SomeNumber, built-numbers}
 use Rattle.rows.proofs.RowsLaws.{row-number, rows-length, row-within}
 use Rattle.rows.specs.Rows.{noRow, rows}
-use Rattle.rows.specs.Table.{numberLimit}
 use Rattle.rows.specs.Walk.{ListedAt, WalkFrom}
 use Rattle.theory.specs.Tree.{Tree, yield, listing}
 
@@ -37,7 +36,7 @@ module _ {b w l : List ℕ} (given : RightListing b w l) where
   pub right-short : length w ≤ textLimit
   right-short = right-exactly b w l (given .bytes) .0 (given .right) .1
 
-  pub right-few : length (numbersOf l) ≤ numberLimit
+  pub right-few : length (numbersOf l) ≤ listingLimit
   right-few = let h = right-exactly b w l (given .bytes) .0 (given .right) .3 in omega (arith, numbers-length l)
 
   pub right-tree : (t : Tree) × Listed b w l t
@@ -73,7 +72,7 @@ module _ {b w l : List ℕ} (given : RightListing b w l) where
         }
 
   -- the walk may begin at the first number
-  pub right-walk : (table : List ℕ) → length table ≡ numberLimit → WalkFrom b (numbersOf l) table 0 0 0
+  pub right-walk : (table : List ℕ) → length table ≡ listingLimit → WalkFrom b (numbersOf l) table 0 0 0
   right-walk table long =
       let (t, lent) = right-tree in
       record {

@@ -1,7 +1,7 @@
 // A parse as a page for the binder, a line for each number of its listing; and the part of the text under a number.
 use listing::ListingAnswer;
 use listing::check_listing;
-use rows::NUMBER_LIMIT;
+use numbers::LISTING_LIMIT;
 use rows::PLACES;
 use rows::Row;
 use rows::place_tree;
@@ -15,9 +15,9 @@ ghost use lib.ListN.{length, getD};
 ghost use Rattle.common.specs.Lists.{tabulate};
 ghost use Rattle.listing.specs.Answer.{listingAnswer};
 ghost use Rattle.listing.specs.declared.ListingAnswer.the-variants.{Right};
-ghost use Rattle.numbers.specs.Numbers.{numbersOf};
+ghost use Rattle.numbers.specs.Numbers.{listingLimit, numbersOf};
 ghost use Rattle.rows.specs.Rows.{noRow};
-ghost use Rattle.rows.specs.Table.{numberLimit, unpacked, tableRows};
+ghost use Rattle.rows.specs.Table.{unpacked, tableRows};
 ghost use Rattle.writing.specs.Put.{Put, farthest};
 ghost use Rattle.page.specs.Text.{printed, shown, column, rowText, pageText, textWidth, lineLength, RowFits};
 ghost use Rattle.page.specs.Answer.{PageOutcome, RowUnder, TextUnder, PlacesUnder};
@@ -32,7 +32,7 @@ const PLACE_WIDTH: usize = 3;
 const TEXT_WIDTH: usize = 54;
 
 // How long a line is, its line feed included.
-const LINE_LENGTH: usize = 73;
+pub const LINE_LENGTH: usize = 73;
 
 // ---- the page
 
@@ -57,7 +57,7 @@ fn write_right(book: &[u8], text: &[u8], listing: &[u8], page: &mut [u8]) -> Wri
     if page.len() < needed {
         return WriteAnswer::Refused(24, needed);
     }
-    let mut table = [0u64; NUMBER_LIMIT];
+    let mut table = [0u64; LISTING_LIMIT];
     place_tree(book, listing, &mut table, 0, 0, 0);
     put_rows(page, text, listing, &table);
     WriteAnswer::Written(needed)
@@ -65,7 +65,7 @@ fn write_right(book: &[u8], text: &[u8], listing: &[u8], page: &mut [u8]) -> Wri
 
 // A line for each number, with the row that the table has for it.
 fn put_rows(out: &mut [u8], text: &[u8], listing: &[u8], table: &[u64]) -> usize
-    requires { ⌜ (length (numbersOf (now listing)) ≤ length (now table)) × (length (now table) ≤ numberLimit) ⌝ }
+    requires { ⌜ (length (numbersOf (now listing)) ≤ length (now table)) × (length (now table) ≤ listingLimit) ⌝ }
     requires { ⌜ ((k : ℕ) → k < length (numbersOf (now listing)) → RowFits (now text) (unpacked (getD (numbersOf (now listing)) k 0) (getD (now table) k 0))) ⌝ }
     ensures { λ r. ⌜ Put (pageText (now (text .entry)) (tableRows (numbersOf (now (listing .entry))) (now (table .entry)))) (now (out .entry)) 0 (now (out .exit)) r ⌝ }
 {
@@ -181,7 +181,7 @@ fn row_of_right(book: &[u8], text: &[u8], listing: &[u8], index: usize) -> Row
     if listing.len() / 2 <= index {
         return no_row();
     }
-    let mut table = [0u64; NUMBER_LIMIT];
+    let mut table = [0u64; LISTING_LIMIT];
     place_tree(book, listing, &mut table, 0, 0, 0);
     row_at(listing, &table, index)
 }

@@ -6,6 +6,7 @@ use common::BYTE_VALUES;
 use common::wide;
 use libc::STDIN_FILENO;
 use libc::STDOUT_FILENO;
+use page::LINE_LENGTH;
 use page::text_under;
 use page::write_page;
 use records::Field;
@@ -18,9 +19,6 @@ ghost use lib.ListN.{length};
 
 // Enough for the longest page, of 4,096 lines.
 const LARGEST_BUFFER: usize = 300000;
-
-// How long a line of a page is.
-const LINE_LENGTH: usize = 73;
 
 // How long a page is that is printed whole.
 const SHORT_PAGE: usize = 20 * LINE_LENGTH;

@@ -14,9 +14,10 @@ use Rattle.flatten.specs.Trees.{Built, Arguments}
 use Rattle.grammar.proofs.ClassesLaws.{class-character}
 use Rattle.grammar.specs.Layout.{productions, argumentCount, argument}
 use Rattle.grammar.specs.Limits.{classBase}
+use Rattle.numbers.specs.Numbers.{listingLimit}
 use Rattle.rows.proofs.RowsLaws.{rows-below-length, yields-short}
 use Rattle.rows.specs.Rows.{rows, rowsBelow}
-use Rattle.rows.specs.Table.{numberLimit, word, packed}
+use Rattle.rows.specs.Table.{word, packed}
 use Rattle.rows.specs.Walk.{ListedAt, WalkFrom, words, Placed}
 use Rattle.rows.specs.declared.Next.{Next}
 use Rattle.theory.specs.Tree.{Tree, leaf, node, Forest, none, _▷_, productionNumber, yield, yields, listing, listings, size}
@@ -289,7 +290,7 @@ walk-begun {b} {numbers} {depth} {at} {place} {table} p g listed = progress-none
 
 -- there is a number, and neither depth nor place is beyond the table
 pub walk-there : {b numbers table : List ℕ} {depth at place : ℕ} → WalkFrom b numbers table depth at place
-    → (at < length numbers) × (at < length table) × (depth < numberLimit) × (place < numberLimit)
+    → (at < length numbers) × (at < length table) × (depth < listingLimit) × (place < listingLimit)
 walk-there {b} {numbers} {table} {depth} {at} {place} from =
     let there = listed-there b numbers at (from .tree) (from .listed) in
     (there, omega (arith, from .room), omega (arith, from .room, from .few, from .deep), omega (arith, from .room, from .few, from .far))

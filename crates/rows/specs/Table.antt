@@ -2,17 +2,14 @@
 use Prim.Native.Nat.{ℕ, _+_, _*_, _/_, _%_}
 use mathlib.Core.List.{List}
 use lib.ListN.{length, getD}
+use Rattle.common.specs.Bytes.{byteValues}
 use Rattle.common.specs.Lists.{tabulate}
 use Rattle.rows.specs.Rows.{row}
 use Rattle.rows.specs.declared.Row.{Row}
 
--- how many numbers a listing has at most
-abbrev pub numberLimit : ℕ
-numberLimit = 4096
-
--- every place in a text, its end included, is below this
+-- every place in a text, its end included, is below this: it fits a byte
 abbrev pub places : ℕ
-places = 256
+places = byteValues
 
 unfoldable pub packed : (depth start end : ℕ) → ℕ
 packed depth start end = (depth * places + start) * places + end

@@ -6,8 +6,9 @@ use lib.ListN.{length, drop}
 use lib.Seq.{sets}
 use Rattle.flatten.specs.Trees.{Built}
 use Rattle.grammar.specs.Layout.{bodiesAt}
+use Rattle.numbers.specs.Numbers.{listingLimit}
 use Rattle.rows.specs.Rows.{rows}
-use Rattle.rows.specs.Table.{numberLimit, word}
+use Rattle.rows.specs.Table.{word}
 use Rattle.rows.specs.declared.Next.{Next}
 use Rattle.theory.specs.Tree.{Tree, yield, listing}
 
@@ -24,7 +25,7 @@ pub record WalkFrom (b numbers table : List ℕ) (depth at place : ℕ) : Type 0
   pub listed : ListedAt b numbers at tree
   pub framed : bodiesAt b ≤ length b
   pub room : length numbers ≤ length table
-  pub few : length table ≤ numberLimit
+  pub few : length table ≤ listingLimit
   pub deep : depth ≤ at
   pub far : place ≤ at
 

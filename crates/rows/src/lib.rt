@@ -1,21 +1,19 @@
 // The rows of a listing that is right: for each number how deep it stands, and where its text starts and ends.
 use charset::CHARACTERS;
+use common::BYTE_VALUES;
 use grammar::layout::argument_count;
 use numbers::number_at;
 use tables::FIRST_PRODUCTION;
 ghost use mathlib.Core.Path.{_≡_};
 ghost use Prim.Native.Nat.{_≤_, _<_};
 ghost use lib.ListN.{length, getD, set};
-ghost use Rattle.numbers.specs.Numbers.{numbersOf};
+ghost use Rattle.numbers.specs.Numbers.{listingLimit, numbersOf};
 ghost use Rattle.theory.specs.Tree.{Tree};
-ghost use Rattle.rows.specs.Table.{numberLimit, packed, unpacked};
+ghost use Rattle.rows.specs.Table.{packed, unpacked};
 ghost use Rattle.rows.specs.Walk.{ListedAt, WalkFrom, Placed};
 
-// Most numbers of a listing.
-pub const NUMBER_LIMIT: usize = 4096;
-
-// Every place in a text is below this.
-pub const PLACES: usize = 256;
+// Every place in a text is below this: it fits a byte.
+pub const PLACES: usize = BYTE_VALUES;
 
 // Where a number of a listing stands: how far below the root; the number; where its text starts, and the index after the text's last byte.
 pub struct Row {
@@ -71,7 +69,7 @@ pub fn place_tree(
 
 // Puts a row into the table.
 fn put_row(table: &mut [u64], at: usize, depth: usize, start: usize, end: usize)
-    requires { ⌜ (at < length (now table)) × (depth ≤ numberLimit) × (start ≤ numberLimit) × (end ≤ numberLimit) ⌝ }
+    requires { ⌜ (at < length (now table)) × (depth ≤ listingLimit) × (start ≤ listingLimit) × (end ≤ listingLimit) ⌝ }
     ensures { λ _. ⌜ now (table .exit) ≡ set (now (table .entry)) at (packed depth start end) ⌝ }
 {
     table[at] = ((depth * PLACES + start) * PLACES + end) as u64;
