@@ -1,2 +1,3 @@
 -- What the contracts of the calls cite.
 pub mod Viewer
+pub mod Page

@@ -10,14 +10,14 @@ use Rattle.reply.specs.Reply.{numberOf, placeOf}
 use Rattle.reply.specs.declared.Reply.{Reply}
 
 -- most bytes of the listing's buffer that the call uses
-abbrev pub listingLimit : ℕ
-listingLimit = 65536
+abbrev pub usedLimit : ℕ
+usedLimit = 65536
 
 -- The answer is the one that parsing has for the first bytes of the buffer; bytes beyond them stay.
 pub record UsedOutcome (b w c₀ l₀ : List ℕ) (r : Answer) (c l : List ℕ) : Type 0 where
   pub used : List ℕ
-  pub outcome : Outcome b w c₀ (take listingLimit l₀) r c used
-  pub listing : l ≡ used ++ drop listingLimit l₀
+  pub outcome : Outcome b w c₀ (take usedLimit l₀) r c used
+  pub listing : l ≡ used ++ drop usedLimit l₀
 
 -- What a call gives that makes a number of the reply for that answer.
 pub record CallOutcome (number : Reply → ℕ) (b w c₀ l₀ : List ℕ) (r : ℕ) (c l : List ℕ) : Type 0 where

@@ -6,16 +6,16 @@ use reply::place;
 use reply::read::read_reply;
 ghost use mathlib.Core.Path.{_≡_};
 ghost use Prim.Native.Nat.{min};
-ghost use Rattle.meadowsink.specs.Viewer.{listingLimit, UsedOutcome, ViewerOutcome, PlaceOutcome};
+ghost use Rattle.meadowsink.specs.Viewer.{usedLimit, UsedOutcome, ViewerOutcome, PlaceOutcome};
 
 // Most bytes of the listing's buffer that a call uses.
-pub const LISTING_LIMIT: usize = 65536;
+pub const USED_LIMIT: usize = 65536;
 
 fn used_part(n: usize) -> usize
-    ensures { λ r. ⌜ r ≡ min n listingLimit ⌝ }
+    ensures { λ r. ⌜ r ≡ min n usedLimit ⌝ }
 {
-    if LISTING_LIMIT < n {
-        return LISTING_LIMIT;
+    if USED_LIMIT < n {
+        return USED_LIMIT;
     }
     n
 }

@@ -3,17 +3,13 @@ use page::write_page;
 use reply::number;
 use reply::place;
 use reply::write::write_reply;
-ghost use mathlib.Core.Path.{_≡_};
-ghost use lib.ListN.{length};
-ghost use Rattle.page.specs.Answer.{pageAnswer, PageAfter};
-ghost use Rattle.reply.specs.Answers.{writeReply};
+ghost use Rattle.meadowsink.specs.Page.{PageCall};
 ghost use Rattle.reply.specs.Reply.{numberOf, placeOf};
 
 // The page of the parse whose listing is lent, written to the start of the buffer.
 #[no_mangle]
 pub extern "C" fn meadowsink_page(book: &[u8], text: &[u8], listing: &[u8], page: &mut [u8]) -> u64
-    ensures { λ r. ⌜ r ≡ numberOf (writeReply (pageAnswer (now (book .entry)) (now (text .entry)) (now (listing .entry)) (length (now (page .entry))))) ⌝ }
-    ensures { λ r. ⌜ PageAfter (now (book .entry)) (now (text .entry)) (now (listing .entry)) (now (page .entry)) (pageAnswer (now (book .entry)) (now (text .entry)) (now (listing .entry)) (length (now (page .entry)))) (now (page .exit)) ⌝ }
+    ensures { λ r. ⌜ PageCall numberOf (now (book .entry)) (now (text .entry)) (now (listing .entry)) (now (page .entry)) r (now (page .exit)) ⌝ }
 {
     number(write_reply(write_page(book, text, listing, page)))
 }
@@ -26,8 +22,7 @@ pub extern "C" fn meadowsink_page_place(
     listing: &[u8],
     page: &mut [u8],
 ) -> u64
-    ensures { λ r. ⌜ r ≡ placeOf (writeReply (pageAnswer (now (book .entry)) (now (text .entry)) (now (listing .entry)) (length (now (page .entry))))) ⌝ }
-    ensures { λ r. ⌜ PageAfter (now (book .entry)) (now (text .entry)) (now (listing .entry)) (now (page .entry)) (pageAnswer (now (book .entry)) (now (text .entry)) (now (listing .entry)) (length (now (page .entry)))) (now (page .exit)) ⌝ }
+    ensures { λ r. ⌜ PageCall placeOf (now (book .entry)) (now (text .entry)) (now (listing .entry)) (now (page .entry)) r (now (page .exit)) ⌝ }
 {
     place(write_reply(write_page(book, text, listing, page)))
 }

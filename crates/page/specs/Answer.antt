@@ -30,7 +30,8 @@ pub record Listed (b w l : List ℕ) (t : Tree) : Type 0 where
 unfoldable pub pageLength : List ℕ → ℕ
 pageLength l = lineLength * length (numbersOf l)
 
--- By what checking the listing answers: its refusals stand; 23 if it is wrong, the place is the index; 24 if the page is longer than the buffer, the place is its length.
+-- By what checking the listing answers: its refusals stand; 23 if it is wrong, the place is the index;
+-- 24 if the page is longer than the buffer, the place is the page's length.
 unfoldable pub pageIf : ListingAnswer → (needed room : ℕ) → WriteAnswer
 pageIf (NotChecked number place) needed room = Refused number place
 pageIf (Wrong index) needed room = Refused 23 index

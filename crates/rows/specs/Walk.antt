@@ -19,7 +19,8 @@ pub record ListedAt (b numbers : List ℕ) (at : ℕ) (t : Tree) : Type 0 where
   pub others : List ℕ
   pub begins : drop at numbers ≡ listing t ++ others
 
--- The walk may go on at number `at`: a tree is listed there, and the table has room for all numbers. A number's index is at least its depth, and at least its place in the text.
+-- The walk may go on at number `at`: a tree is listed there, and the table has room for all numbers.
+-- The index of a number is at least its depth, and at least its place in the text.
 pub record WalkFrom (b numbers table : List ℕ) (depth at place : ℕ) : Type 0 where
   pub tree : Tree
   pub listed : ListedAt b numbers at tree

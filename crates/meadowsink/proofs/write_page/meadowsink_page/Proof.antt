@@ -1,15 +1,12 @@
 -- `meadowsink_page` meets its contract: the number is that of the answer, and the buffer is as writing leaves it.
 use Prim.Native.Nat.{ℕ, _<_}
-use mathlib.Core.Path.{_∙_, ap, subst}
+use mathlib.Core.Path.{_∙_, ap}
 use native.Mathlib.Omega.{arith}
 use lib.ListN.{length, getD}
 use borrow.Author.Needs.{needs}
 use Rattle.charset.specs.Set.{characters}
 use Rattle.meadowsink.proofs.FitLaws.{page-fits}
-use Rattle.page.specs.Answer.{PageAfter}
-use Rattle.reply.specs.Answers.{writeReply}
 use Rattle.reply.specs.Reply.{numberOf}
-use Rattle.writing.specs.declared.WriteAnswer.{WriteAnswer}
 use Rattle.meadowsink.proofs.write_page.meadowsink_page.Statement.{statement}
 use Rattle.meadowsink.proofs.write_page.meadowsink_page.Tie as tie
 
@@ -30,12 +27,8 @@ same-length c = search needs
 
 returns : tie.Need-returns
 returns c =
-    let write-page = c .before .before .before .before .write-page in
-    let a = c .before .before .before .before .before .before .before .before .before .before .args in
-    let made = write-page .ensures in (
-      c .number .ensures ∙ ap numberOf (c .before .write-reply .ensures ∙ ap writeReply (made .answer)),
-      subst (λ (r : WriteAnswer). PageAfter (a .book .now) (a .text .now) (a .listing .now) (a .page .now) r (write-page .last .1 .1 .1 .0)) (made .answer) (made .after),
-    )
+    let made = c .before .before .before .before .write-page in
+    record { answer = made .result; outcome = made .ensures; isNumber = c .number .ensures ∙ ap numberOf (c .before .write-reply .ensures) }
 
 pub meadowsink-page-spec : {M : Type 1} → statement M
 meadowsink-page-spec =

@@ -1,10 +1,7 @@
 -- `meadowsink_page_place` meets its contract: the place is that of the answer, and the buffer is as writing leaves it.
-use mathlib.Core.Path.{_∙_, ap, subst}
+use mathlib.Core.Path.{_∙_, ap}
 use borrow.Author.Needs.{needs}
-use Rattle.page.specs.Answer.{PageAfter}
-use Rattle.reply.specs.Answers.{writeReply}
 use Rattle.reply.specs.Reply.{placeOf}
-use Rattle.writing.specs.declared.WriteAnswer.{WriteAnswer}
 use Rattle.meadowsink.proofs.write_page.meadowsink_page_place.Statement.{statement}
 use Rattle.meadowsink.proofs.write_page.meadowsink_page_place.Tie as tie
 
@@ -22,12 +19,8 @@ same-length c = search needs
 
 returns : tie.Need-returns
 returns c =
-    let write-page = c .before .before .before .before .write-page in
-    let a = c .before .before .before .before .before .before .before .before .before .before .args in
-    let made = write-page .ensures in (
-      c .place .ensures ∙ ap placeOf (c .before .write-reply .ensures ∙ ap writeReply (made .answer)),
-      subst (λ (r : WriteAnswer). PageAfter (a .book .now) (a .text .now) (a .listing .now) (a .page .now) r (write-page .last .1 .1 .1 .0)) (made .answer) (made .after),
-    )
+    let made = c .before .before .before .before .write-page in
+    record { answer = made .result; outcome = made .ensures; isNumber = c .place .ensures ∙ ap placeOf (c .before .write-reply .ensures) }
 
 pub meadowsink-page-place-spec : {M : Type 1} → statement M
 meadowsink-page-place-spec =
