@@ -1,8 +1,8 @@
 -- What the page answers, each answer exactly under its condition: written, 24, 23, and what checking the listing refuses.
 use Prim.Native.Nat.{ℕ, _≤_, _<_}
 use mathlib.Core.List.{List}
-use mathlib.Core.Logic.{_↔_}
-use mathlib.Core.Path.{_≡_, refl}
+use mathlib.Core.Logic.{_↔_, _⊎_, inl, inr}
+use mathlib.Core.Path.{_≡_, refl, sym}
 use native.Mathlib.Omega.{arith}
 use Rattle.listing.proofs.RefusedLaws.{refused-small}
 use Rattle.listing.specs.Answer.{listingAnswer}
@@ -39,6 +39,12 @@ module _ (needed room : ℕ) where
   refused-if (Wrong j) n k small e = absurd (omega (arith, same-refused 23 j n k e .0))
   refused-if (NotChecked m j) n k small e = let same = same-refused m j n k e in rw (same .0, same .1) refl
 
+  number-if : (a : ListingAnswer) (n k : ℕ) → ((m j : ℕ) → a ≡ NotChecked m j → m ≤ 11) → pageIf a needed room ≡ Refused n k → (n ≤ 11) ⊎ ((n ≡ 23) ⊎ (n ≡ 24))
+  unfolding pageIf
+  number-if Right n k small e = inr (inr (refused-exactly 24 needed room n k .0 e .0))
+  number-if (Wrong j) n k small e = inr (inl (sym (same-refused 23 j n k e .0)))
+  number-if (NotChecked m j) n k small e = inl (omega (arith, same-refused m j n k e .0, small m j refl))
+
 -- ---- the answer
 
 module _ (b w l : List ℕ) (room : ℕ) where
@@ -64,3 +70,8 @@ module _ (b w l : List ℕ) (room : ℕ) where
   pub page-refused : (n k : ℕ) → n ≤ 11 → (pageAnswer b w l room ≡ Refused n k) ↔ (listingAnswer b w l ≡ NotChecked n k)
   unfolding pageAnswer pageIf
   page-refused n k small = (refused-if (pageLength l) room (listingAnswer b w l) n k small, (λ h. rw h refl))
+
+  -- No other number is given.
+  pub page-numbers : (n k : ℕ) → pageAnswer b w l room ≡ Refused n k → (n ≤ 11) ⊎ ((n ≡ 23) ⊎ (n ≡ 24))
+  unfolding pageAnswer
+  page-numbers n k e = number-if (pageLength l) room (listingAnswer b w l) n k (refused-small b w l) e

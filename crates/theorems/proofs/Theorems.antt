@@ -20,7 +20,7 @@ use Rattle.grammar.specs.Layout.{startSort}
 use Rattle.theorems.proofs.OneRightLaws.{one-right}
 use Rattle.listing.proofs.RefusedLaws.{grammar-exactly as listing-grammar, ten-exactly as listing-ten, eleven-exactly, right-exactly}
 use Rattle.marked.proofs.Marked.{marked-outcomes}
-use Rattle.page.proofs.AnswerLaws.{page-fits, page-too-long, page-wrong, page-refused}
+use Rattle.page.proofs.AnswerLaws.{page-fits, page-too-long, page-wrong, page-refused, page-numbers}
 use Rattle.page.proofs.LinesLaws.{line-says, page-beyond, part-spelled, row-none}
 use Rattle.page.proofs.RightLaws.{RightListing}
 use Rattle.page.proofs.UniqueLaws.{one-listed, page-one, row-one, part-one}
@@ -150,7 +150,13 @@ one-listed-reading = one-listed
 pub page-exactly : (b w l : List ℕ) (room : ℕ) → PageExactly b w l room
 unfolding pageLength
 page-exactly b w l room =
-    record { written = page-fits b w l room; tooLong = page-too-long b w l room; wrong = page-wrong b w l room; refused = page-refused b w l room }
+    record {
+      written = page-fits b w l room;
+      tooLong = page-too-long b w l room;
+      wrong = page-wrong b w l room;
+      refused = page-refused b w l room;
+      noOther = page-numbers b w l room;
+    }
 
 -- a page that was refused
 refused-page : (b w l page₀ : List ℕ) (r : WriteAnswer) (page : List ℕ) (n k : ℕ) → r ≡ NotWritten n k → PageAfter b w l page₀ r page → page ≡ page₀

@@ -197,8 +197,8 @@ Archived =
 abbrev pub FlatIsWritten : Type 0
 FlatIsWritten = (b : List ℕ) → Bytes b → checked b ≡ Accepted → WrittenForm (flatGrammar b)
 
--- ---- Request 1. "For a book, text and listing we want a page of 73 bytes a number: its depth, the number, where its text starts and ends, and the first 54 bytes of its
--- text. The text under a number is that part of the lent text, handed back and not copied."
+-- ---- Request 1. "For a book, text and listing we want a page of 73 bytes a number: …" "The text under a number is that part of the lent text, handed back and not
+-- copied, and other callers may have it too."
 
 -- A listing determines its tree, by every character class grammar whose lines have their own numbers.
 abbrev pub ListingDetermines : Type 0
@@ -215,6 +215,7 @@ pub record PageExactly (b w l : List ℕ) (room : ℕ) : Type 0 where
   pub tooLong : (k : ℕ) → (pageAnswer b w l room ≡ NotWritten 24 k) ↔ ((listingAnswer b w l ≡ Right) × (k ≡ 73 * length (numbersOf l)) × (room < k))
   pub wrong : (k : ℕ) → (pageAnswer b w l room ≡ NotWritten 23 k) ↔ (listingAnswer b w l ≡ Wrong k)
   pub refused : (n k : ℕ) → n ≤ 11 → (pageAnswer b w l room ≡ NotWritten n k) ↔ (listingAnswer b w l ≡ NotChecked n k)
+  pub noOther : (n k : ℕ) → pageAnswer b w l room ≡ NotWritten n k → (n ≤ 11) ⊎ ((n ≡ 23) ⊎ (n ≡ 24))
 
 -- What was lent determines the answer and every byte of the buffer; by a refusal none is changed.
 pub record OnePage (b w l page₀ : List ℕ) (r : WriteAnswer) (page : List ℕ) : Type 0 where
