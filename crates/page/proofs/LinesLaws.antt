@@ -11,13 +11,13 @@ use Rattle.listing.specs.Answer.{listingAnswer}
 use Rattle.listing.specs.declared.ListingAnswer.{ListingAnswer}
 use Rattle.listing.specs.declared.ListingAnswer.the-variants.{Right, Wrong, Refused as NotChecked}
 use Rattle.numbers.specs.Numbers.{numbersOf}
-use Rattle.page.proofs.ReadLaws.{row-read, page-line}
+use Rattle.lines.proofs.ReadLaws.{row-read, page-line}
 use Rattle.page.proofs.RightLaws.{RightListing, rows-count, row-fits}
-use Rattle.page.proofs.TextLaws.{page-length}
+use Rattle.lines.proofs.TextLaws.{page-length}
 use Rattle.page.proofs.UniqueLaws.{one-listed}
 use Rattle.page.specs.Answer.{Listed, pageLength, RowIf, RowUnder, TextUnder}
-use Rattle.page.specs.Read.{ReadBack}
-use Rattle.page.specs.Text.{lineLength, rowText, pageText, RowFits}
+use Rattle.lines.specs.Read.{ReadBack}
+use Rattle.lines.specs.Text.{lineLength, rowText, pageText, RowFits}
 use Rattle.rows.proofs.RowsLaws.{rows-length}
 use Rattle.rows.proofs.UnderLaws.{row-stands}
 use Rattle.rows.specs.Rows.{noRow, rows}

@@ -13,9 +13,9 @@ use Rattle.listing.specs.declared.ListingAnswer.the-variants.{Right, Wrong, Ref
 use Rattle.numbers.proofs.NumbersLaws.{numbers-length}
 use Rattle.numbers.specs.Numbers.{listingLimit, numbersOf}
 use Rattle.page.proofs.RightLaws.{RightListing, listed-whole, right-short, right-few, right-tree, rows-count, yield-count, row-fits}
-use Rattle.page.proofs.TextLaws.{page-length}
+use Rattle.lines.proofs.TextLaws.{page-length}
 use Rattle.page.specs.Answer.{Listed, pageLength, pageIf, pageAnswer, PageAfter, PageOutcome, RowIf, RowUnder}
-use Rattle.page.specs.Text.{lineLength, pageText, RowFits}
+use Rattle.lines.specs.Text.{lineLength, pageText, RowFits}
 use Rattle.rows.proofs.RowsLaws.{row-within}
 use Rattle.rows.proofs.TableLaws.{row-said, rows-said}
 use Rattle.rows.specs.Rows.{noRow, rows}

@@ -16,7 +16,7 @@ use Rattle.listing.specs.declared.ListingAnswer.the-variants.{Right}
 use Rattle.numbers.proofs.NumbersLaws.{numbers-length}
 use Rattle.numbers.specs.Numbers.{listingLimit, numbersOf}
 use Rattle.page.specs.Answer.{Listed}
-use Rattle.page.specs.Text.{RowFits}
+use Rattle.lines.specs.Text.{RowFits}
 use Rattle.priority.proofs.CheckLaws.{accepted-formed}
 use Rattle.rows.proofs.BuiltLaws.{SomeNumber, built-numbers}
 use Rattle.rows.proofs.RowsLaws.{row-number, rows-length, row-within}

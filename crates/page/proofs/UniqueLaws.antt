@@ -16,7 +16,7 @@ use Rattle.listing.specs.declared.ListingAnswer.the-variants.{Right, Wrong, Ref
 use Rattle.page.proofs.AnswerLaws.{page-fits}
 use Rattle.page.proofs.RightLaws.{right-formed}
 use Rattle.page.specs.Answer.{Listed, pageAnswer, PageAfter, PageOutcome, RowIf, RowUnder, TextUnder}
-use Rattle.page.specs.Text.{pageText}
+use Rattle.lines.specs.Text.{pageText}
 use Rattle.rows.specs.Rows.{noRow, rows}
 use Rattle.rows.specs.declared.Row.{Row}
 use Rattle.theory.specs.Tree.{Tree}

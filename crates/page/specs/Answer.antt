@@ -10,7 +10,7 @@ use Rattle.listing.specs.Answer.{listingAnswer}
 use Rattle.listing.specs.declared.ListingAnswer.{ListingAnswer}
 use Rattle.listing.specs.declared.ListingAnswer.the-variants.{Right, Wrong, Refused as NotChecked}
 use Rattle.numbers.specs.Numbers.{numbersOf}
-use Rattle.page.specs.Text.{lineLength, pageText}
+use Rattle.lines.specs.Text.{lineLength, pageText}
 use Rattle.rows.specs.Rows.{noRow, rows}
 use Rattle.rows.specs.Table.{places}
 use Rattle.rows.specs.declared.Row.{Row}

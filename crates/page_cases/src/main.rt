@@ -6,7 +6,7 @@ use common::BYTE_VALUES;
 use common::wide;
 use libc::STDIN_FILENO;
 use libc::STDOUT_FILENO;
-use page::LINE_LENGTH;
+use lines::LINE_LENGTH;
 use page::text_under;
 use page::write_page;
 use records::Field;

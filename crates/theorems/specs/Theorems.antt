@@ -47,7 +47,7 @@ use Rattle.numbers.specs.Numbers.{numbersOf}
 use Rattle.listing.specs.declared.ListingAnswer.the-variants.{Right, Wrong, Refused as NotChecked}
 use Rattle.marked.specs.Cases.{Promised, table}
 use Rattle.page.specs.Answer.{Listed, pageAnswer, PageOutcome, RowUnder, TextUnder}
-use Rattle.page.specs.Read.{ReadBack}
+use Rattle.lines.specs.Read.{ReadBack}
 use Rattle.parse.specs.Outcome.{needed, Outcome}
 use Rattle.flatten.specs.Reading.{Reading, EntryList}
 use Rattle.priority.specs.Check.{checked}

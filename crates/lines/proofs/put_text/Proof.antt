@@ -4,11 +4,11 @@ use mathlib.Core.Path.{_≡_, sym, ap}
 use native.Mathlib.Omega.{arith}
 use Rattle.common.proofs.ListLaws.{length-tabulate, tabulate-next}
 use Rattle.common.specs.Lists.{tabulate}
-use Rattle.page.specs.Text.{shown, textWidth}
+use Rattle.lines.specs.Text.{shown, textWidth}
 use Rattle.writing.proofs.PutLaws.{put-none, put-append, put-same, put-long}
 use Rattle.writing.specs.Put.{Put}
-use Rattle.page.proofs.put_text.Statement.{statement}
-use Rattle.page.proofs.put_text.Tie as tie
+use Rattle.lines.proofs.put_text.Statement.{statement}
+use Rattle.lines.proofs.put_text.Tie as tie
 
 abbrev Inv-loop : tie.InvT-loop
 Inv-loop out₀ at text start end place₀ c₀ out place c = Put (tabulate c (shown text start end)) out₀ at out place × (c ≤ textWidth)

@@ -8,14 +8,14 @@ use Rattle.common.proofs.ListLaws.{joined-tabulate-next}
 use Rattle.common.specs.Lists.{tabulate, joined}
 use Rattle.numbers.proofs.NumbersLaws.{numbers-length}
 use Rattle.numbers.specs.Numbers.{numbersOf}
-use Rattle.page.proofs.TextLaws.{row-length}
-use Rattle.page.specs.Text.{pageText, lineLength, rowText, RowFits}
+use Rattle.lines.proofs.TextLaws.{row-length}
+use Rattle.lines.specs.Text.{pageText, lineLength, rowText, RowFits}
 use Rattle.rows.specs.Table.{unpacked, tableRows}
 use Rattle.rows.specs.declared.Row.{Row}
 use Rattle.writing.proofs.PutLaws.{put-none, put-append, put-same, put-long}
 use Rattle.writing.specs.Put.{Put}
-use Rattle.page.proofs.put_rows.Statement.{statement}
-use Rattle.page.proofs.put_rows.Tie as tie
+use Rattle.lines.proofs.put_rows.Statement.{statement}
+use Rattle.lines.proofs.put_rows.Tie as tie
 
 -- the rows of the first k numbers
 abbrev rowsBelow : (listing table : List ℕ) (k : ℕ) → List Row

@@ -4,9 +4,9 @@ use mathlib.Core.Path.{refl}
 use native.Mathlib.Omega.{arith}
 use borrow.Author.Needs.{needs}
 use borrow.Author.Tests.{lt-ltb, le-ltb}
-use Rattle.page.specs.Text.{shown}
-use Rattle.page.proofs.shown.Statement.{statement}
-use Rattle.page.proofs.shown.Tie as tie
+use Rattle.lines.specs.Text.{shown}
+use Rattle.lines.proofs.shown.Statement.{statement}
+use Rattle.lines.proofs.shown.Tie as tie
 
 add-if1 : tie.Need-add-if1
 add-if1 c =

@@ -3,10 +3,10 @@ use mathlib.Core.Bool.{and-false}
 use mathlib.Core.Path.{refl}
 use lib.Dec.{leb}
 use borrow.Author.Tests.{le-leb, lt-leb}
-use Rattle.page.specs.Text.{tilde, printed}
+use Rattle.lines.specs.Text.{tilde, printed}
 use Rattle.writing.specs.Bytes.{space}
-use Rattle.page.proofs.printed.Statement.{statement}
-use Rattle.page.proofs.printed.Tie as tie
+use Rattle.lines.proofs.printed.Statement.{statement}
+use Rattle.lines.proofs.printed.Tie as tie
 
 returns : tie.Need-returns
 unfolding printed

@@ -6,7 +6,7 @@ use native.Mathlib.Omega.{arith}
 use lib.ListN.{length, length-append}
 use Rattle.common.proofs.ListLaws.{length-tabulate}
 use Rattle.common.specs.Lists.{All, tabulate, joined}
-use Rattle.page.specs.Text.{numberWidth, placeWidth, textWidth, lineLength, shown, column, rowText, pageText, RowFits}
+use Rattle.lines.specs.Text.{numberWidth, placeWidth, textWidth, lineLength, shown, column, rowText, pageText, RowFits}
 use Rattle.rows.specs.declared.Row.{Row}
 use Rattle.writing.proofs.NumeralLaws.{numeral-fits, set-right-length}
 use Rattle.writing.specs.Bytes.{space, lineFeed}

@@ -2,11 +2,11 @@
 use native.Mathlib.Omega.{arith}
 use borrow.Author.Needs.{needs}
 use Rattle.common.proofs.ListLaws.{length-tabulate}
-use Rattle.page.proofs.TextLaws.{depth-length, number-length, start-length, end-length}
-use Rattle.page.specs.Text.{rowText, textWidth, shown}
+use Rattle.lines.proofs.TextLaws.{depth-length, number-length, start-length, end-length}
+use Rattle.lines.specs.Text.{rowText, textWidth, shown}
 use Rattle.writing.proofs.PutLaws.{put-append}
-use Rattle.page.proofs.put_row.Statement.{statement}
-use Rattle.page.proofs.put_row.Tie as tie
+use Rattle.lines.proofs.put_row.Statement.{statement}
+use Rattle.lines.proofs.put_row.Tie as tie
 
 put-column-requires : tie.Need-put-column-requires
 put-column-requires c κs =

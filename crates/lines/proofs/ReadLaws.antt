@@ -7,9 +7,9 @@ use lib.ListN.{length, getD, take, drop, length-append, List·getD-append}
 use lib.Seq.{append-snoc, take-append-add, drop-append-add, getD-append-add, take-at, drop-at, getD-at, slice}
 use Rattle.common.proofs.ListLaws.{length-tabulate, getD-tabulate}
 use Rattle.common.specs.Lists.{All, tabulate, joined}
-use Rattle.page.proofs.TextLaws.{depth-length, number-length, start-length, end-length, row-length}
-use Rattle.page.specs.Read.{ReadBack}
-use Rattle.page.specs.Text.{numberWidth, placeWidth, textWidth, lineLength, shown, column, rowText, pageText, RowFits}
+use Rattle.lines.proofs.TextLaws.{depth-length, number-length, start-length, end-length, row-length}
+use Rattle.lines.specs.Read.{ReadBack}
+use Rattle.lines.specs.Text.{numberWidth, placeWidth, textWidth, lineLength, shown, column, rowText, pageText, RowFits}
 use Rattle.rows.specs.declared.Row.{Row}
 use Rattle.writing.proofs.NumeralLaws.{numeral-fits, set-right-length, set-right-value}
 use Rattle.writing.specs.Bytes.{space, lineFeed}

@@ -4,7 +4,7 @@ use mathlib.Core.Path.{_≡_}
 use mathlib.Core.List.{List}
 use lib.ListN.{getD}
 use lib.Seq.{slice}
-use Rattle.page.specs.Text.{textWidth, shown}
+use Rattle.lines.specs.Text.{textWidth, shown}
 use Rattle.rows.specs.declared.Row.{Row}
 use Rattle.writing.specs.Bytes.{space, lineFeed}
 use Rattle.writing.specs.Numeral.{valueOf}

@@ -1,11 +1,11 @@
 -- `put_column` meets its contract.
 use native.Mathlib.Omega.{arith}
 use borrow.Author.Needs.{needs}
-use Rattle.page.proofs.TextLaws.{column-long}
-use Rattle.page.specs.Text.{column}
+use Rattle.lines.proofs.TextLaws.{column-long}
+use Rattle.lines.specs.Text.{column}
 use Rattle.writing.proofs.PutLaws.{put-append}
-use Rattle.page.proofs.put_column.Statement.{statement}
-use Rattle.page.proofs.put_column.Tie as tie
+use Rattle.lines.proofs.put_column.Statement.{statement}
+use Rattle.lines.proofs.put_column.Tie as tie
 
 put-right-requires : tie.Need-put-right-requires
 put-right-requires c κs =

@@ -1,0 +1,3 @@
+-- Laws of the lines.
+pub mod TextLaws
+pub mod ReadLaws
