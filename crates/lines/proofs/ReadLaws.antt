@@ -7,7 +7,7 @@ use lib.ListN.{length, getD, take, drop, length-append, List·getD-append}
 use lib.Seq.{append-snoc, take-append-add, drop-append-add, getD-append-add, take-at, drop-at, getD-at, slice}
 use Rattle.common.proofs.ListLaws.{length-tabulate, getD-tabulate}
 use Rattle.common.specs.Lists.{All, tabulate, joined}
-use Rattle.lines.proofs.TextLaws.{depth-length, number-length, start-length, end-length, row-length}
+use Rattle.lines.proofs.TextLaws.{columns-length, row-length}
 use Rattle.lines.specs.Read.{ReadBack}
 use Rattle.lines.specs.Text.{numberWidth, placeWidth, textWidth, lineLength, shown, column, rowText, pageText, RowFits}
 use Rattle.rows.specs.declared.Row.{Row}
@@ -51,9 +51,9 @@ row-read w r fits =
     let text = tabulate textWidth (shown w (r .start) (r .end)) in
     let rest = text ++ (lineFeed ∷ []) in
     -- where each column begins
-    let two : length (a ++ b) ≡ 10 = omega (arith, length-append a b, depth-length w r fits, number-length w r fits) in
-    let three : length (a ++ b ++ c) ≡ 14 = omega (arith, length-append (a ++ b) c, two, start-length w r fits) in
-    let four : length (a ++ b ++ c ++ d) ≡ 18 = omega (arith, length-append (a ++ b ++ c) d, three, end-length w r fits) in
+    let two : length (a ++ b) ≡ 10 = omega (arith, length-append a b, columns-length w r fits .0, columns-length w r fits .1) in
+    let three : length (a ++ b ++ c) ≡ 14 = omega (arith, length-append (a ++ b) c, two, columns-length w r fits .2) in
+    let four : length (a ++ b ++ c ++ d) ≡ 18 = omega (arith, length-append (a ++ b ++ c) d, three, columns-length w r fits .3) in
     let five : length (a ++ b ++ c ++ d ++ text) ≡ 72 = omega (arith, length-append (a ++ b ++ c ++ d) text, four, length-tabulate textWidth (shown w (r .start) (r .end))) in
     -- the line, cut behind each column
     let cut4 : rowText w r ≡ a ++ b ++ c ++ d ++ rest = append-assoc (a ++ b ++ c ++ d) text (lineFeed ∷ []) in
@@ -62,7 +62,7 @@ row-read w r fits =
     let cut1 : rowText w r ≡ a ++ (b ++ (c ++ (d ++ rest))) = cut2 ∙ append-assoc a b (c ++ (d ++ rest)) in
     -- what each column says
     let depth = column-read [] (b ++ (c ++ (d ++ rest))) 3 (r .depth) 0 (fits .depth) refl in
-    let number = column-read a (c ++ (d ++ rest)) 3 (r .number) 5 (fits .number) (depth-length w r fits) in
+    let number = column-read a (c ++ (d ++ rest)) 3 (r .number) 5 (fits .number) (columns-length w r fits .0) in
     let start = column-read (a ++ b) (d ++ rest) 2 (r .start) 10 (fits .start) two in
     let end = column-read (a ++ b ++ c) rest 2 (r .end) 14 (fits .end) three in
     record {

@@ -25,17 +25,11 @@ column-length k n h = column-long (suc k) n ∙ ap (λ (m : ℕ). m + 1) (set-ri
 -- ---- a line
 
 module _ (w : List ℕ) (r : Row) (fits : RowFits w r) where
-  pub depth-length : length (column numberWidth (r .depth)) ≡ numberWidth + 1
-  depth-length = column-length 3 (r .depth) (fits .depth)
-
-  pub number-length : length (column numberWidth (r .number)) ≡ numberWidth + 1
-  number-length = column-length 3 (r .number) (fits .number)
-
-  pub start-length : length (column placeWidth (r .start)) ≡ placeWidth + 1
-  start-length = column-length 2 (r .start) (fits .start)
-
-  pub end-length : length (column placeWidth (r .end)) ≡ placeWidth + 1
-  end-length = column-length 2 (r .end) (fits .end)
+  -- its four numbers take their columns and the spaces behind them
+  pub columns-length : (length (column numberWidth (r .depth)) ≡ numberWidth + 1) × (length (column numberWidth (r .number)) ≡ numberWidth + 1)
+      × (length (column placeWidth (r .start)) ≡ placeWidth + 1) × (length (column placeWidth (r .end)) ≡ placeWidth + 1)
+  columns-length =
+      (column-length 3 (r .depth) (fits .depth), column-length 3 (r .number) (fits .number), column-length 2 (r .start) (fits .start), column-length 2 (r .end) (fits .end))
 
   pub row-length : length (rowText w r) ≡ lineLength
   unfolding rowText
@@ -52,10 +46,10 @@ module _ (w : List ℕ) (r : Row) (fits : RowFits w r) where
         length-append (depth ++ number ++ start) end,
         length-append (depth ++ number) start,
         length-append depth number,
-        depth-length,
-        number-length,
-        start-length,
-        end-length,
+        columns-length .0,
+        columns-length .1,
+        columns-length .2,
+        columns-length .3,
         length-tabulate textWidth (shown w (r .start) (r .end)),
       )
 

@@ -92,7 +92,7 @@ module _ (b w l : List ℕ) where
   by-grammar (there a (here e)) small = absurd (omega (arith, text-long w e .0))
   by-grammar (there a (there c (here e))) small = absurd (omega (arith, listing-refused l e .0))
 
-  small-number : {n k : ℕ} → FirstIn lines n k → n ≤ 11
+  pub small-number : {n k : ℕ} → FirstIn lines n k → n ≤ 11
   small-number (here e) = omega (arith, checked-number b e)
   small-number (there a (here e)) = omega (arith, text-long w e .0)
   small-number (there a (there c (here e))) = omega (arith, listing-refused l e .0)

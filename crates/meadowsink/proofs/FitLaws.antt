@@ -1,36 +1,32 @@
 -- The number of no answer is too large for 64 bits: each reply fits. Reading a text is in ViewerLaws.antt.
-use Prim.Native.Nat.{ℕ, _%_, _≤_, _<_}
-use mathlib.Core.Path.{_≡_, refl}
-use mathlib.Core.Bool.{_||_}
+use Prim.Native.Nat.{ℕ, _≤_, _<_}
 use mathlib.Core.List.{List, [], _∷_}
+use mathlib.Core.Path.{_≡_, refl}
 use native.Mathlib.Omega.{arith}
-use lib.Dec.{ltb, eqb}
 use lib.ListN.{length, getD}
-use borrow.Author.Tests.{ltb-false}
 use Rattle.ccg.proofs.TextLaws.{tabulate-text-short}
-use Rattle.flatten.specs.Flat.{flatClass, flatLine, flatGrammar, plainClass}
 use Rattle.ccg.specs.Text.{grammarText}
-use Rattle.flatten.specs.Answer.{flatAnswer}
-use Rattle.writing.specs.declared.WriteAnswer.the-variants.{Refused as NotWritten}
 use Rattle.charset.specs.Set.{characters}
-use Rattle.chart.specs.Layout.{textLimit}
-use Rattle.common.proofs.BoolLaws.{or-second-false}
 use Rattle.common.proofs.ListLaws.{length-tabulate}
-use Rattle.grammar.proofs.VerdictLaws.{refuse-accepted, and-second, refuse-case, FirstIn, here, there, order-first}
+use Rattle.engine.specs.Refusals.{tooLong}
+use Rattle.flatten.specs.Answer.{flatAnswer}
+use Rattle.flatten.specs.Flat.{flatClass, flatLine, flatGrammar, plainClass}
+use Rattle.grammar.proofs.VerdictLaws.{and-second, order-first}
 use Rattle.grammar.specs.Formed.{WellFormed}
 use Rattle.grammar.specs.Layout.{productions, startSort, argumentCount}
 use Rattle.grammar.specs.Verdict.{andThen, inOrder, unlessRefused}
 use Rattle.grammar.specs.declared.Verdict.{Verdict}
 use Rattle.grammar.specs.declared.Verdict.the-variants.{Accepted, Refused as Rejected}
-use Rattle.numbers.proofs.NumbersLaws.{numbers-length}
+use Rattle.listing.proofs.BadListingLaws.{listing-good}
+use Rattle.listing.proofs.RefusedLaws.{small-number}
 use Rattle.listing.specs.Answer.{byteLimit, badListing, judged, listingAnswer}
-use Rattle.numbers.specs.Numbers.{numbersOf}
 use Rattle.listing.specs.declared.ListingAnswer.{ListingAnswer}
 use Rattle.listing.specs.declared.ListingAnswer.the-variants.{Right, Wrong, Refused as NotChecked}
+use Rattle.numbers.proofs.NumbersLaws.{numbers-length}
+use Rattle.numbers.specs.Numbers.{numbersOf}
 use Rattle.page.proofs.RightLaws.{right-few}
 use Rattle.page.specs.Answer.{pageLength, pageIf, pageAnswer}
-use Rattle.parse.proofs.NumberLaws.{largestNumber, Numbered, grammar-numbered}
-use Rattle.engine.specs.Refusals.{tooLong}
+use Rattle.parse.proofs.NumberLaws.{Numbered, grammar-numbered}
 use Rattle.priority.proofs.CheckLaws.{accepted-formed}
 use Rattle.priority.specs.Check.{checked}
 use Rattle.priority.specs.Conflict.{conflicts}
@@ -41,6 +37,7 @@ use Rattle.reply.proofs.ReplyLaws.{answered-fits, refused-fits}
 use Rattle.reply.specs.Answers.{checkReply, conflictReply, writeReply, listingReply}
 use Rattle.reply.specs.Reply.{refused, valueLimit, Fits}
 use Rattle.reply.specs.declared.Reply.{Reply}
+use Rattle.writing.specs.declared.WriteAnswer.the-variants.{Refused as NotWritten}
 
 -- An operation that refuses what a verdict refuses: its reply fits if the verdict's numbers are small and its own answer fits.
 unless-fits : {A : Type 0} (reply : A → Reply) (refusing : ℕ → ℕ → A) (v : Verdict) (answer : A) → ((k p : ℕ) → reply (refusing k p) ≡ refused k p) → Numbered v
@@ -91,23 +88,11 @@ module _ (b w l : List ℕ) where
   abbrev refusals : Verdict
   refusals = inOrder lines
 
-  number-small : {k p : ℕ} → FirstIn lines k p → k ≤ largestNumber
-  unfolding tooLong badListing
-  number-small {k} {p} (here e) = grammar-numbered b .small k p e
-  number-small (there a (here e)) = refuse-case (λ k p. k ≤ largestNumber) (ltb textLimit (length w)) 10 (length w) e (λ t. omega arith)
-  number-small (there a (there c (here e))) =
-      refuse-case (λ k p. k ≤ largestNumber) (eqb (length l % 2) 1 || ltb byteLimit (length l)) 11 (length l) e (λ t. omega arith)
-
   refusals-numbered : Numbered refusals
-  refusals-numbered = record { small = λ k p e. number-small (order-first lines e) }
+  refusals-numbered = record { small = λ k p e. omega (arith, small-number b w l (order-first lines e)) }
 
   listing-short : refusals ≡ Accepted → length l ≤ byteLimit
-  unfolding badListing
-  listing-short e =
-      let later = and-second (checked b) (andThen (tooLong w) (badListing l)) e in
-      let odd = eqb (length l % 2) 1 in
-      let many = ltb byteLimit (length l) in
-      ltb-false byteLimit (length l) (or-second-false odd many (refuse-accepted (odd || many) 11 (length l) (and-second (tooLong w) (badListing l) later)))
+  listing-short e = listing-good l (and-second (tooLong w) (badListing l) (and-second (checked b) (andThen (tooLong w) (badListing l)) e)) .1
 
   judged-fits : length l ≤ byteLimit → Fits (listingReply (judged b w l))
   unfolding judged

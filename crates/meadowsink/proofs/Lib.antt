@@ -1,3 +1,4 @@
 -- Laws of the calls.
 pub mod FitLaws
 pub mod ViewerLaws
+pub mod PageLaws

@@ -1,5 +1,5 @@
 -- What was lent determines the page and the part handed back: a listing has one parse.
-use Prim.Native.Nat.{ℕ, _<_}
+use Prim.Native.Nat.{ℕ, _+_, _*_, _<_}
 use mathlib.Core.List.{List}
 use mathlib.Core.Path.{_≡_, refl, sym, _∙_, ap, subst}
 use lib.ListN.{length, getD}
@@ -15,9 +15,10 @@ use Rattle.listing.specs.declared.ListingAnswer.{ListingAnswer}
 use Rattle.listing.specs.declared.ListingAnswer.the-variants.{Right, Wrong, Refused as NotChecked}
 use Rattle.page.proofs.AnswerLaws.{page-fits}
 use Rattle.page.proofs.RightLaws.{right-formed}
-use Rattle.page.specs.Answer.{Listed, pageAnswer, PageAfter, PageOutcome, RowIf, RowUnder, TextUnder}
+use Rattle.page.specs.Answer.{Listed, pageAnswer, PageAfter, PageOutcome, RowIf, RowUnder, TextUnder, PlacesUnder}
 use Rattle.lines.specs.Text.{pageText}
 use Rattle.rows.specs.Rows.{noRow, rows}
+use Rattle.rows.specs.Table.{places}
 use Rattle.rows.specs.declared.Row.{Row}
 use Rattle.theory.specs.Tree.{Tree}
 use Rattle.writing.specs.declared.WriteAnswer.{WriteAnswer}
@@ -65,3 +66,7 @@ module _ (b : List ℕ) (bytes : (k : ℕ) → getD b k 0 < characters) (w l : L
     -- and so its bytes
     pub part-one : (part part′ : List ℕ) → TextUnder b w l index part → TextUnder b w l index part′ → part ≡ part′
     part-one part part′ h k = h .isPart ∙ ap (λ (r : Row). slice (r .start) (r .end) w) (row-one (h .row) (k .row) (h .under) (k .under)) ∙ sym (k .isPart)
+
+    -- and the number that says which part it is
+    pub places-one : (n m : ℕ) → PlacesUnder b w l index n → PlacesUnder b w l index m → n ≡ m
+    places-one n m h k = h .says ∙ ap (λ (r : Row). places * r .start + r .end) (row-one (h .row) (k .row) (h .under) (k .under)) ∙ sym (k .says)

@@ -1,4 +1,4 @@
-// The answer of an operation, in the form in which all calls give it. A module to an operation says what each of its answers is in this form.
+// The answer of an operation, in the form in which all calls give it. A module to each kind of answer says what it is in this form.
 pub mod check;
 pub mod check_listing;
 pub mod conflict;
