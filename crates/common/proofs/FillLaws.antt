@@ -17,6 +17,10 @@ module _ {A : Type 0} (P : ℕ → A → Type 0) (d : A) (l₀ : List A) where
   pub filled-none : Filled P d l₀ 0 l₀
   filled-none = record { long = refl; done = λ k l. absurd (omega arith); rest = λ k l. refl }
 
+  -- a list that is written from place i on
+  pub filled-from : (i : ℕ) → ((k : ℕ) → k < i → P k (getD l₀ k d)) → Filled P d l₀ i l₀
+  filled-from i h = record { long = refl; done = h; rest = λ k l. refl }
+
   pub filled-more : (i : ℕ) (l : List A) (v : A) → i < length l₀ → Filled P d l₀ i l → P i v → Filled P d l₀ (i + 1) (set l i v)
   filled-more i l v h w p =
       record {

@@ -16,7 +16,7 @@ use Rattle.common.proofs.BoolLaws.{and-both, and-first-true, and-second-true, t
 use Rattle.common.proofs.ListLaws.{length-tabulate, getD-tabulate}
 use Rattle.common.specs.Lists.{tabulate}
 use Rattle.flatten.proofs.ConflictFreeLaws.{conflict-free-argument, conflict-free-root, conflict-free-leaf, conflict-free-node}
-use Rattle.flatten.specs.Flat.{isProduction, mayStand, flatClass, flatLine, flatGrammar, plainClass}
+use Rattle.flatten.specs.Flat.{isProduction, mayStand, mayStandIn, flatClass, flatClassIn, flatLine, flatLineIn, flatGrammar, flatGrammarIn, plainClass}
 use Rattle.flatten.specs.Trees.{Built, Arguments, RootConflict, conflictAt, ConflictFree}
 use Rattle.grammar.proofs.ClassesLaws.{sort-no-class, class-character}
 use Rattle.grammar.specs.Classes.{isClass, classHas}
@@ -31,20 +31,20 @@ use Rattle.theory.specs.Tree.{Tree, leaf, node, Forest, none, _▷_, production
 -- ---- lines
 
 pub flat-length : (b : List ℕ) → length (flatGrammar b) ≡ productions b
-unfolding flatGrammar
+unfolding flatGrammarIn
 flat-length b = length-tabulate (productions b) (flatLine b)
 
 module _ (b : List ℕ) (p : ℕ) (l : p < productions b) where
   pub flat-line : getD (flatGrammar b) p noLine ≡ flatLine b p
-  unfolding flatGrammar
+  unfolding flatGrammarIn
   flat-line = getD-tabulate (productions b) (flatLine b) p noLine l
 
   pub flat-result : getD (flatGrammar b) p noLine .result ≡ productionNumber p
-  unfolding flatLine
+  unfolding flatLineIn
   flat-result = ap (λ (k : Line). k .result) flat-line
 
   pub flat-arguments : getD (flatGrammar b) p noLine .arguments ≡ tabulate (argumentCount b p) (flatClass b p)
-  unfolding flatLine
+  unfolding flatLineIn
   flat-arguments = ap (λ (k : Line). k .arguments) flat-line
 
   -- a tree for each argument of the line
@@ -102,17 +102,17 @@ module _ (b : List ℕ) (x n : ℕ) where
 
 module _ (b : List ℕ) (p i n : ℕ) where
   pub flat-of-class : isClass b (argument b p i) ≡ true → flatClass b p i n ≡ classHas b (argument b p i - classBase) n
-  unfolding flatClass
+  unfolding flatClassIn
   flat-of-class e = rw e refl
 
   pub flat-of-sort : isClass b (argument b p i) ≡ false → flatClass b p i n ≡ (isProduction b n && mayStand b p i (n - productionNumber 0))
-  unfolding flatClass
+  unfolding flatClassIn
   flat-of-sort e = rw e refl
 
 module _ (b : List ℕ) (w : WellFormed b) where
   -- the class of an argument has only what may stand there if conflicts are let through
   pub flat-plain : (p i n : ℕ) → flatClass b p i n ≡ true → plainClass b (argument b p i) n ≡ true
-  unfolding mayStand
+  unfolding mayStandIn
   flat-plain p i n e =
       let x = argument b p i in
       let q = n - productionNumber 0 in
@@ -127,7 +127,7 @@ module _ (b : List ℕ) (w : WellFormed b) where
 
   -- a production with the right result that doesn't conflict is in the argument's class
   pub flat-production : (p i q : ℕ) → q < productions b → result b q ≡ argument b p i → conflicts b p i q ≡ false → flatClass b p i (productionNumber q) ≡ true
-  unfolding mayStand
+  unfolding mayStandIn
   flat-production p i q l e free =
       let fit : fits b p i q ≡ true = fits-result b w p i q l ∙ eq-eqb (argument b p i) (result b q) (sym e) in
       flat-of-sort b p i (productionNumber q) (sort-no-class b w (argument b p i) (omega (arith, w .resultNamed q l)))
@@ -150,7 +150,7 @@ module _ (b : List ℕ) (w : WellFormed b) where
         (true-or-false (isClass b x))
 
     pub flat-no-conflict : (p i q : ℕ) → flatClass b p i (productionNumber q) ≡ true → Conflict b p i q → ⊥
-    unfolding mayStand
+    unfolding mayStandIn
     flat-no-conflict p i q e h =
         let n = productionNumber q in
         let c = number-no-class (argument b p i) q (λ c. sym (flat-of-class b p i n c) ∙ e) in

@@ -3,6 +3,7 @@ pub mod ConflictFreeLaws
 pub mod FlatLaws
 pub mod FlatClassLaws
 pub mod VisserLaws
+pub mod AlikeLaws
 pub mod TableLaws
 pub mod TestsLaws
 pub mod BookLaws

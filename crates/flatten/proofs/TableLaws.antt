@@ -17,7 +17,7 @@ use Rattle.charset.specs.Set.{bit, has, wordBits, characters}
 use Rattle.flatten.specs.Tables.{BarringSets, resultWords, resultHas, ByResult, FlatTables, BarringRows, countBytes, ArgumentWritten, RootWritten, WrittenBelow}
 use Rattle.grammar.specs.Limits.{sortLimit, productionLimit, argumentLimit, classBase, headerLength}
 use Rattle.tables.specs.Layout.{productionWords, slot, rootSlot, arityIn}
-use Rattle.flatten.specs.Flat.{mayStand}
+use Rattle.flatten.specs.Flat.{mayStand, mayStandIn}
 use Rattle.common.proofs.BoolLaws.{eqb-sym, taken-out}
 use Rattle.grammar.proofs.FormedLaws.{bodies-in}
 use Rattle.grammar.specs.Classes.{isClass, classHas}
@@ -26,8 +26,8 @@ use Rattle.grammar.specs.Layout.{productions, startSort, argumentCount, result,
 use Rattle.priority.proofs.ConflictLaws.{fits-result}
 use Rattle.priority.proofs.PriorityLaws.{table-higher}
 use Rattle.priority.specs.Chain.{entry}
-use Rattle.priority.specs.Conflict.{fits, isFirst, isLast, rightOrNonassoc, leftOrNonassoc, barred, conflicts}
-use Rattle.priority.specs.Priorities.{left, right, nonassoc, kindNumber, DeclaredPairs, Higher}
+use Rattle.priority.specs.Conflict.{fits, isFirst, isLast, rightOrNonassoc, leftOrNonassoc, barred, conflicts, conflictsIn}
+use Rattle.priority.specs.Priorities.{left, right, nonassoc, kindNumber, DeclaredPairs, Higher, declarationsOf}
 use Rattle.tables.proofs.LayoutLaws.{slot-in}
 use Rattle.tables.proofs.PutLaws.{put-counts, put-tables, char-stays, production-stays, counts-stay}
 use Rattle.tables.specs.Put.{CountsPut, ClassPut}
@@ -35,7 +35,7 @@ use Rattle.tables.specs.Put.{CountsPut, ClassPut}
 -- ---- what is barred at an argument
 
 pub barred-set : (b : List ℕ) (p i count : ℕ) (above firsts lasts : List ℕ) → BarringSets b p above firsts lasts → count ≡ argumentCount b p → (q : ℕ) → q < productionLimit
-    → (has above q || (eqb i 0 && leb 2 count) && has firsts q || (eqb (i + 1) count && leb 2 count) && has lasts q) ≡ barred b p i q
+    → (has above q || (eqb i 0 && leb 2 count) && has firsts q || (eqb (i + 1) count && leb 2 count) && has lasts q) ≡ barred b (declarationsOf b) p i q
 unfolding barred isFirst isLast
 barred-set b p i count above firsts lasts r e q l = rw (r .higherSet q l, r .firstSet q l, r .lastSet q l, e) refl
 
@@ -159,12 +159,12 @@ module _ (b : List ℕ) (w : WellFormed b) (sets : List ℕ) (rs : ByResult b (p
       (λ m. sym (rw (le-ltb q (productions b) (omega arith)) refl))))
 
   module _ (p i : ℕ) (lp : p < productions b) (li : i < argumentCount b p) where
-    may-stand : q < productions b → mayStand b p i q ≡ (eqb (result b q) (argument b p i) && not (barred b p i q))
-    unfolding mayStand conflicts
-    may-stand l = rw (taken-out (fits b p i q) (barred b p i q), fits-result b w p i q l, eqb-sym (argument b p i) (result b q)) refl
+    may-stand : q < productions b → mayStand b p i q ≡ (eqb (result b q) (argument b p i) && not (barred b (declarationsOf b) p i q))
+    unfolding mayStandIn conflictsIn
+    may-stand l = rw (taken-out (fits b p i q) (barred b (declarationsOf b) p i q), fits-result b w p i q l, eqb-sym (argument b p i) (result b q)) refl
 
     -- at an argument those may stand that the grammar lets stand
-    pub stands-at-argument : (x : ℕ) → x ≡ argument b p i → (resultHas sets x q && not (barred b p i q)) ≡ (ltb q (productions b) && mayStand b p i q)
+    pub stands-at-argument : (x : ℕ) → x ≡ argument b p i → (resultHas sets x q && not (barred b (declarationsOf b) p i q)) ≡ (ltb q (productions b) && mayStand b p i q)
     stands-at-argument x e =
         rw (has-result x)
         (by-cases (decLt q (productions b))

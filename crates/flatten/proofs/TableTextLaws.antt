@@ -16,7 +16,7 @@ use Rattle.charset.specs.Set.{characters}
 use Rattle.common.proofs.BoolLaws.{and-first-true, true-or-false}
 use Rattle.common.proofs.ListLaws.{tabulate-same}
 use Rattle.flatten.proofs.FlatLaws.{flat-of-class, flat-of-sort}
-use Rattle.flatten.specs.Flat.{isProduction, mayStand, flatClass, flatLine, flatGrammar, plainClass}
+use Rattle.flatten.specs.Flat.{isProduction, mayStand, mayStandIn, flatClass, flatLine, flatLineIn, flatGrammar, flatGrammarIn, plainClass}
 use Rattle.flatten.specs.Tables.{FlatTables}
 use Rattle.grammar.proofs.ClassesLaws.{sort-no-class, class-character}
 use Rattle.grammar.specs.Classes.{isClass, classHas}
@@ -58,7 +58,7 @@ module _ (b : List ℕ) (w : WellFormed b) (bytes : (k : ℕ) → getD b k 0 < c
 
   -- nothing may stand at an argument that is a class
   class-may-not : (q : ℕ) → isClass b (argument b p i) ≡ true → mayStand b p i q ≡ false
-  unfolding isClass mayStand fits isSort
+  unfolding isClass mayStandIn fits isSort
   class-may-not q e =
       let x = argument b p i in
       let above = leb-true classBase x (and-first-true (leb classBase x) (ltb x (classBase + classes b)) e) in
@@ -123,7 +123,7 @@ module _ (b : List ℕ) (w : WellFormed b) (bytes : (k : ℕ) → getD b k 0 < c
 
 module _ (b t : List ℕ) (w : WellFormed b) (bytes : (k : ℕ) → getD b k 0 < characters) (f : FlatTables b t) where
   table-line : (p : ℕ) → p < productions b → tableLine t p ≡ flatLine b p
-  unfolding tableLine flatLine
+  unfolding tableLine flatLineIn
   table-line p l =
       rw (
         f .countsAre p l,
@@ -132,5 +132,5 @@ module _ (b t : List ℕ) (w : WellFormed b) (bytes : (k : ℕ) → getD b k 0 <
 
   -- the tables of a grammar hold its character class grammar
   pub table-grammar : tableGrammar t ≡ flatGrammar b
-  unfolding tableGrammar flatGrammar
+  unfolding tableGrammar flatGrammarIn
   table-grammar = rw (f .countIs) (tabulate-same (productions b) (tableLine t) (flatLine b) table-line)

@@ -12,7 +12,7 @@ use borrow.Author.Tests.{eqb-true, not-true, eq-eqb}
 use Rattle.flatten.proofs.ConflictFreeLaws.{conflict-free-argument, conflict-free-root, conflict-free-leaf, conflict-free-node}
 use Rattle.flatten.proofs.FlatLaws.{arguments-size}
 use Rattle.theory.proofs.TreeLaws.{at-last, at-none, at-more}
-use Rattle.flatten.specs.Flat.{mayStand}
+use Rattle.flatten.specs.Flat.{mayStand, mayStandIn}
 use Rattle.flatten.specs.Trees.{Built, Arguments, RootConflict, conflictAt, ConflictFree}
 use Rattle.charset.specs.Set.{characters}
 use Rattle.common.proofs.BoolLaws.{and-both, and-first-true, and-second-true, true-or-false, not-both}
@@ -61,19 +61,19 @@ module _ (b : List ℕ) (p : ℕ) (f : Forest) where
 module _ (b : List ℕ) (formed : WellFormed b) (p d q : ℕ) where
   -- it has the right result
   may-result : q < productions b → mayStand b p d q ≡ true → result b q ≡ argument b p d
-  unfolding mayStand
+  unfolding mayStandIn
   may-result l e =
       sym (eqb-true (argument b p d) (result b q) (sym (fits-result b formed p d q l) ∙ and-first-true (fits b p d q) (not (conflicts b p d q)) e))
 
   -- it is in no conflict
   may-apart : mayStand b p d q ≡ true → Conflict b p d q → ⊥
-  unfolding mayStand
+  unfolding mayStandIn
   may-apart e h =
       not-both (conflicts b p d q) (conflict-test b formed p d q .1 h) (not-true (conflicts b p d q) (and-second-true (fits b p d q) (not (conflicts b p d q)) e))
 
   -- and nothing else is asked
   apart-may : q < productions b → result b q ≡ argument b p d → (Conflict b p d q → ⊥) → mayStand b p d q ≡ true
-  unfolding mayStand
+  unfolding mayStandIn
   apart-may l e apart =
       let fit : fits b p d q ≡ true = fits-result b formed p d q l ∙ eq-eqb (argument b p d) (result b q) (sym e) in
       let free : conflicts b p d q ≡ false = ⊎-elim (λ h. absurd (apart (conflict-test b formed p d q .0 h))) (λ h. h) (true-or-false (conflicts b p d q)) in

@@ -12,7 +12,7 @@ use borrow.Author.Tests.{eqb-true, lt-ltb, le-ltb, le-leb, lt-leb, eq-eqb, ne-eq
 use Rattle.flatten.proofs.FlatLaws.{is-production, production-there, production-is, flat-of-class, flat-of-sort, flat-no-conflict}
 use Rattle.theory.proofs.TreeLaws.{production-of-number}
 use Rattle.ccg.specs.Ccg.{Class, Line, noLine, noClass}
-use Rattle.flatten.specs.Flat.{isProduction, mayStand, flatClass, flatLine, flatGrammar}
+use Rattle.flatten.specs.Flat.{isProduction, mayStand, mayStandIn, flatClass, flatLine, flatLineIn, flatGrammar, flatGrammarIn}
 use Rattle.charset.specs.Set.{characters}
 use Rattle.common.proofs.BoolLaws.{and-first-true, and-second-true, true-or-false, eqb-sym, taken-out}
 use Rattle.common.proofs.ListLaws.{getD-tabulate, tabulate-same}
@@ -24,8 +24,8 @@ use Rattle.grammar.specs.Layout.{productions, argumentCount, result, argument}
 use Rattle.grammar.specs.Limits.{classBase}
 use Rattle.priority.proofs.ConflictLaws.{fits-result}
 use Rattle.priority.proofs.PriorityLaws.{higher-chain}
-use Rattle.priority.specs.Conflict.{isFirst, isLast, rightOrNonassoc, leftOrNonassoc, anywhere, barred, conflicts}
-use Rattle.priority.specs.Priorities.{left, right, nonassoc, declared, isHigher}
+use Rattle.priority.specs.Conflict.{isFirst, isLast, rightOrNonassoc, leftOrNonassoc, anywhere, barred, conflicts, conflictsIn}
+use Rattle.priority.specs.Priorities.{left, right, nonassoc, declared, isHigher, declarationsOf}
 use Rattle.theory.specs.Tree.{productionNumber}
 use Rattle.flatten.specs.Visser.{
   nums,
@@ -55,7 +55,7 @@ kept false c h = refl
 
 module _ (b : List ℕ) (p i n : ℕ) where
   -- the numbers of the productions barred at the first place are L
-  barred-left : 2 ≤ argumentCount b p → i ≡ 0 → (isProduction b n && barred b p i (n - productionNumber 0)) ≡ inL b p n
+  barred-left : 2 ≤ argumentCount b p → i ≡ 0 → (isProduction b n && barred b (declarationsOf b) p i (n - productionNumber 0)) ≡ inL b p n
   unfolding barred isFirst isLast rightOrNonassoc leftOrNonassoc inL
   barred-left two e =
       let q = n - productionNumber 0 in
@@ -63,7 +63,7 @@ module _ (b : List ℕ) (p i n : ℕ) where
       (ap (λ (v : Bool). isProduction b n && v) (or-false (isHigher b p q || (declared b right p q || declared b nonassoc p q))))
 
   -- at the last place R
-  barred-right : 2 ≤ argumentCount b p → (i ≡ 0 → ⊥) → i + 1 ≡ argumentCount b p → (isProduction b n && barred b p i (n - productionNumber 0)) ≡ inR b p n
+  barred-right : 2 ≤ argumentCount b p → (i ≡ 0 → ⊥) → i + 1 ≡ argumentCount b p → (isProduction b n && barred b (declarationsOf b) p i (n - productionNumber 0)) ≡ inR b p n
   unfolding barred isFirst isLast rightOrNonassoc leftOrNonassoc inR
   barred-right two e h =
       let q = n - productionNumber 0 in
@@ -71,14 +71,14 @@ module _ (b : List ℕ) (p i n : ℕ) where
       (ap (λ (v : Bool). isProduction b n && (v || (declared b left p q || declared b nonassoc p q))) (or-false (isHigher b p q)))
 
   -- between them M
-  barred-middle : (i ≡ 0 → ⊥) → (i + 1 ≡ argumentCount b p → ⊥) → (isProduction b n && barred b p i (n - productionNumber 0)) ≡ inM b p n
+  barred-middle : (i ≡ 0 → ⊥) → (i + 1 ≡ argumentCount b p → ⊥) → (isProduction b n && barred b (declarationsOf b) p i (n - productionNumber 0)) ≡ inM b p n
   unfolding barred isFirst isLast inM
   barred-middle e h =
       let top = isHigher b p (n - productionNumber 0) in
       rw (ne-eqb i 0 e, ne-eqb (i + 1) (argumentCount b p) h) (ap (λ (v : Bool). isProduction b n && v) (or-false (top || false) ∙ or-false top))
 
   -- and so at the one place of one
-  barred-one : argumentCount b p ≡ 1 → (isProduction b n && barred b p i (n - productionNumber 0)) ≡ inM b p n
+  barred-one : argumentCount b p ≡ 1 → (isProduction b n && barred b (declarationsOf b) p i (n - productionNumber 0)) ≡ inM b p n
   unfolding barred isFirst isLast inM
   barred-one one =
       let top = isHigher b p (n - productionNumber 0) in
@@ -105,24 +105,24 @@ module _ (b : List ℕ) (w : WellFormed b) (bytes : (k : ℕ) → getD b k 0 < c
 
   -- the class of a sort argument is nums without what is barred
   flat-barred : (n : ℕ) → isClass b (argument b p i) ≡ false
-      → flatClass b p i n ≡ (nums b (argument b p i) n && not (isProduction b n && barred b p i (n - productionNumber 0)))
-  unfolding mayStand conflicts nums
+      → flatClass b p i n ≡ (nums b (argument b p i) n && not (isProduction b n && barred b (declarationsOf b) p i (n - productionNumber 0)))
+  unfolding mayStandIn conflictsIn nums
   flat-barred n c =
       let x = argument b p i in
       let q = n - productionNumber 0 in
       flat-of-sort b p i n c
       ∙ ⊎-elim
-      (λ (e : isProduction b n ≡ true). rw (e, fits-result b w p i q (production-there b n e), eqb-sym x (result b q)) (taken-out (eqb (result b q) x) (barred b p i q)))
+      (λ (e : isProduction b n ≡ true). rw (e, fits-result b w p i q (production-there b n e), eqb-sym x (result b q)) (taken-out (eqb (result b q) x) (barred b (declarationsOf b) p i q)))
       (λ (e : isProduction b n ≡ false). rw e refl)
       (true-or-false (isProduction b n))
 
   -- the flat class is the class of Algorithm 3.7 without the set of what is barred
-  flat-without : (dd : Class) → ((n : ℕ) → (isProduction b n && barred b p i (n - productionNumber 0)) ≡ dd n) → flatClass b p i ≡ without (contextFreeClass b p i) dd
+  flat-without : (dd : Class) → ((n : ℕ) → (isProduction b n && barred b (declarationsOf b) p i (n - productionNumber 0)) ≡ dd n) → flatClass b p i ≡ without (contextFreeClass b p i) dd
   unfolding without
   flat-without dd h =
       fun-ext (λ n.
       let is = isProduction b n in
-      let bars = barred b p i (n - productionNumber 0) in
+      let bars = barred b (declarationsOf b) p i (n - productionNumber 0) in
       let has = classHas b (argument b p i - classBase) n in
       ⊎-elim
       (λ c. flat-of-class b p i n c ∙ sym (rw (free-of-class b p i n c) (kept has (dd n) (λ e out. class-apart n e (and-first-true is bars (h n ∙ out))))))
@@ -234,12 +234,12 @@ module _ (b : List ℕ) (f g : ℕ → ℕ → Class) where
 
 -- The character class grammar is the algorithm's, with M taken out of the class of one argument too.
 pub flat-completed : (b : List ℕ) → WellFormed b → ((k : ℕ) → getD b k 0 < characters) → flatGrammar b ≡ completedGrammar b
-unfolding flatGrammar flatLine completedGrammar completedLine
+unfolding flatGrammarIn flatLineIn completedGrammar completedLine
 flat-completed b w bytes = same-lines b (flatClass b) (completedClass b) (λ p i l. flat-class b w bytes p i)
 
 -- It is the algorithm's own just where no production of one argument is higher than one that fits it.
 pub flat-visser : (b : List ℕ) → WellFormed b → ((k : ℕ) → getD b k 0 < characters) → (flatGrammar b ≡ visserGrammar b) ↔ (SingleHigher b → ⊥)
-unfolding flatGrammar flatLine visserGrammar visserLine completedGrammar completedLine
+unfolding flatGrammarIn flatLineIn visserGrammar visserLine completedGrammar completedLine
 flat-visser b w bytes = (
   λ e s. let same = same-classes b (flatClass b) (filteredClass b) e (s .p) 0 (s .pThere) (omega (arith, s .single)) in
       flat-no-conflict b w bytes (s .p) 0 (s .q) (ap (λ (cc : Class). cc (productionNumber (s .q))) same ∙ single-there b w s) (anywhere (s .fitting) (s .above)),

@@ -11,7 +11,7 @@ use Rattle.grammar.specs.Classes.{isClass, classHas}
 use Rattle.grammar.specs.Layout.{productions, startSort, argumentCount, result, argument}
 use Rattle.grammar.specs.Limits.{productionLimit, classBase, headerLength, sortLimit}
 use Rattle.priority.specs.Conflict.{rightOrNonassoc, leftOrNonassoc}
-use Rattle.priority.specs.Priorities.{isHigher}
+use Rattle.priority.specs.Priorities.{declarationsOf, isHigher}
 use Rattle.tables.specs.Layout.{productionWords, slot, rootSlot, countsOf, arityIn, takesChar, takesProduction, ParserTables}
 use Rattle.tables.specs.Put.{CountsPut}
 
@@ -32,14 +32,14 @@ pub record FlatTables (b t : List ℕ) : Type 0 where
 -- What code knows of production p's row of the priorities.
 pub record BarringRows (b : List ℕ) (p : ℕ) (above firsts lasts : List Bool) : Type 0 where
   pub higherRow : (q : ℕ) → getD above q false ≡ isHigher b p q
-  pub firstRow : (q : ℕ) → getD firsts q false ≡ rightOrNonassoc b p q
-  pub lastRow : (q : ℕ) → getD lasts q false ≡ leftOrNonassoc b p q
+  pub firstRow : (q : ℕ) → getD firsts q false ≡ rightOrNonassoc (declarationsOf b) p q
+  pub lastRow : (q : ℕ) → getD lasts q false ≡ leftOrNonassoc (declarationsOf b) p q
 
 -- The same as sets of productions.
 pub record BarringSets (b : List ℕ) (p : ℕ) (above firsts lasts : List ℕ) : Type 0 where
   pub higherSet : (q : ℕ) → q < productionLimit → has above q ≡ isHigher b p q
-  pub firstSet : (q : ℕ) → q < productionLimit → has firsts q ≡ rightOrNonassoc b p q
-  pub lastSet : (q : ℕ) → q < productionLimit → has lasts q ≡ leftOrNonassoc b p q
+  pub firstSet : (q : ℕ) → q < productionLimit → has firsts q ≡ rightOrNonassoc (declarationsOf b) p q
+  pub lastSet : (q : ℕ) → q < productionLimit → has lasts q ≡ leftOrNonassoc (declarationsOf b) p q
 
 -- Words that hold a set of productions for each sort.
 abbrev pub resultWords : ℕ

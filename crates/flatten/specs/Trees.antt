@@ -6,7 +6,8 @@ use mathlib.Core.List.{List}
 use Rattle.grammar.specs.Classes.{isClass, classHas}
 use Rattle.grammar.specs.Layout.{productions, argumentCount, result, argument}
 use Rattle.grammar.specs.Limits.{classBase}
-use Rattle.priority.specs.Conflict.{Conflict}
+use Rattle.priority.specs.Conflict.{ConflictIn, Conflict}
+use Rattle.priority.specs.Priorities.{Declaration, declarationsOf}
 use Rattle.theory.specs.Tree.{Tree, leaf, node, Forest, none, _▷_, At, Subtree}
 
 -- A tree is built at an argument byte x: a character of the class that x is, or a production with result x whose arguments are built in turn.
@@ -23,19 +24,26 @@ unfoldable mutual
   Arguments b p (f ▷ t) zero = ⊥
   Arguments b p (f ▷ t) (suc d) = Arguments b p f d × Built b (argument b p d) t
 
--- The root of the tree matches a conflict pattern: one of its arguments is a production that conflicts there.
-pub data RootConflict (b : List ℕ) : Tree → Type 0 where
-  conflictAt : {p i q : ℕ} {f g : Forest} → At i f (node q g) → Conflict b p i q → RootConflict b (node p f)
+-- By a list of declarations, the root of the tree matches a conflict pattern: one of its arguments is a production that conflicts there.
+pub data RootConflictIn (b : List ℕ) (ls : List Declaration) : Tree → Type 0 where
+  conflictAt : {p i q : ℕ} {f g : Forest} → At i f (node q g) → ConflictIn b ls p i q → RootConflictIn b ls (node p f)
 
 -- A subtree has a root conflict.
-pub record HasConflict (b : List ℕ) (t : Tree) : Type 0 where
+pub record HasConflictIn (b : List ℕ) (ls : List Declaration) (t : Tree) : Type 0 where
   pub subtree : Tree
   pub isSubtree : Subtree subtree t
-  pub root : RootConflict b subtree
+  pub root : RootConflictIn b ls subtree
 
 -- 01's trees without a clash.
+abbrev pub ConflictFreeIn : List ℕ → List Declaration → Tree → Type 0
+ConflictFreeIn b ls t = HasConflictIn b ls t → ⊥
+
+-- The same by the grammar's own declarations.
+abbrev pub RootConflict : List ℕ → Tree → Type 0
+RootConflict b = RootConflictIn b (declarationsOf b)
+
 abbrev pub ConflictFree : List ℕ → Tree → Type 0
-ConflictFree b t = HasConflict b t → ⊥
+ConflictFree b = ConflictFreeIn b (declarationsOf b)
 
 -- Tree t doesn't conflict as argument i of production p.
 abbrev pub Apart : List ℕ → ℕ → ℕ → Tree → Type 0

@@ -1,7 +1,7 @@
 -- In a frame that stands, each part lies within the bytes.
 use Prim.Native.Nat.{ℕ, _+_, _*_, _≤_, _<_}
 use mathlib.Core.Path.{_≡_, refl, _∙_}
-use mathlib.Core.Bool.{false, true}
+use mathlib.Core.Bool.{false, true, _&&_}
 use mathlib.Core.List.{List, [], _∷_}
 use native.Mathlib.Omega.{arith}
 use lib.Dec.{leb, ltb, eqb}
@@ -11,7 +11,7 @@ use Rattle.common.proofs.BelowLaws.{any-never}
 use Rattle.common.proofs.BoolLaws.{or-first-false, or-second-false}
 use Rattle.grammar.proofs.LayoutLaws.{production-first, class-first, declaration-first, production-within, production-after, class-within, class-after-productions, declaration-within, declaration-after-classes, needed-is-end}
 use Rattle.grammar.proofs.VerdictLaws.{refuse-accepted, and-first, and-second, first-all}
-use Rattle.grammar.specs.Check.{outside, shortHeader, headerLines, headerBytes, badHeader, shortContents, badArgumentCount, badRangeCount, badLength, namesArgument, badArgument, badArguments, badProduction, badRange, badClass, declarationLines, declarationBytes, badDeclaration, sameProduction, repeatedProduction, frameLines, frameCheck, bodiesLines, bodiesCheck}
+use Rattle.grammar.specs.Check.{outside, shortHeader, headerLines, headerBytes, badHeader, shortContents, badArgumentCount, badRangeCount, badLength, namesArgument, badArgument, badArguments, badProduction, badRange, badClass, isGroup, declarationLines, declarationBytes, badDeclaration, sameProduction, repeatedProduction, frameLines, frameCheck, bodiesLines, bodiesCheck}
 use Rattle.grammar.specs.Formed.{Framed, WellFormed}
 use Rattle.grammar.specs.Layout.{byteAt, sorts, productions, classes, declarations, startSort, argumentCount, rangeCount, bodiesAt, productionAt, result, argument, classAt, low, high, declarationAt, kind, first, second, neededLength}
 use Rattle.grammar.specs.Limits.{sortLimit, productionLimit, classLimit, argumentLimit, rangeLimit, kindLimit, headerLength}
@@ -125,6 +125,9 @@ module _ (b : List ℕ) (d : ℕ) (e : badDeclaration b d ≡ Accepted) where
   pub second-there : second b d < productions b
   second-there = leb-false (productions b) (second b d) (refuse-accepted _ 7 _ (parts .1 .1 .0))
 
+  pub group-rises : isGroup (kind b d) ≡ true → first b d ≤ second b d
+  group-rises g = ltb-false (second b d) (first b d) (rw g at (refuse-accepted (isGroup (kind b d) && ltb (second b d) (first b d)) 7 (declarationAt b d + 1) (parts .1 .1 .1 .0)))
+
 pub well-formed : (b : List ℕ) → frameCheck b ≡ Accepted → bodiesCheck b ≡ Accepted → WellFormed b
 unfolding bodiesCheck repeatedProduction
 well-formed b e f =
@@ -140,5 +143,6 @@ well-formed b e f =
       fewKinds = λ d l. inside-high 1 kindLimit (kind b d) (kind-inside b d (declaration d l));
       firstThere = λ d l. first-there b d (declaration d l);
       secondThere = λ d l. second-there b d (declaration d l);
+      groupsRise = λ d l. group-rises b d (declaration d l);
       different = λ p q l m. any-never (sameProduction b p) p (refuse-accepted _ 8 _ (first-all (repeatedProduction b) (productions b) (a .1 .1 .1 .0) p l)) q m;
     }

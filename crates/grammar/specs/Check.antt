@@ -7,7 +7,7 @@ use lib.ListN.{length}
 use Rattle.common.specs.Below.{allBelow, anyBelow}
 use Rattle.grammar.specs.Classes.{isClass}
 use Rattle.grammar.specs.Layout.{byteAt, sorts, productions, classes, declarations, startSort, argumentCountAt, rangeCountAt, argumentCount, rangeCount, bodiesAt, productionAt, argumentAt, result, argument, rangeAt, low, high, declarationAt, kind, first, second, neededLength}
-use Rattle.grammar.specs.Limits.{sortLimit, productionLimit, classLimit, argumentLimit, rangeLimit, kindLimit, headerLength}
+use Rattle.grammar.specs.Limits.{sortLimit, productionLimit, classLimit, argumentLimit, rangeLimit, kindLimit, pairKindLimit, headerLength}
 use Rattle.grammar.specs.Verdict.{refuseIf, andThen, firstRefusal, inOrder}
 use Rattle.grammar.specs.declared.Verdict.{Verdict}
 
@@ -83,12 +83,17 @@ badClass b k = firstRefusal (rangeCount b k) (badRange b k)
 abbrev pub badClasses : List ℕ → Verdict
 badClasses b = firstRefusal (classes b) (badClass b)
 
--- 7: a kind that is not 1 to 4, or a production that isn't there; the place is that byte
+-- a declaration of this kind is of a whole group: the productions from the first that it names to the second (02, [2])
+unfoldable pub isGroup : ℕ → Bool
+isGroup kind = ltb pairKindLimit kind && leb kind kindLimit
+
+-- 7: a kind that is not 1 to 7, or a production that isn't there, the place is that byte; or a group whose first is above its second, the place is the first's byte
 abbrev pub declarationLines : ℕ → ℕ → ℕ → ℕ → ℕ → List Verdict
 declarationLines at productions kind first second =
     refuseIf (outside 1 kindLimit kind) 7 at
     ∷ refuseIf (leb productions first) 7 (at + 1)
     ∷ refuseIf (leb productions second) 7 (at + 2)
+    ∷ refuseIf (isGroup kind && ltb second first) 7 (at + 1)
     ∷ []
 
 unfoldable pub declarationBytes : ℕ → ℕ → ℕ → ℕ → ℕ → Verdict

@@ -4,7 +4,7 @@ use mathlib.Core.Path.{_≡_}
 use mathlib.Core.Bool.{false, true}
 use mathlib.Core.List.{List}
 use lib.ListN.{length}
-use Rattle.grammar.specs.Check.{namesArgument, sameProduction}
+use Rattle.grammar.specs.Check.{namesArgument, isGroup, sameProduction}
 use Rattle.grammar.specs.Layout.{byteAt, sorts, productions, classes, declarations, startSort, argumentCount, rangeCount, result, argument, low, high, kind, first, second, neededLength}
 use Rattle.grammar.specs.Limits.{sortLimit, productionLimit, classLimit, argumentLimit, rangeLimit, kindLimit, headerLength}
 
@@ -32,4 +32,5 @@ pub record WellFormed (b : List ℕ) : Type 0 where
   pub fewKinds : (d : ℕ) → d < declarations b → kind b d ≤ kindLimit
   pub firstThere : (d : ℕ) → d < declarations b → first b d < productions b
   pub secondThere : (d : ℕ) → d < declarations b → second b d < productions b
+  pub groupsRise : (d : ℕ) → d < declarations b → isGroup (kind b d) ≡ true → first b d ≤ second b d
   pub different : (p q : ℕ) → p < productions b → q < p → sameProduction b p q ≡ false

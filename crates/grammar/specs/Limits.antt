@@ -23,7 +23,15 @@ rangeLimit = 16
 
 -- the kinds of declaration are 1, 2, … up to this
 abbrev pub kindLimit : ℕ
-kindLimit = 4
+kindLimit = 7
+
+-- those up to this are of two productions, those above it of a whole group (02, [2])
+abbrev pub pairKindLimit : ℕ
+pairKindLimit = 4
+
+-- how far a kind of groups stands above the kind of two productions that says the same
+abbrev pub groupStep : ℕ
+groupStep = 3
 
 -- the argument byte of class 0
 abbrev pub classBase : ℕ

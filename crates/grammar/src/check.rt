@@ -16,16 +16,18 @@ use crate::limits::CLASS_BASE;
 use crate::limits::CLASS_LIMIT;
 use crate::limits::HEADER_LENGTH;
 use crate::limits::KIND_LIMIT;
+use crate::limits::PAIR_KIND_LIMIT;
 use crate::limits::PRODUCTION_LIMIT;
 use crate::limits::RANGE_LIMIT;
 use crate::limits::SORT_LIMIT;
+use common::both;
 ghost use mathlib.Core.Path.{_≡_};
 ghost use Prim.Native.Nat.{_+_, _<_, _≤_};
 ghost use lib.ListN.{length, getD};
 ghost use Rattle.common.specs.Below.{anyBelow, allBelow};
 ghost use Rattle.grammar.specs.Limits.{headerLength};
 ghost use Rattle.grammar.specs.Layout.{sorts, productions, classes, declarations, bodiesAt, productionAt, classAt, declarationAt};
-ghost use Rattle.grammar.specs.Check.{badHeader, headerBytes, badArgumentCounts, badRangeCounts, badLength, frameCheck, badProductions, badProduction, badArguments, namesArgument, badClasses, badClass, badDeclarations, badDeclaration, declarationBytes, repeatedProductions, sameProduction, sameArgument, bodiesCheck};
+ghost use Rattle.grammar.specs.Check.{badHeader, headerBytes, badArgumentCounts, badRangeCounts, badLength, frameCheck, badProductions, badProduction, badArguments, namesArgument, badClasses, badClass, badDeclarations, badDeclaration, isGroup, declarationBytes, repeatedProductions, sameProduction, sameArgument, bodiesCheck};
 ghost use Rattle.grammar.specs.Formed.{Framed};
 
 // Refusals 1 to 4.
@@ -267,7 +269,7 @@ fn check_class(book: &[u8], k: usize, at: usize) -> Verdict
     Verdict::Accepted
 }
 
-// 7: a kind or a production that isn't there.
+// 7: a kind or a production that isn't there, or a group whose first production is above its second.
 fn check_declarations(book: &[u8]) -> Verdict
     requires { ⌜ Framed (now book) ⌝ }
     ensures { λ r. ⌜ r ≡ badDeclarations (now (book .entry)) ⌝ }
@@ -302,6 +304,13 @@ fn check_declaration(book: &[u8], d: usize, at: usize) -> Verdict
     )
 }
 
+// Whether a declaration of this kind is of a whole group: the productions from the first that it names to the second.
+pub fn is_group(kind: usize) -> bool
+    ensures { λ r. ⌜ r ≡ isGroup kind ⌝ }
+{
+    both(PAIR_KIND_LIMIT < kind, kind <= KIND_LIMIT)
+}
+
 fn check_declaration_bytes(
     at: usize,
     productions: usize,
@@ -323,6 +332,9 @@ fn check_declaration_bytes(
     }
     if productions <= second {
         return Verdict::Refused(7, at + 2);
+    }
+    if both(is_group(kind), second < first) {
+        return Verdict::Refused(7, at + 1);
     }
     Verdict::Accepted
 }

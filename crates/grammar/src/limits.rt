@@ -11,7 +11,11 @@ pub const ARGUMENT_LIMIT: usize = 8;
 // Most ranges of a character class.
 pub const RANGE_LIMIT: usize = 16;
 // The kinds of declaration are 1, 2, … up to this.
-pub const KIND_LIMIT: usize = 4;
+pub const KIND_LIMIT: usize = 7;
+// Those up to this are of two productions, those above it of a whole group (02, [2]).
+pub const PAIR_KIND_LIMIT: usize = 4;
+// How far a kind of groups stands above the kind of two productions that says the same.
+pub const GROUP_STEP: usize = 3;
 // The argument byte of class 0.
 pub const CLASS_BASE: usize = 64;
 // The bytes before the contents.

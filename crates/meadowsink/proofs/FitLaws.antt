@@ -10,7 +10,7 @@ use Rattle.charset.specs.Set.{characters}
 use Rattle.common.proofs.ListLaws.{length-tabulate}
 use Rattle.engine.specs.Refusals.{tooLong}
 use Rattle.flatten.specs.Answer.{flatAnswer}
-use Rattle.flatten.specs.Flat.{flatClass, flatLine, flatGrammar, plainClass}
+use Rattle.flatten.specs.Flat.{flatClass, flatLine, flatLineIn, flatGrammar, flatGrammarIn, plainClass}
 use Rattle.grammar.proofs.VerdictLaws.{and-second, order-first}
 use Rattle.grammar.specs.Formed.{WellFormed}
 use Rattle.grammar.specs.Layout.{productions, startSort, argumentCount}
@@ -65,7 +65,7 @@ conflict-fits b p i q =
 -- ---- writing a character class grammar
 
 flat-text-short : (b : List ℕ) → WellFormed b → length (grammarText (flatGrammar b)) < valueLimit
-unfolding flatGrammar flatLine
+unfolding flatGrammarIn flatLineIn
 flat-text-short b formed =
     let short =
     tabulate-text-short (productions b) (flatLine b) (formed .framed .fewProductions)

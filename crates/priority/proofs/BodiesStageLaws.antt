@@ -1,23 +1,23 @@
 -- The stage of refusals 5, 6 and 7: the first bad byte of the bodies.
 use Prim.Native.Nat.{ℕ, _+_, _*_, _≤_, _<_}
 use mathlib.Core.Path.{_≡_, sym, ap, subst}
-use mathlib.Core.Bool.{false, true, not}
+use mathlib.Core.Bool.{false, true, not, _&&_}
 use mathlib.Core.List.{List}
 use mathlib.Core.Logic.{⊎-elim}
 use native.Mathlib.Omega.{arith}
 use lib.Dec.{leb, ltb}
 use borrow.Author.Tests.{ltb-true, ltb-false, leb-true, leb-false, not-true, not-false}
-use Rattle.common.proofs.BoolLaws.{not-both}
-use Rattle.grammar.proofs.FormedLaws.{result-named, argument-named, range-rises, kind-inside, first-there, second-there}
+use Rattle.common.proofs.BoolLaws.{and-first-true, and-second-true, not-both}
+use Rattle.grammar.proofs.FormedLaws.{result-named, argument-named, range-rises, kind-inside, first-there, second-there, group-rises}
 use Rattle.grammar.proofs.LayoutLaws.{production-before, production-within, class-before, class-within, class-after-productions, declaration-before, declaration-after-classes}
 use Rattle.grammar.proofs.VerdictLaws.{refuse-accepted, first-all, refuse-case, and-refused, and-first, and-second, FirstIn, here, there, order-first, first-of}
-use Rattle.grammar.specs.Check.{outside, namesArgument, badArgument, badArguments, badProduction, badProductions, badRange, badClass, badClasses, declarationLines, declarationBytes, badDeclaration, badDeclarations}
+use Rattle.grammar.specs.Check.{outside, namesArgument, badArgument, badArguments, badProduction, badProductions, badRange, badClass, badClasses, isGroup, declarationLines, declarationBytes, badDeclaration, badDeclarations}
 use Rattle.grammar.specs.Layout.{sorts, productions, classes, declarations, argumentCount, rangeCount, productionAt, argumentAt, result, argument, rangeAt, low, high, classAt, declarationAt, kind, first, second}
 use Rattle.grammar.specs.Limits.{kindLimit}
 use Rattle.grammar.specs.Verdict.{refuseIf, andThen}
 use Rattle.grammar.specs.declared.Verdict.the-variants.{Refused, Accepted}
 use Rattle.priority.proofs.StageLaws.{in-order, stage, Line, Given}
-use Rattle.priority.specs.Refusals.{NamesNothing, noResult, noArgument, FallingRange, falling, BadDeclarationByte, badKind, badFirst, badSecond, refusal5, refusal6, refusal7}
+use Rattle.priority.specs.Refusals.{NamesNothing, noResult, noArgument, FallingRange, falling, BadDeclarationByte, badKind, badFirst, badSecond, badGroup, refusal5, refusal6, refusal7}
 
 module _ (b : List ℕ) where
   -- ---- 5, 6 and 7: where their bytes stand
@@ -33,6 +33,7 @@ module _ (b : List ℕ) where
   declaration-in (badKind d l t) = declaration-after-classes b d
   declaration-in (badFirst d l t) = omega (arith, declaration-after-classes b d)
   declaration-in (badSecond d l t) = omega (arith, declaration-after-classes b d)
+  declaration-in (badGroup d l g t) = omega (arith, declaration-after-classes b d)
 
   -- classes end where declarations begin
   pub classes-in : classAt b 0 ≤ declarationAt b 0
@@ -142,7 +143,7 @@ module _ (b : List ℕ) where
 
       -- no byte below k of a declaration is bad, if k stands in declaration d, those before d pass, and the bytes of d before k do
       declarations-lower : (d k : ℕ) → ((q : ℕ) → q < d → badDeclaration b q ≡ Accepted) → k < declarationAt b d + 3 → (declarationAt b d < k → outside 1 kindLimit (kind b d) ≡ false)
-          → (declarationAt b d + 1 < k → first b d < productions b) → (j : ℕ) → j < k → BadDeclarationByte b j → ⊥
+          → (declarationAt b d + 1 < k → (first b d < productions b) × (first b d ≤ second b d)) → (j : ℕ) → j < k → BadDeclarationByte b j → ⊥
       declarations-lower d k pass within own own′ j h (badKind q l t) =
           ⊎-elim
           (λ o. not-both (outside 1 kindLimit (kind b q)) t (kind-inside b q (pass q o)))
@@ -153,12 +154,19 @@ module _ (b : List ℕ) where
       declarations-lower d k pass within own own′ j h (badFirst q l t) =
           ⊎-elim
           (λ o. omega (arith, first-there b q (pass q o)))
-          (⊎-elim (λ o. omega (arith, ap (first b) o, own′ (omega (arith, ap (declarationAt b) o)))) (λ o. omega (arith, declaration-before b d q o)))
+          (⊎-elim (λ o. omega (arith, ap (first b) o, own′ (omega (arith, ap (declarationAt b) o)) .0)) (λ o. omega (arith, declaration-before b d q o)))
           (in-order q d)
       declarations-lower d k pass within own own′ j h (badSecond q l t) =
           ⊎-elim
           (λ o. omega (arith, second-there b q (pass q o)))
           (⊎-elim (λ o. omega (arith, ap (declarationAt b) o)) (λ o. omega (arith, declaration-before b d q o)))
+          (in-order q d)
+      declarations-lower d k pass within own own′ j h (badGroup q l g t) =
+          ⊎-elim
+          (λ o. omega (arith, group-rises b q (pass q o) g))
+          (⊎-elim
+          (λ o. omega (arith, ap (first b) o, ap (second b) o, own′ (omega (arith, ap (declarationAt b) o)) .1))
+          (λ o. omega (arith, declaration-before b d q o)))
           (in-order q d)
 
       lower7 : (k : ℕ) → ((j : ℕ) → j < k → BadDeclarationByte b j → ⊥) → (m j : ℕ) → j < k → Line b 5 m j → ⊥
@@ -179,7 +187,13 @@ module _ (b : List ℕ) where
           refuse-case (Given b 5) (leb (productions b) (second b d)) 7 (declarationAt b d + 2) e
           (λ t. (
             refusal7 (badSecond d l (leb-true (productions b) (second b d) t)),
-            lower7 (declarationAt b d + 2) (declarations-lower d (declarationAt b d + 2) pass (omega arith) (λ h. refuse-accepted _ 7 (declarationAt b d) a) (λ h. leb-false (productions b) (first b d) (refuse-accepted _ 7 (declarationAt b d + 1) c))),
+            lower7 (declarationAt b d + 2) (declarations-lower d (declarationAt b d + 2) pass (omega arith) (λ h. refuse-accepted _ 7 (declarationAt b d) a) (λ h. let f = leb-false (productions b) (first b d) (refuse-accepted _ 7 (declarationAt b d + 1) c) in (f, omega (arith, leb-true (productions b) (second b d) t)))),
+          ))
+      by-declaration d l pass (there a (there c (there s (here e)))) =
+          refuse-case (Given b 5) (isGroup (kind b d) && ltb (second b d) (first b d)) 7 (declarationAt b d + 1) e
+          (λ t. (
+            refusal7 (badGroup d l (and-first-true (isGroup (kind b d)) (ltb (second b d) (first b d)) t) (ltb-true (second b d) (first b d) (and-second-true (isGroup (kind b d)) (ltb (second b d) (first b d)) t))),
+            lower7 (declarationAt b d + 1) (declarations-lower d (declarationAt b d + 1) pass (omega arith) (λ h. refuse-accepted _ 7 (declarationAt b d) a) (λ h. absurd (omega arith))),
           ))
 
       bad-declaration : {n k : ℕ} → badDeclarations b ≡ Refused n k → Given b 5 n k
@@ -193,6 +207,7 @@ module _ (b : List ℕ) where
   declarations-none pass (badKind q l t) = not-both (outside 1 kindLimit (kind b q)) t (kind-inside b q (pass q l))
   declarations-none pass (badFirst q l t) = omega (arith, first-there b q (pass q l))
   declarations-none pass (badSecond q l t) = omega (arith, second-there b q (pass q l))
+  declarations-none pass (badGroup q l g t) = omega (arith, group-rises b q (pass q l) g)
 
   pub given5 : {n k : ℕ} → stage b 5 ≡ Refused n k → Given b 5 n k
   given5 e =

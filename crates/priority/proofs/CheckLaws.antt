@@ -12,7 +12,7 @@ use Rattle.grammar.specs.Verdict.{andThen}
 use Rattle.grammar.specs.declared.Verdict.{Verdict}
 use Rattle.grammar.specs.declared.Verdict.the-variants.{Refused, Accepted}
 use Rattle.priority.specs.Check.{circle, circles, checked}
-use Rattle.priority.specs.Priorities.{isHigher}
+use Rattle.priority.specs.Priorities.{declarationsOf, isHigher}
 
 pub checked-parts : (b : List ℕ) → checked b ≡ andThen (frameCheck b) (andThen (bodiesCheck b) (circles b))
 unfolding checked frameCheck bodiesCheck
@@ -45,4 +45,4 @@ module _ (b : List ℕ) (e : checked b ≡ Accepted) where
   pub accepted-acyclic : (p : ℕ) → p < productions b → isHigher b p p ≡ false
   unfolding circle
   accepted-acyclic p l =
-      refuse-accepted (isHigher b p p) 9 p (first-all (circle b) (productions b) (and-second (bodiesCheck b) (circles b) rest) p l)
+      refuse-accepted (isHigher b p p) 9 p (first-all (circle (productions b) (declarationsOf b)) (productions b) (and-second (bodiesCheck b) (circles b) rest) p l)

@@ -12,8 +12,8 @@ use Rattle.common.proofs.BoolLaws.{or-cases, and-first-true, and-second-true}
 use Rattle.grammar.specs.Formed.{WellFormed}
 use Rattle.grammar.specs.Layout.{sorts, productions, argumentCount, result, argument}
 use Rattle.priority.proofs.PriorityLaws.{higher-chain}
-use Rattle.priority.specs.Conflict.{isSort, fits, isFirst, isLast, rightOrNonassoc, leftOrNonassoc, Conflict, anywhere, atFirst, atLast, barred, conflicts}
-use Rattle.priority.specs.Priorities.{isHigher}
+use Rattle.priority.specs.Conflict.{isSort, fits, isFirst, isLast, rightOrNonassoc, leftOrNonassoc, Conflict, anywhere, atFirst, atLast, barred, conflictsIn, conflicts}
+use Rattle.priority.specs.Priorities.{declarationsOf, isHigher}
 
 -- ---- the test, line by line
 
@@ -27,32 +27,32 @@ fits-result b w p i q l =
 
 module _ (b : List ℕ) (p i q : ℕ) where
   pub not-fitting : fits b p i q ≡ false → conflicts b p i q ≡ false
-  unfolding conflicts
+  unfolding conflictsIn
   not-fitting e = rw e refl
 
-  pub fitting : fits b p i q ≡ true → conflicts b p i q ≡ barred b p i q
-  unfolding conflicts
+  pub fitting : fits b p i q ≡ true → conflicts b p i q ≡ barred b (declarationsOf b) p i q
+  unfolding conflictsIn
   fitting e = rw e refl
 
-  pub barred-higher : isHigher b p q ≡ true → barred b p i q ≡ true
+  pub barred-higher : isHigher b p q ≡ true → barred b (declarationsOf b) p i q ≡ true
   unfolding barred
   barred-higher e = rw e refl
 
-  pub barred-single : isHigher b p q ≡ false → argumentCount b p < 2 → barred b p i q ≡ false
+  pub barred-single : isHigher b p q ≡ false → argumentCount b p < 2 → barred b (declarationsOf b) p i q ≡ false
   unfolding barred isFirst isLast
   barred-single e l =
       rw (e, lt-leb 2 (argumentCount b p) l, and-false (eqb i 0), and-false (eqb (i + 1) (argumentCount b p))) refl
 
-  pub barred-first : isHigher b p q ≡ false → 2 ≤ argumentCount b p → i ≡ 0 → barred b p i q ≡ rightOrNonassoc b p q
+  pub barred-first : isHigher b p q ≡ false → 2 ≤ argumentCount b p → i ≡ 0 → barred b (declarationsOf b) p i q ≡ rightOrNonassoc (declarationsOf b) p q
   unfolding barred isFirst isLast
   barred-first e l z =
-      rw (e, le-leb 2 (argumentCount b p) l, eq-eqb i 0 z, ne-eqb (i + 1) (argumentCount b p) (λ h. omega arith)) (or-false (rightOrNonassoc b p q))
+      rw (e, le-leb 2 (argumentCount b p) l, eq-eqb i 0 z, ne-eqb (i + 1) (argumentCount b p) (λ h. omega arith)) (or-false (rightOrNonassoc (declarationsOf b) p q))
 
-  pub barred-last : isHigher b p q ≡ false → 2 ≤ argumentCount b p → (i ≡ 0 → ⊥) → i + 1 ≡ argumentCount b p → barred b p i q ≡ leftOrNonassoc b p q
+  pub barred-last : isHigher b p q ≡ false → 2 ≤ argumentCount b p → (i ≡ 0 → ⊥) → i + 1 ≡ argumentCount b p → barred b (declarationsOf b) p i q ≡ leftOrNonassoc (declarationsOf b) p q
   unfolding barred isFirst isLast
   barred-last e l z m = rw (e, le-leb 2 (argumentCount b p) l, ne-eqb i 0 z, eq-eqb (i + 1) (argumentCount b p) m) refl
 
-  pub barred-middle : isHigher b p q ≡ false → (i ≡ 0 → ⊥) → (i + 1 ≡ argumentCount b p → ⊥) → barred b p i q ≡ false
+  pub barred-middle : isHigher b p q ≡ false → (i ≡ 0 → ⊥) → (i + 1 ≡ argumentCount b p → ⊥) → barred b (declarationsOf b) p i q ≡ false
   unfolding barred isFirst isLast
   barred-middle e z m = rw (e, ne-eqb i 0 z, ne-eqb (i + 1) (argumentCount b p) m) refl
 
@@ -60,22 +60,22 @@ module _ (b : List ℕ) (p i q : ℕ) where
 
 module _ (b : List ℕ) (w : WellFormed b) (p i q : ℕ) where
   conflict-found : conflicts b p i q ≡ true → Conflict b p i q
-  unfolding conflicts barred
+  unfolding conflictsIn barred
   conflict-found e =
-      let fit = and-first-true (fits b p i q) (barred b p i q) e in
+      let fit = and-first-true (fits b p i q) (barred b (declarationsOf b) p i q) e in
       ⊎-elim
       (λ a. ⊎-elim
       (λ h. anywhere fit (higher-chain b w p q .0 h))
-      (λ h. atFirst fit (and-first-true (isFirst b p i) (rightOrNonassoc b p q) h) (and-second-true (isFirst b p i) (rightOrNonassoc b p q) h))
-      (or-cases (isHigher b p q) (isFirst b p i && rightOrNonassoc b p q) a))
-      (λ h. atLast fit (and-first-true (isLast b p i) (leftOrNonassoc b p q) h) (and-second-true (isLast b p i) (leftOrNonassoc b p q) h))
-      (or-cases (isHigher b p q || isFirst b p i && rightOrNonassoc b p q) (isLast b p i && leftOrNonassoc b p q) (and-second-true (fits b p i q) (barred b p i q) e))
+      (λ h. atFirst fit (and-first-true (isFirst b p i) (rightOrNonassoc (declarationsOf b) p q) h) (and-second-true (isFirst b p i) (rightOrNonassoc (declarationsOf b) p q) h))
+      (or-cases (isHigher b p q) (isFirst b p i && rightOrNonassoc (declarationsOf b) p q) a))
+      (λ h. atLast fit (and-first-true (isLast b p i) (leftOrNonassoc (declarationsOf b) p q) h) (and-second-true (isLast b p i) (leftOrNonassoc (declarationsOf b) p q) h))
+      (or-cases (isHigher b p q || isFirst b p i && rightOrNonassoc (declarationsOf b) p q) (isLast b p i && leftOrNonassoc (declarationsOf b) p q) (and-second-true (fits b p i q) (barred b (declarationsOf b) p i q) e))
 
   conflict-tested : Conflict b p i q → conflicts b p i q ≡ true
-  unfolding conflicts barred
+  unfolding conflictsIn barred
   conflict-tested (anywhere fit h) = rw (fit, higher-chain b w p q .1 h) refl
-  conflict-tested (atFirst fit f h) = rw (fit, f, h) (ap (λ (z : Bool). z || isLast b p i && leftOrNonassoc b p q) (or-true (isHigher b p q)))
-  conflict-tested (atLast fit f h) = rw (fit, f, h) (or-true (isHigher b p q || isFirst b p i && rightOrNonassoc b p q))
+  conflict-tested (atFirst fit f h) = rw (fit, f, h) (ap (λ (z : Bool). z || isLast b p i && leftOrNonassoc (declarationsOf b) p q) (or-true (isHigher b p q)))
+  conflict-tested (atLast fit f h) = rw (fit, f, h) (or-true (isHigher b p q || isFirst b p i && rightOrNonassoc (declarationsOf b) p q))
 
   pub conflict-test : (conflicts b p i q ≡ true) ↔ Conflict b p i q
   conflict-test = (conflict-found, conflict-tested)

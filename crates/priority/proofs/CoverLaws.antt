@@ -1,20 +1,21 @@
 -- Laws of lists of declarations: what one more covers, in the list and in a table of pairs.
-use Prim.Native.Nat.{ℕ, zero, suc, _+_, _<_}
+use Prim.Native.Nat.{ℕ, zero, suc, _+_, _≤_, _<_}
 use mathlib.Core.Path.{_≡_, refl, sym, _∙_, ap, ap₂}
-use mathlib.Core.Bool.{Bool, false, true, not, _&&_, _||_, false≢true, and-comm, or-self, or-false, or-comm, or-assoc}
+use mathlib.Core.Bool.{Bool, false, true, not, _&&_, _||_, false≢true, and-comm, and-true, and-false, or-self, or-true, or-false, or-comm, or-assoc}
 use mathlib.Core.List.{List, [], _∷_, _++_}
-use mathlib.Core.Logic.{⊎-elim}
+use mathlib.Core.Logic.{⊎-elim, by-cases}
 use native.Mathlib.Omega.{arith}
-use native.Mathlib.Decide.{ℕ-discrete}
-use lib.Dec.{eqb}
+use native.Mathlib.Decide.{ℕ-discrete, decLt}
+use lib.Dec.{leb, eqb}
 use lib.ListN.{getD, set}
-use borrow.Author.Tests.{ne-eqb}
-use Rattle.common.proofs.BoolLaws.{or-cases}
+use borrow.Author.Tests.{le-leb, lt-leb, leb-true, eqb-true, ne-eqb}
+use Rattle.common.proofs.BoolLaws.{or-cases, or-first, or-second, and-both, and-first-true, and-second-true, true-or-false}
 use Rattle.common.proofs.ListLaws.{tabulate-next}
 use Rattle.common.specs.Lists.{tabulate}
+use Rattle.grammar.specs.Check.{isGroup}
 use Rattle.priority.proofs.TableLaws.{square-put, entry-put-or}
 use Rattle.priority.specs.Chain.{entry, Square}
-use Rattle.priority.specs.Priorities.{Kind, higher, left, right, nonassoc, kindNumber, eitherWay, Declaration, namesPair, covers, declaredIn}
+use Rattle.priority.specs.Priorities.{Kind, higher, left, right, nonassoc, kindNumber, saidKind, eitherWay, Declaration, between, namesPair, covers, declaredIn}
 
 -- ---- lists
 
@@ -22,13 +23,13 @@ pub declared-none : (k : Kind) (x y : ℕ) → declaredIn [] k x y ≡ false
 unfolding declaredIn
 declared-none k x y = refl
 
-declared-append : (ls ms : List Declaration) (k : Kind) (x y : ℕ) → declaredIn (ls ++ ms) k x y ≡ (declaredIn ls k x y || declaredIn ms k x y)
+pub declared-append : (ls ms : List Declaration) (k : Kind) (x y : ℕ) → declaredIn (ls ++ ms) k x y ≡ (declaredIn ls k x y || declaredIn ms k x y)
 unfolding declaredIn
 declared-append [] ms k x y = refl
 declared-append (l ∷ ls) ms k x y =
     ap (λ (v : Bool). covers l k x y || v) (declared-append ls ms k x y) ∙ sym (or-assoc (covers l k x y) (declaredIn ls k x y) (declaredIn ms k x y))
 
-declared-one : (l : Declaration) (k : Kind) (x y : ℕ) → declaredIn (l ∷ []) k x y ≡ covers l k x y
+pub declared-one : (l : Declaration) (k : Kind) (x y : ℕ) → declaredIn (l ∷ []) k x y ≡ covers l k x y
 unfolding declaredIn
 declared-one l k x y = or-false (covers l k x y)
 
@@ -47,19 +48,50 @@ declared-found (suc n) f k x y e =
     (λ a. (n, omega arith, sym (declared-one (f n) k x y) ∙ a))
     (or-cases (declaredIn (tabulate n f) k x y) (declaredIn (f n ∷ []) k x y) (sym (declared-append (tabulate n f) (f n ∷ []) k x y) ∙ e))
 
+pub declared-made : (n : ℕ) (f : ℕ → Declaration) (k : Kind) (x y d : ℕ) → d < n → covers (f d) k x y ≡ true → declaredIn (tabulate n f) k x y ≡ true
+unfolding tabulate
+declared-made zero f k x y d l e = absurd (omega arith)
+declared-made (suc n) f k x y d l e =
+    let earlier = declaredIn (tabulate n f) k x y in
+    let last = declaredIn (f n ∷ []) k x y in
+    declared-append (tabulate n f) (f n ∷ []) k x y
+    ∙ by-cases (decLt d n)
+    (λ h. or-first earlier last (declared-made n f k x y d h e))
+    (λ h. let same : d ≡ n = omega arith in or-second earlier last (declared-one (f n) k x y ∙ ap (λ (m : ℕ). covers (f m) k x y) (sym same) ∙ e))
+
 -- a kind that holds either way round covers a pair as it covers the pair turned
 covers-turned : (l : Declaration) (k : Kind) (x y : ℕ) → eitherWay k ≡ true → covers l k x y ≡ covers l k y x
 unfolding covers
-covers-turned l k x y e = rw e (ap (λ (v : Bool). eqb (l .kind) (kindNumber k) && v) (or-comm (namesPair l x y) (namesPair l y x)))
+covers-turned l k x y e =
+    rw e (ap (λ (v : Bool). eqb (saidKind (l .kind)) (kindNumber k) && v) (or-comm (namesPair l x y) (namesPair l y x)))
 
 pub declared-turned : (ls : List Declaration) (k : Kind) (x y : ℕ) → eitherWay k ≡ true → declaredIn ls k x y ≡ declaredIn ls k y x
 unfolding declaredIn
 declared-turned [] k x y e = refl
 declared-turned (l ∷ ls) k x y e = ap₂ _||_ (covers-turned l k x y e) (declared-turned ls k x y e)
 
+-- ---- groups
+
+module _ (first second x : ℕ) where
+  pub between-below : x < first → between first second x ≡ false
+  unfolding between
+  between-below h = rw (lt-leb first x h) refl
+
+  pub between-above : second < x → between first second x ≡ false
+  unfolding between
+  between-above h = rw (lt-leb x second h) (and-false (leb first x))
+
+  pub between-in : first ≤ x → x ≤ second → between first second x ≡ true
+  unfolding between
+  between-in h l = rw (le-leb first x h, le-leb x second l) refl
+
+  pub between-ends : between first second x ≡ true → (first ≤ x) × (x ≤ second)
+  unfolding between
+  between-ends e = (leb-true first x (and-first-true (leb first x) (leb x second) e), leb-true x second (and-second-true (leb first x) (leb x second) e))
+
 -- ---- kinds by their numbers
 
--- of a declaration of kind k: it holds either way round exactly if its number is not that of "higher"
+-- of a declaration that says kind k: it holds either way round exactly if its number is not that of "higher"
 way-number : (n : ℕ) (k : Kind) → (eqb n (kindNumber k) && eitherWay k) ≡ (eqb n (kindNumber k) && not (eqb n (kindNumber higher)))
 unfolding kindNumber eitherWay
 way-number n higher = never (eqb n (kindNumber higher))
@@ -73,10 +105,11 @@ way-number n nonassoc = elim (ℕ-discrete n (kindNumber nonassoc)) [ yes e ↦ 
 
 -- the pair as it is written, and turned round unless the number is that of "higher"
 covers-number : (l : Declaration) (k : Kind) (x y : ℕ)
-    → covers l k x y ≡ (eqb (l .kind) (kindNumber k) && (namesPair l x y || not (eqb (l .kind) (kindNumber higher)) && namesPair l y x))
+    → covers l k x y ≡ (eqb (saidKind (l .kind)) (kindNumber k) && (namesPair l x y || not (eqb (saidKind (l .kind)) (kindNumber higher)) && namesPair l y x))
 unfolding covers
 covers-number l k x y =
-    same (eqb (l .kind) (kindNumber k)) (eitherWay k) (not (eqb (l .kind) (kindNumber higher))) (namesPair l x y) (namesPair l y x) (way-number (l .kind) k)
+    let said = saidKind (l .kind) in
+    same (eqb said (kindNumber k)) (eitherWay k) (not (eqb said (kindNumber higher))) (namesPair l x y) (namesPair l y x) (way-number said k)
   where
     same : (v e g m n : Bool) → (v && e) ≡ (v && g) → (v && (m || e && n)) ≡ (v && (m || g && n))
     same true e g m n h = ap (λ (w : Bool). m || w && n) h
@@ -93,14 +126,49 @@ either-kind false w g m n = spread w g m n
     spread true g m n = refl
     spread false g m n = refl
 
--- what code marks for a declaration is what it covers with the one kind or the other
-marks-covered : (l : Declaration) (k k′ : Kind) (x y : ℕ) (written turned : Bool)
-    → written ≡ (eqb (l .kind) (kindNumber k) || eqb (l .kind) (kindNumber k′))
-    → turned ≡ (written && not (eqb (l .kind) (kindNumber higher)))
+-- what a declaration names, as it is written and turned round, is what it covers with the one kind or the other
+names-covered : (l : Declaration) (k k′ : Kind) (x y : ℕ) (written turned : Bool)
+    → written ≡ (eqb (saidKind (l .kind)) (kindNumber k) || eqb (saidKind (l .kind)) (kindNumber k′))
+    → turned ≡ (written && not (eqb (saidKind (l .kind)) (kindNumber higher)))
     → (written && namesPair l x y || turned && namesPair l y x) ≡ (covers l k x y || covers l k′ x y)
-marks-covered l k k′ x y written turned e f =
+names-covered l k k′ x y written turned e f =
+    let said = saidKind (l .kind) in
     rw (f, e, covers-number l k x y, covers-number l k′ x y)
-    (either-kind (eqb (l .kind) (kindNumber k)) (eqb (l .kind) (kindNumber k′)) (not (eqb (l .kind) (kindNumber higher))) (namesPair l x y) (namesPair l y x))
+    (either-kind (eqb said (kindNumber k)) (eqb said (kindNumber k′)) (not (eqb said (kindNumber higher))) (namesPair l x y) (namesPair l y x))
+
+-- the ends of a group are in it
+ends-between : (first second x y : ℕ) → first ≤ second → (eqb first x && eqb second y) ≡ true → (between first second x && between first second y) ≡ true
+ends-between first second x y h e =
+    let f = eqb-true first x (and-first-true (eqb first x) (eqb second y) e) in
+    let s = eqb-true second y (and-second-true (eqb first x) (eqb second y) e) in
+    and-both (between first second x) (between first second y) (between-in first second x (omega arith) (omega arith)) (between-in first second y (omega arith) (omega arith))
+
+-- so a table with the square of a group, in which its ends are marked too, has what the group names
+square-named : (written way ends back square : Bool) → (ends ≡ true → square ≡ true) → (back ≡ true → square ≡ true)
+    → ((written && ends || (written && way) && back) || written && square) ≡ (written && square || (written && way) && square)
+square-named false way ends back square f g = refl
+square-named true way ends back true f g = or-true (ends || way && back)
+square-named true way true back false f g = absurd (false≢true (f refl))
+square-named true way false true false f g = absurd (false≢true (g refl))
+square-named true way false false false f g = or-false (way && false)
+
+-- what code marks for a declaration, its two productions and the square of its group, is what it names
+marks-named : (l : Declaration) (x y : ℕ) (written turned way : Bool) → (isGroup (l .kind) ≡ true → l .first ≤ l .second) → turned ≡ (written && way)
+    → ((written && (eqb (l .first) x && eqb (l .second) y) || turned && (eqb (l .first) y && eqb (l .second) x))
+      || (written && isGroup (l .kind)) && (between (l .first) (l .second) x && between (l .first) (l .second) y))
+    ≡ (written && namesPair l x y || turned && namesPair l y x)
+unfolding namesPair
+marks-named l x y written turned way rises e =
+    let f = l .first in
+    let s = l .second in
+    ⊎-elim
+    (λ (g : isGroup (l .kind) ≡ true). rw (e, g) (rw (and-true written)
+    (square-named written way (eqb f x && eqb s y) (eqb f y && eqb s x) (between f s x && between f s y)
+    (ends-between f s x y (rises g))
+    (λ h. and-comm (between f s x) (between f s y) ∙ ends-between f s y x (rises g) h)
+    ∙ ap (λ (v : Bool). written && (between f s x && between f s y) || (written && way) && v) (and-comm (between f s x) (between f s y)))))
+    (λ (g : isGroup (l .kind) ≡ false). rw g (rw (and-false written) (or-false (written && (eqb f x && eqb s y) || turned && (eqb f y && eqb s x)))))
+    (true-or-false (isGroup (l .kind)))
 
 -- two lists, each with one test more
 or-swapped : (a b c d : Bool) → ((a || c) || (b || d)) ≡ ((a || b) || (c || d))
@@ -108,30 +176,37 @@ or-swapped true b c d = refl
 or-swapped false b true d = or-comm true b
 or-swapped false b false d = refl
 
-turned-pair : (a v w f₁ s₁ f₂ s₂ : Bool) → ((a || v && (f₁ && s₁)) || w && (s₂ && f₂)) ≡ (a || (v && (f₁ && s₁) || w && (f₂ && s₂)))
-turned-pair a v w f₁ s₁ f₂ s₂ =
-    or-assoc a (v && (f₁ && s₁)) (w && (s₂ && f₂)) ∙ ap (λ (z : Bool). a || (v && (f₁ && s₁) || w && z)) (and-comm s₂ f₂)
+turned-pair : (a v w f₁ s₁ f₂ s₂ g : Bool) → (((a || v && (f₁ && s₁)) || w && (s₂ && f₂)) || g) ≡ (a || ((v && (f₁ && s₁) || w && (f₂ && s₂)) || g))
+turned-pair a v w f₁ s₁ f₂ s₂ g =
+    ap (λ (z : Bool). z || g) (or-assoc a (v && (f₁ && s₁)) (w && (s₂ && f₂)) ∙ ap (λ (z : Bool). a || (v && (f₁ && s₁) || w && z)) (and-comm s₂ f₂))
+    ∙ or-assoc a (v && (f₁ && s₁) || w && (f₂ && s₂)) g
 
-module _ (n d : ℕ) (f : ℕ → Declaration) (t : List (List Bool)) (q : Square n t) (hf : f d .first < n) (hs : f d .second < n) (k k′ : Kind)
+module _ (n d : ℕ) (f : ℕ → Declaration) (t : List (List Bool)) (q : Square n t) (hf : f d .first < n) (hs : f d .second < n)
+    (rises : isGroup (f d .kind) ≡ true → f d .first ≤ f d .second) (k k′ : Kind)
     (now : (x y : ℕ) → entry t x y ≡ (declaredIn (tabulate d f) k x y || declaredIn (tabulate d f) k′ x y))
-    (written turned v w : Bool) (ew : written ≡ (eqb (f d .kind) (kindNumber k) || eqb (f d .kind) (kindNumber k′)))
-    (et : turned ≡ (written && not (eqb (f d .kind) (kindNumber higher)))) where
+    (written turned v w : Bool) (ew : written ≡ (eqb (saidKind (f d .kind)) (kindNumber k) || eqb (saidKind (f d .kind)) (kindNumber k′)))
+    (et : turned ≡ (written && not (eqb (saidKind (f d .kind)) (kindNumber higher)))) where
   abbrev once : List (List Bool)
   once = set t (f d .first) (set (getD t (f d .first) []) (f d .second) v)
 
-  -- the table with the declaration's pair written, and the pair turned round
-  pub pairs-more : v ≡ (entry t (f d .first) (f d .second) || written) → w ≡ (entry once (f d .second) (f d .first) || turned) → (x y : ℕ)
-      → entry (set once (f d .second) (set (getD once (f d .second) []) (f d .first) w)) x y ≡ (declaredIn (tabulate (d + 1) f) k x y || declaredIn (tabulate (d + 1) f) k′ x y)
-  unfolding namesPair
-  pairs-more e₁ e₂ x y =
+  abbrev twice : List (List Bool)
+  twice = set once (f d .second) (set (getD once (f d .second) []) (f d .first) w)
+
+  -- the table with the declaration's pair written, the pair turned round, and the square of a group
+  pub pairs-more : v ≡ (entry t (f d .first) (f d .second) || written) → w ≡ (entry once (f d .second) (f d .first) || turned) → (wider : List (List Bool))
+      → ((x y : ℕ) → entry wider x y ≡ (entry twice x y || (written && isGroup (f d .kind)) && (between (f d .first) (f d .second) x && between (f d .first) (f d .second) y)))
+      → (x y : ℕ) → entry wider x y ≡ (declaredIn (tabulate (d + 1) f) k x y || declaredIn (tabulate (d + 1) f) k′ x y)
+  pairs-more e₁ e₂ wider e₃ x y =
       let l = f d in
       let s = square-put n t (l .first) (l .second) v q hf hs in
       let one = entry-put-or n t (l .first) (l .second) v written q hf hs e₁ x y in
       let two = entry-put-or n once (l .second) (l .first) w turned s hs hf e₂ x y in
       let old = declaredIn (tabulate d f) k x y in
       let old′ = declaredIn (tabulate d f) k′ x y in
-      two ∙ ap (λ (z : Bool). z || turned && (eqb (l .second) x && eqb (l .first) y)) (one ∙ ap (λ (z : Bool). z || written && (eqb (l .first) x && eqb (l .second) y)) (now x y))
-      ∙ turned-pair (old || old′) written turned (eqb (l .first) x) (eqb (l .second) y) (eqb (l .first) y) (eqb (l .second) x)
-      ∙ ap (λ (z : Bool). (old || old′) || z) (marks-covered l k k′ x y written turned ew et)
+      let square = (written && isGroup (l .kind)) && (between (l .first) (l .second) x && between (l .first) (l .second) y) in
+      e₃ x y
+      ∙ ap (λ (z : Bool). z || square) (two ∙ ap (λ (z : Bool). z || turned && (eqb (l .second) x && eqb (l .first) y)) (one ∙ ap (λ (z : Bool). z || written && (eqb (l .first) x && eqb (l .second) y)) (now x y)))
+      ∙ turned-pair (old || old′) written turned (eqb (l .first) x) (eqb (l .second) y) (eqb (l .first) y) (eqb (l .second) x) square
+      ∙ ap (λ (z : Bool). (old || old′) || z) (marks-named l x y written turned (not (eqb (saidKind (l .kind)) (kindNumber higher))) rises et ∙ names-covered l k k′ x y written turned ew et)
       ∙ or-swapped old (covers l k x y) old′ (covers l k′ x y)
       ∙ sym (ap₂ _||_ (declared-next d f k x y) (declared-next d f k′ x y))

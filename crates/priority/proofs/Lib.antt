@@ -5,6 +5,7 @@ pub mod CoverLaws
 pub mod PriorityLaws
 pub mod CheckLaws
 pub mod ConflictLaws
+pub mod SpelledLaws
 pub mod StageLaws
 pub mod BodiesStageLaws
 pub mod RefusalLaws

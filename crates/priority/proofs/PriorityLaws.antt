@@ -8,17 +8,18 @@ use native.Mathlib.Omega.{arith}
 use lib.Dec.{eqb}
 use lib.ListN.{length, getD}
 use borrow.Author.Tests.{eqb-true}
-use Rattle.common.proofs.BoolLaws.{or-cases, and-first-true, and-second-true, same-test}
+use Rattle.common.proofs.BoolLaws.{or-cases, and-first-true, and-second-true, same-test, true-or-false}
 use Rattle.grammar.proofs.FormedLaws.{declaration-in}
+use Rattle.grammar.specs.Check.{isGroup}
 use Rattle.grammar.specs.Formed.{WellFormed}
 use Rattle.grammar.specs.Layout.{productions, declarations, declarationAt, kind, first, second}
 use Rattle.grammar.specs.Limits.{productionLimit}
 use Rattle.grammar.specs.Verdict.{refuseIf}
 use Rattle.priority.proofs.ChainLaws.{through-chain, chain-through}
-use Rattle.priority.proofs.CoverLaws.{declared-found}
+use Rattle.priority.proofs.CoverLaws.{declared-found, between-ends}
 use Rattle.priority.specs.Chain.{link, more, entry}
 use Rattle.priority.specs.Check.{circle, onDiagonal}
-use Rattle.priority.specs.Priorities.{Kind, higher, kindNumber, eitherWay, namesPair, covers, declarationOf, declarationsOf, declared, Higher, isHigher}
+use Rattle.priority.specs.Priorities.{Kind, higher, kindNumber, saidKind, eitherWay, between, namesPair, covers, declarationOf, declarationsOf, declared, Higher, isHigherIn, isHigher}
 
 -- ---- only productions are related
 
@@ -27,9 +28,17 @@ module _ (b : List ℕ) (w : WellFormed b) where
   named-there : (d x y : ℕ) → d < declarations b → namesPair (declarationOf b d) x y ≡ true → (x < productions b) × (y < productions b)
   unfolding namesPair declarationOf
   named-there d x y l e =
-      let one = eqb-true (first b d) x (and-first-true (eqb (first b d) x) (eqb (second b d) y) e) in
-      let other = eqb-true (second b d) y (and-second-true (eqb (first b d) x) (eqb (second b d) y) e) in
-      (omega (arith, one, w .firstThere d l), omega (arith, other, w .secondThere d l))
+      ⊎-elim
+      (λ g. let both = rw g at e in
+      let inside = between (first b d) (second b d) in
+      let one = between-ends (first b d) (second b d) x (and-first-true (inside x) (inside y) both) in
+      let other = between-ends (first b d) (second b d) y (and-second-true (inside x) (inside y) both) in
+      (omega (arith, one, w .secondThere d l), omega (arith, other, w .secondThere d l)))
+      (λ g. let both = rw g at e in
+      let one = eqb-true (first b d) x (and-first-true (eqb (first b d) x) (eqb (second b d) y) both) in
+      let other = eqb-true (second b d) y (and-second-true (eqb (first b d) x) (eqb (second b d) y) both) in
+      (omega (arith, one, w .firstThere d l), omega (arith, other, w .secondThere d l)))
+      (true-or-false (isGroup (kind b d)))
 
   pub declared-there : (k : Kind) (x y : ℕ) → declared b k x y ≡ true → (x < productions b) × (y < productions b)
   unfolding declarationsOf covers
@@ -40,7 +49,7 @@ module _ (b : List ℕ) (w : WellFormed b) where
       ⊎-elim
       (λ a. named-there d x y l a)
       (λ a. let (q, p) = named-there d y x l (and-second-true (eitherWay k) turned a) in (p, q))
-      (or-cases there (eitherWay k && turned) (and-second-true (eqb (declarationOf b d .kind) (kindNumber k)) (there || eitherWay k && turned) h))
+      (or-cases there (eitherWay k && turned) (and-second-true (eqb (saidKind (declarationOf b d .kind)) (kindNumber k)) (there || eitherWay k && turned) h))
 
   pub higher-there : {x y : ℕ} → Higher b x y → (x < productions b) × (y < productions b)
   higher-there (link {x} {y} e) = declared-there higher x y e
@@ -48,7 +57,7 @@ module _ (b : List ℕ) (w : WellFormed b) where
 
 -- The test is the chain.
 pub higher-chain : (b : List ℕ) → WellFormed b → (x y : ℕ) → (isHigher b x y ≡ true) ↔ Higher b x y
-unfolding isHigher
+unfolding isHigherIn
 higher-chain b w x y =
     ((λ e. through-chain (declared b higher) (productions b) x y e), (λ c. chain-through (declared b higher) (productions b) (λ x y e. declared-there b w higher x y e .0) c))
 
@@ -58,7 +67,7 @@ module _ (b : List ℕ) (w : WellFormed b) (t : List (List Bool)) (h : (x y : �
   table-higher x y =
       same-test (entry t x y) (isHigher b x y) (λ e. higher-chain b w x y .1 (h x y .0 e)) (λ e. h x y .1 (higher-chain b w x y .0 e))
 
-  pub diagonal-circle : (p : ℕ) → onDiagonal t p ≡ circle b p
+  pub diagonal-circle : (p : ℕ) → onDiagonal t p ≡ circle (productions b) (declarationsOf b) p
   unfolding onDiagonal circle
   diagonal-circle p = ap (λ (v : Bool). refuseIf v 9 p) (table-higher p p)
 

@@ -21,7 +21,7 @@ use Rattle.priority.proofs.PriorityLaws.{higher-chain}
 use Rattle.priority.proofs.BodiesStageLaws.{names-in, range-in, declaration-in, classes-in, given5, none5}
 use Rattle.priority.proofs.StageLaws.{in-order, stage, checked-stages, Line, line, Given, given1, none1, given1′, none1′, given2, none2, given3, none3, given4, none4}
 use Rattle.priority.specs.Check.{circle, checked}
-use Rattle.priority.specs.Priorities.{isHigher}
+use Rattle.priority.specs.Priorities.{declarationsOf, isHigher}
 use Rattle.priority.specs.Refusals.{EqualsEarlier, OnCircle, Holds, refusal1, refusal1′, refusal2, refusal3, refusal4, refusal5, refusal6, refusal7, refusal8, refusal9, First}
 
 module _ (b : List ℕ) where
@@ -53,20 +53,20 @@ module _ (b : List ℕ) where
   -- ---- 9
 
   module _ (w : WellFormed b) where
-    no-circle : (p : ℕ) → circle b p ≡ Accepted → OnCircle b p → ⊥
+    no-circle : (p : ℕ) → circle (productions b) (declarationsOf b) p ≡ Accepted → OnCircle b p → ⊥
     unfolding circle
     no-circle p e h = not-both (isHigher b p p) (higher-chain b w p p .1 (h .circle)) (refuse-accepted _ 9 p e)
 
     given9 : {n k : ℕ} → stage b 7 ≡ Refused n k → Given b 7 n k
     unfolding circle
     given9 e =
-        let f = first-of (circle b) (productions b) e in
+        let f = first-of (circle (productions b) (declarationsOf b)) (productions b) e in
         let p = f .index in
         refuse-case (Given b 7) (isHigher b p p) 9 p (f .refused)
         (λ t. (refusal9 (record { there = f .below; circle = higher-chain b w p p .0 t }), λ m j h x. no-circle j (f .before j h) (x .1)))
 
     none9 : stage b 7 ≡ Accepted → {n k : ℕ} → Line b 7 n k → ⊥
-    none9 e {n} {k} h = no-circle k (first-all (circle b) (productions b) e k (h .1 .there)) (h .1)
+    none9 e {n} {k} h = no-circle k (first-all (circle (productions b) (declarationsOf b)) (productions b) e k (h .1 .there)) (h .1)
 
   -- ---- all stages
 

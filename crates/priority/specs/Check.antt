@@ -7,18 +7,21 @@ use Rattle.grammar.specs.Layout.{productions}
 use Rattle.grammar.specs.Verdict.{refuseIf, firstRefusal, inOrder}
 use Rattle.grammar.specs.declared.Verdict.{Verdict}
 use Rattle.priority.specs.Chain.{entry}
-use Rattle.priority.specs.Priorities.{isHigher}
+use Rattle.priority.specs.Priorities.{Declaration, isHigherIn, declarationsOf}
 
--- 9: a circle; the place is the lowest production higher than itself
-unfoldable pub circle : List ℕ → ℕ → Verdict
-circle b p = refuseIf (isHigher b p p) 9 p
+-- 9: a circle by a list of declarations; the place is the lowest production higher than itself
+unfoldable pub circle : ℕ → List Declaration → ℕ → Verdict
+circle count ls p = refuseIf (isHigherIn count ls p p) 9 p
 
 -- the same, read off a table of "higher"
 unfoldable pub onDiagonal : List (List Bool) → ℕ → Verdict
 onDiagonal table p = refuseIf (entry table p p) 9 p
 
+abbrev pub circlesIn : List ℕ → List Declaration → Verdict
+circlesIn b ls = firstRefusal (productions b) (circle (productions b) ls)
+
 abbrev pub circles : List ℕ → Verdict
-circles b = firstRefusal (productions b) (circle b)
+circles b = circlesIn b (declarationsOf b)
 
 -- The table of refusals, a line each: 1 (first half), 2, 1 (second half), 3, 4, then 5, 6 and 7 as the bytes come, 8, 9.
 abbrev pub grammarLines : List ℕ → List Verdict

@@ -4,8 +4,8 @@ use mathlib.Core.Bool.{Bool, true, _&&_, _||_}
 use mathlib.Core.List.{List}
 use mathlib.Core.Path.{_≡_}
 use lib.Dec.{leb, ltb, eqb}
-use Rattle.grammar.specs.Layout.{sorts, argumentCount, result, argument}
-use Rattle.priority.specs.Priorities.{left, right, nonassoc, declared, Higher, isHigher}
+use Rattle.grammar.specs.Layout.{sorts, productions, argumentCount, result, argument}
+use Rattle.priority.specs.Priorities.{left, right, nonassoc, Declaration, declaredIn, HigherIn, isHigherIn, declarationsOf}
 
 -- An argument byte that is a sort.
 unfoldable pub isSort : List ℕ → ℕ → Bool
@@ -22,22 +22,30 @@ isFirst b p i = eqb i 0 && leb 2 (argumentCount b p)
 unfoldable pub isLast : List ℕ → ℕ → ℕ → Bool
 isLast b p i = eqb (i + 1) (argumentCount b p) && leb 2 (argumentCount b p)
 
--- The pair is declared right or not together; left or not together.
-unfoldable pub rightOrNonassoc : List ℕ → ℕ → ℕ → Bool
-rightOrNonassoc b x y = declared b right x y || declared b nonassoc x y
+-- ---- by a list of declarations, of any length; a grammar's own are those that its bytes give
 
-unfoldable pub leftOrNonassoc : List ℕ → ℕ → ℕ → Bool
-leftOrNonassoc b x y = declared b left x y || declared b nonassoc x y
+-- The pair is declared right or not together; left or not together.
+unfoldable pub rightOrNonassoc : List Declaration → ℕ → ℕ → Bool
+rightOrNonassoc ls x y = declaredIn ls right x y || declaredIn ls nonassoc x y
+
+unfoldable pub leftOrNonassoc : List Declaration → ℕ → ℕ → Bool
+leftOrNonassoc ls x y = declaredIn ls left x y || declaredIn ls nonassoc x y
 
 -- Production q as argument i of production p matches one of the patterns of Definition 2.6, a constructor to a rule.
-pub data Conflict (b : List ℕ) (p i q : ℕ) : Type 0 where
-  anywhere : fits b p i q ≡ true → Higher b p q → Conflict b p i q
-  atFirst : fits b p i q ≡ true → isFirst b p i ≡ true → rightOrNonassoc b p q ≡ true → Conflict b p i q
-  atLast : fits b p i q ≡ true → isLast b p i ≡ true → leftOrNonassoc b p q ≡ true → Conflict b p i q
+pub data ConflictIn (b : List ℕ) (ls : List Declaration) (p i q : ℕ) : Type 0 where
+  anywhere : fits b p i q ≡ true → HigherIn ls p q → ConflictIn b ls p i q
+  atFirst : fits b p i q ≡ true → isFirst b p i ≡ true → rightOrNonassoc ls p q ≡ true → ConflictIn b ls p i q
+  atLast : fits b p i q ≡ true → isLast b p i ≡ true → leftOrNonassoc ls p q ≡ true → ConflictIn b ls p i q
+
+abbrev pub Conflict : List ℕ → ℕ → ℕ → ℕ → Type 0
+Conflict b = ConflictIn b (declarationsOf b)
 
 -- The executable twin: the three lines of 01, "Ranks and clashes", in order.
-unfoldable pub barred : List ℕ → ℕ → ℕ → ℕ → Bool
-barred b p i q = isHigher b p q || isFirst b p i && rightOrNonassoc b p q || isLast b p i && leftOrNonassoc b p q
+unfoldable pub barred : List ℕ → List Declaration → ℕ → ℕ → ℕ → Bool
+barred b ls p i q = isHigherIn (productions b) ls p q || isFirst b p i && rightOrNonassoc ls p q || isLast b p i && leftOrNonassoc ls p q
 
-unfoldable pub conflicts : List ℕ → ℕ → ℕ → ℕ → Bool
-conflicts b p i q = fits b p i q && barred b p i q
+unfoldable pub conflictsIn : List ℕ → List Declaration → ℕ → ℕ → ℕ → Bool
+conflictsIn b ls p i q = fits b p i q && barred b ls p i q
+
+abbrev pub conflicts : List ℕ → ℕ → ℕ → ℕ → Bool
+conflicts b = conflictsIn b (declarationsOf b)

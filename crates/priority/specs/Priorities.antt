@@ -1,11 +1,13 @@
 -- Priority declarations (000, Definition 2.5; 01's ranks) as a grammar's bytes state them.
-use Prim.Native.Nat.{ℕ, _<_}
-use mathlib.Core.Path.{_≡_}
-use mathlib.Core.Bool.{Bool, false, true, _&&_, _||_}
+use Prim.Native.Nat.{ℕ, _-_, _<_}
+use mathlib.Core.Bool.{Bool, false, true, cond, _&&_, _||_}
 use mathlib.Core.List.{List, [], _∷_}
-use lib.Dec.{eqb}
+use mathlib.Core.Path.{_≡_}
+use lib.Dec.{leb, eqb}
 use Rattle.common.specs.Lists.{tabulate}
+use Rattle.grammar.specs.Check.{isGroup}
 use Rattle.grammar.specs.Layout.{productions, declarations, kind, first, second}
+use Rattle.grammar.specs.Limits.{groupStep}
 use Rattle.priority.specs.Chain.{Chain, through, entry}
 
 -- The four kinds; `nonassoc` is 01's "not together".
@@ -18,6 +20,10 @@ kindNumber higher = 1
 kindNumber left = 2
 kindNumber right = 3
 kindNumber nonassoc = 4
+
+-- The number of the kind that is said: 5, 6 and 7 say of a whole group what 2, 3 and 4 say of two productions (02, [2]).
+unfoldable pub saidKind : ℕ → ℕ
+saidKind n = cond (isGroup n) (n - groupStep) n
 
 -- The kinds that hold either way round.
 unfoldable pub eitherWay : Kind → Bool
@@ -32,13 +38,18 @@ pub record Declaration : Type 0 where
   pub first : ℕ
   pub second : ℕ
 
--- It names x first and y second.
-unfoldable pub namesPair : Declaration → ℕ → ℕ → Bool
-namesPair l x y = eqb (l .first) x && eqb (l .second) y
+-- x is one of first, first + 1, … second
+unfoldable pub between : (first second : ℕ) → ℕ → Bool
+between first second x = leb first x && leb x second
 
--- It covers the pair (x, y) with kind k: its kind is k, and it names the pair so, or the other way round if k holds either way.
+-- It names x first and y second: they are its two productions or, if it is of a group, two that stand from its first to its second (02, [2]).
+unfoldable pub namesPair : Declaration → ℕ → ℕ → Bool
+namesPair l x y =
+    cond (isGroup (l .kind)) (between (l .first) (l .second) x && between (l .first) (l .second) y) (eqb (l .first) x && eqb (l .second) y)
+
+-- It covers the pair (x, y) with kind k: it says kind k, and it names the pair so, or the other way round if k holds either way.
 unfoldable pub covers : Declaration → Kind → ℕ → ℕ → Bool
-covers l k x y = eqb (l .kind) (kindNumber k) && (namesPair l x y || eitherWay k && namesPair l y x)
+covers l k x y = eqb (saidKind (l .kind)) (kindNumber k) && (namesPair l x y || eitherWay k && namesPair l y x)
 
 -- Some declaration of the list covers the pair (x, y) with kind k.
 unfoldable pub declaredIn : List Declaration → Kind → ℕ → ℕ → Bool
@@ -48,6 +59,12 @@ declaredIn (l ∷ ls) k x y = covers l k x y || declaredIn ls k x y
 -- By these declarations x is higher than y: a chain of declared pairs leads from x to y.
 abbrev pub HigherIn : List Declaration → ℕ → ℕ → Type 0
 HigherIn ls = Chain (declaredIn ls higher)
+
+-- The same, as a test, for declarations of the first n productions.
+unfoldable pub isHigherIn : ℕ → List Declaration → ℕ → ℕ → Bool
+isHigherIn n ls x y = through (declaredIn ls higher) n x y
+
+-- ---- the declarations of a grammar
 
 -- Declaration d of a grammar, and all of them.
 unfoldable pub declarationOf : List ℕ → ℕ → Declaration
@@ -65,13 +82,17 @@ abbrev pub DeclaredPairs : List ℕ → ℕ → ℕ → List (List Bool) → Typ
 DeclaredPairs b kind also table =
     (k k′ : Kind) → kind ≡ kindNumber k → also ≡ kindNumber k′ → (x y : ℕ) → entry table x y ≡ (declared b k x y || declared b k′ x y)
 
+-- A table with the pairs of a group.
+abbrev pub WithGroup : (first second : ℕ) → (table wider : List (List Bool)) → Type 0
+WithGroup first second table wider = (x y : ℕ) → entry wider x y ≡ (entry table x y || between first second x && between first second y)
+
 -- x is higher than y.
 abbrev pub Higher : List ℕ → ℕ → ℕ → Type 0
 Higher b = HigherIn (declarationsOf b)
 
 -- The same, as a test.
-unfoldable pub isHigher : List ℕ → ℕ → ℕ → Bool
-isHigher b x y = through (declared b higher) (productions b) x y
+abbrev pub isHigher : List ℕ → ℕ → ℕ → Bool
+isHigher b = isHigherIn (productions b) (declarationsOf b)
 
 -- A priority declaration as 000, Definition 2.5, wants it: four relations between productions, "higher" irreflexive and transitive, the others symmetric.
 pub record PriorityDeclaration (b : List ℕ) : Type 0 where

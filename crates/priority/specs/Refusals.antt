@@ -1,10 +1,10 @@
 -- The table of refusals 1 to 9 as conditions (01, "Refused because of the input"): when a number with a place may be given, and which of several comes first.
 use Prim.Native.Nat.{ℕ, _+_, min, _≤_, _<_}
-use mathlib.Core.Path.{_≡_}
 use mathlib.Core.Bool.{false, true}
 use mathlib.Core.List.{List}
+use mathlib.Core.Path.{_≡_}
 use lib.ListN.{length}
-use Rattle.grammar.specs.Check.{outside, namesArgument, sameProduction}
+use Rattle.grammar.specs.Check.{outside, namesArgument, isGroup, sameProduction}
 use Rattle.grammar.specs.Layout.{byteAt, sorts, productions, classes, declarations, startSort, argumentCountAt, rangeCountAt, argumentCount, rangeCount, bodiesAt, productionAt, argumentAt, result, argument, rangeAt, low, high, declarationAt, kind, first, second, neededLength}
 use Rattle.grammar.specs.Limits.{sortLimit, productionLimit, classLimit, argumentLimit, rangeLimit, kindLimit, headerLength}
 use Rattle.priority.specs.Priorities.{Higher}
@@ -31,11 +31,12 @@ pub data NamesNothing (b : List ℕ) : ℕ → Type 0 where
 pub data FallingRange (b : List ℕ) : ℕ → Type 0 where
   falling : (k r : ℕ) → k < classes b → r < rangeCount b k → high b k r < low b k r → FallingRange b (rangeAt b k r)
 
--- Byte k is a kind that is not 1 to 4, or names a production that isn't there.
+-- Byte k is a kind that is not 1 to 7, or names a production that isn't there, or the first of a group that is above its second.
 pub data BadDeclarationByte (b : List ℕ) : ℕ → Type 0 where
   badKind : (d : ℕ) → d < declarations b → outside 1 kindLimit (kind b d) ≡ true → BadDeclarationByte b (declarationAt b d)
   badFirst : (d : ℕ) → d < declarations b → productions b ≤ first b d → BadDeclarationByte b (declarationAt b d + 1)
   badSecond : (d : ℕ) → d < declarations b → productions b ≤ second b d → BadDeclarationByte b (declarationAt b d + 2)
+  badGroup : (d : ℕ) → d < declarations b → isGroup (kind b d) ≡ true → second b d < first b d → BadDeclarationByte b (declarationAt b d + 1)
 
 -- Production p is equal to an earlier one.
 pub record EqualsEarlier (b : List ℕ) (p : ℕ) : Type 0 where

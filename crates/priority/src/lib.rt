@@ -4,10 +4,12 @@ use common::either;
 use grammar::Verdict;
 use grammar::check::check_bodies;
 use grammar::check::check_frame;
+use grammar::check::is_group;
 use grammar::layout::byte_at;
 use grammar::layout::declaration_at;
 use grammar::layout::declaration_count;
 use grammar::layout::production_count;
+use grammar::limits::GROUP_STEP;
 use grammar::limits::PRODUCTION_LIMIT;
 ghost use mathlib.Core.Path.{_≡_};
 ghost use mathlib.Core.Bool.{true, false, _&&_, _||_};
@@ -19,7 +21,7 @@ ghost use Rattle.grammar.specs.Limits.{productionLimit};
 ghost use Rattle.grammar.specs.Formed.{WellFormed};
 ghost use Rattle.grammar.specs.Verdict.{firstRefusal};
 ghost use Rattle.priority.specs.Chain.{Chain, entry, Square};
-ghost use Rattle.priority.specs.Priorities.{DeclaredPairs, Higher};
+ghost use Rattle.priority.specs.Priorities.{saidKind, between, DeclaredPairs, WithGroup, Higher};
 ghost use Rattle.priority.specs.Check.{checked, onDiagonal};
 
 // 01's numbers of the kinds of declaration.
@@ -69,7 +71,7 @@ fn check_circles(table: [[bool; PRODUCTION_LIMIT]; PRODUCTION_LIMIT], count: usi
     Verdict::Accepted
 }
 
-// The pairs that declarations of kind `kind` or `also` cover: "higher" as it is written, the other kinds both ways round.
+// The pairs that declarations of kind `kind` or `also` cover: "higher" as it is written, the other kinds both ways round, and of a group every two.
 pub fn declared_pairs(
     book: &[u8],
     kind: usize,
@@ -86,14 +88,29 @@ pub fn declared_pairs(
         let own = byte_at(book, at);
         let first = byte_at(book, at + 1);
         let second = byte_at(book, at + 2);
-        let written = either(own == kind, own == also);
-        let turned = both(written, own != HIGHER);
+        let said = said_kind(own);
+        let written = either(said == kind, said == also);
+        let turned = both(written, said != HIGHER);
         table[first][second] = either(table[first][second], written);
         table[second][first] = either(table[second][first], turned);
+        if both(written, is_group(own)) {
+            let wider = with_group(table, first, second);
+            table = wider;
+        }
         at += 3;
         d += 1;
     }
     table
+}
+
+// The kind that is said: a kind of groups says what the one `GROUP_STEP` below it says of two productions.
+fn said_kind(own: usize) -> usize
+    ensures { λ r. ⌜ r ≡ saidKind own ⌝ }
+{
+    if is_group(own) {
+        return own - GROUP_STEP;
+    }
+    own
 }
 
 fn no_pairs() -> [[bool; PRODUCTION_LIMIT]; PRODUCTION_LIMIT]
@@ -101,6 +118,40 @@ fn no_pairs() -> [[bool; PRODUCTION_LIMIT]; PRODUCTION_LIMIT]
     ensures { λ r. ⌜ ((x y : ℕ) → entry r x y ≡ false) ⌝ }
 {
     [[false; PRODUCTION_LIMIT]; PRODUCTION_LIMIT]
+}
+
+// The pairs of a group, from `first` to `second`, with those of the table: a row at a time.
+fn with_group(
+    table: [[bool; PRODUCTION_LIMIT]; PRODUCTION_LIMIT],
+    first: usize,
+    second: usize,
+) -> [[bool; PRODUCTION_LIMIT]; PRODUCTION_LIMIT]
+    requires { ⌜ (second < productionLimit) × Square productionLimit table ⌝ }
+    ensures { λ r. ⌜ Square productionLimit r ⌝ }
+    ensures { λ r. ⌜ WithGroup first second table r ⌝ }
+{
+    let mut wider = table;
+    let group = members(first, second);
+    let mut x = first;
+    while x <= second {
+        wider[x] = merged(wider[x], group);
+        x += 1;
+    }
+    wider
+}
+
+// The row whose true entries are those from `first` to `second`.
+fn members(first: usize, second: usize) -> [bool; PRODUCTION_LIMIT]
+    requires { ⌜ second < productionLimit ⌝ }
+    ensures { λ r. ⌜ ((y : ℕ) → getD r y false ≡ between first second y) ⌝ }
+{
+    let mut row = [false; PRODUCTION_LIMIT];
+    let mut y = first;
+    while y <= second {
+        row[y] = true;
+        y += 1;
+    }
+    row
 }
 
 // The closure of a table whose true entries stand in its first `count` rows: an entry is true exactly if a chain of true entries leads there.

@@ -10,6 +10,7 @@ use Rattle.grammar.specs.Verdict.{firstRefusal}
 use Rattle.priority.proofs.CheckLaws.{checked-frame, checked-bodies, checked-circles}
 use Rattle.priority.proofs.PriorityLaws.{diagonal-circle}
 use Rattle.priority.specs.Check.{circle, onDiagonal}
+use Rattle.priority.specs.Priorities.{declarationsOf}
 use Rattle.priority.proofs.check_grammar.Statement.{statement}
 use Rattle.priority.proofs.check_grammar.Tie as tie
 
@@ -57,7 +58,7 @@ returns-3 c =
     let g = sym (c .before .before .before .before .before .check-bodies .ensures) ∙ c .before .before .before .enum-told3 .given .1 in
     let t = c .before .before .priorities .result in
     c .check-circles .ensures ∙ ap (λ (n : ℕ). firstRefusal n (onDiagonal t)) (c .before .production-count .ensures)
-    ∙ first-same (onDiagonal t) (circle b) (productions b) (λ p l. diagonal-circle b (well-formed b f g) t (c .before .before .priorities .ensures) p)
+    ∙ first-same (onDiagonal t) (circle (productions b) (declarationsOf b)) (productions b) (λ p l. diagonal-circle b (well-formed b f g) t (c .before .before .priorities .ensures) p)
     ∙ sym (checked-circles b f g)
 
 pub check-grammar-spec : {M : Type 1} → statement M

@@ -11,7 +11,7 @@ use Rattle.grammar.specs.Formed.{WellFormed}
 use Rattle.grammar.specs.Layout.{productions, result, argument}
 use Rattle.priority.proofs.ConflictLaws.{fits-result, not-fitting, fitting, barred-higher, barred-single, barred-first, barred-last, barred-middle}
 use Rattle.priority.specs.Conflict.{rightOrNonassoc, leftOrNonassoc, barred, conflicts}
-use Rattle.priority.specs.Priorities.{left, right, nonassoc, kindNumber}
+use Rattle.priority.specs.Priorities.{left, right, nonassoc, kindNumber, declarationsOf}
 use Rattle.question.proofs.is_conflict.Statement.{statement}
 use Rattle.question.proofs.is_conflict.Tie as tie
 
@@ -20,7 +20,7 @@ module _ (b : List ℕ) (w : WellFormed b) (p i q a r : ℕ) (l : q < production
   unfit : (a ≡ r → ⊥) → false ≡ conflicts b p i q
   unfit h = sym (not-fitting b p i q (fits-result b w p i q l ∙ ne-eqb (argument b p i) (result b q) (λ e. h (ea ∙ e ∙ sym er))))
 
-  fit : a ≡ r → conflicts b p i q ≡ barred b p i q
+  fit : a ≡ r → conflicts b p i q ≡ barred b (declarationsOf b) p i q
   fit h = fitting b p i q (fits-result b w p i q l ∙ eq-eqb (argument b p i) (result b q) (sym ea ∙ h ∙ er))
 
 argument-requires : tie.Need-argument-requires

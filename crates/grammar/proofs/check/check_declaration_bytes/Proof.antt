@@ -1,7 +1,11 @@
 -- `check_declaration_bytes` meets its contract: its tests are those of the definition, in the same order.
+use mathlib.Core.Path.{refl}
+use native.Mathlib.Omega.{arith}
 use borrow.Author.Needs.{needs}
+use borrow.Author.Tests.{le-ltb, lt-leb}
 use Rattle.grammar.proofs.VerdictLaws.{cases}
 use Rattle.grammar.specs.Check.{declarationBytes}
+use Rattle.grammar.specs.Limits.{kindLimit}
 use Rattle.grammar.proofs.check.check_declaration_bytes.Statement.{statement}
 use Rattle.grammar.proofs.check.check_declaration_bytes.Tie as tie
 
@@ -27,10 +31,41 @@ returns-4 : tie.Need-returns-4
 unfolding declarationBytes
 returns-4 c = search cases
 
+is-group-requires : tie.Need-is-group-requires
+is-group-requires c κs = tt
+
+both-requires : tie.Need-both-requires
+both-requires c κs = tt
+
+add-t11 : tie.Need-add-t11
+add-t11 c = search needs
+
 returns-5 : tie.Need-returns-5
 unfolding declarationBytes
-returns-5 c = search cases
+returns-5 c =
+    let a = c .before .before .before .before .before .before .before .args in
+    rw (le-ltb (a .kind) 1 (omega arith), le-ltb kindLimit (a .kind) (omega arith), lt-leb (a .productions) (a .first) (omega arith), lt-leb (a .productions) (a .second) (omega arith))
+    (rw (← (c .before .before .is-group .ensures), ← (c .before .both .ensures), c .if5 .taken) refl)
+
+returns-6 : tie.Need-returns-6
+unfolding declarationBytes
+returns-6 c =
+    let a = c .before .before .before .before .before .before .before .args in
+    rw (le-ltb (a .kind) 1 (omega arith), le-ltb kindLimit (a .kind) (omega arith), lt-leb (a .productions) (a .first) (omega arith), lt-leb (a .productions) (a .second) (omega arith))
+    (rw (← (c .before .before .is-group .ensures), ← (c .before .both .ensures), c .if5 .left) refl)
 
 pub check-declaration-bytes-spec : {M : Type 1} → statement M
 check-declaration-bytes-spec =
-    tie.close (tie.spec returns returns-2 add-t7 returns-3 add-t8 returns-4 returns-5)
+    tie.close
+    (tie.spec
+    returns
+    returns-2
+    add-t7
+    returns-3
+    add-t8
+    returns-4
+    is-group-requires
+    both-requires
+    add-t11
+    returns-5
+    returns-6)

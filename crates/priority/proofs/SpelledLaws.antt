@@ -1,0 +1,199 @@
+-- Groups spelled out declare the same pairs (02, [2]); so whatever declarations decide is the same by the spelled-out list, however long that is.
+use Prim.Native.Nat.{ℕ, zero, suc, _+_, _-_, _*_, _≤_, _<_}
+use mathlib.Core.Path.{_≡_, refl, sym, _∙_, ap, ap₂}
+use mathlib.Core.Bool.{Bool, false, true, cond, _&&_, _||_, false≢true, or-true, or-false}
+use mathlib.Core.List.{List, [], _∷_, _++_}
+use mathlib.Core.Logic.{_↔_, _⊎_, inl, inr, ⊎-elim, by-cases}
+use native.Mathlib.Omega.{arith}
+use native.Mathlib.Decide.{decLt}
+use lib.Dec.{leb, ltb, eqb}
+use lib.ListN.{length, length-append}
+use borrow.Author.Tests.{le-ltb, ltb-true, leb-true, eqb-true, eq-eqb}
+use Rattle.common.proofs.BoolLaws.{or-cases, or-first, or-second, and-both, and-first-true, and-second-true, same-test, true-or-false}
+use Rattle.common.proofs.ListLaws.{length-tabulate}
+use Rattle.common.specs.Lists.{tabulate, joined}
+use Rattle.grammar.proofs.VerdictLaws.{first-same}
+use Rattle.grammar.specs.Check.{isGroup}
+use Rattle.grammar.specs.Layout.{productions}
+use Rattle.grammar.specs.Limits.{kindLimit, pairKindLimit}
+use Rattle.priority.proofs.ChainLaws.{chain-map}
+use Rattle.priority.proofs.CoverLaws.{declared-append, declared-one, declared-found, declared-made, declared-none, between-in, between-ends}
+use Rattle.priority.specs.Chain.{through}
+use Rattle.priority.specs.Check.{circle, circlesIn}
+use Rattle.priority.specs.Conflict.{rightOrNonassoc, leftOrNonassoc, ConflictIn, anywhere, atFirst, atLast, barred, conflictsIn}
+use Rattle.priority.specs.Priorities.{Kind, higher, left, right, nonassoc, kindNumber, saidKind, eitherWay, Declaration, between, namesPair, covers, declaredIn, HigherIn, isHigherIn}
+use Rattle.priority.specs.Spelled.{pairsFrom, spelled, spelledOut}
+
+-- ---- kinds of groups
+
+-- a kind of groups says one of the kinds 2, 3 and 4
+module _ (n : ℕ) (g : isGroup n ≡ true) where
+  said-bounds : (2 ≤ saidKind n) × (saidKind n ≤ pairKindLimit)
+  unfolding isGroup saidKind
+  said-bounds =
+      let above = ltb-true pairKindLimit n (and-first-true (ltb pairKindLimit n) (leb n kindLimit) g) in
+      let below = leb-true n kindLimit (and-second-true (ltb pairKindLimit n) (leb n kindLimit) g) in
+      rw g (omega arith, omega arith)
+
+  -- which is no kind of groups
+  said-single : isGroup (saidKind n) ≡ false
+  unfolding isGroup
+  said-single = rw (le-ltb pairKindLimit (saidKind n) (said-bounds .1)) refl
+
+  -- and holds either way round
+  said-way : (k : Kind) → saidKind n ≡ kindNumber k → eitherWay k ≡ true
+  unfolding kindNumber eitherWay
+  said-way higher e = absurd (omega (arith, said-bounds .0))
+  said-way left e = refl
+  said-way right e = refl
+  said-way nonassoc e = refl
+
+-- ---- a declaration of two productions
+
+-- what it covers
+module _ (l : Declaration) (g : isGroup (l .kind) ≡ false) where
+  pub covers-single : (k : Kind) (x y : ℕ)
+      → covers l k x y ≡ (eqb (l .kind) (kindNumber k) && (eqb (l .first) x && eqb (l .second) y || eitherWay k && (eqb (l .first) y && eqb (l .second) x)))
+  unfolding covers namesPair saidKind
+  covers-single k x y = rw g refl
+
+  -- its kind is k, and it names the pair so or turned round
+  single-found : (k : Kind) (x y : ℕ) → covers l k x y ≡ true → (l .kind ≡ kindNumber k) × (((l .first ≡ x) × (l .second ≡ y)) ⊎ ((l .first ≡ y) × (l .second ≡ x)))
+  single-found k x y e =
+      let f = l .first in
+      let s = l .second in
+      let e′ = sym (covers-single k x y) ∙ e in
+      let one = eqb f x && eqb s y in
+      let turned = eqb f y && eqb s x in
+      (eqb-true (l .kind) (kindNumber k) (and-first-true (eqb (l .kind) (kindNumber k)) (one || eitherWay k && turned) e′),
+      ⊎-elim
+      (λ a. inl (eqb-true f x (and-first-true (eqb f x) (eqb s y) a), eqb-true s y (and-second-true (eqb f x) (eqb s y) a)))
+      (λ a. let t = and-second-true (eitherWay k) turned a in inr (eqb-true f y (and-first-true (eqb f y) (eqb s x) t), eqb-true s x (and-second-true (eqb f y) (eqb s x) t)))
+      (or-cases one (eitherWay k && turned) (and-second-true (eqb (l .kind) (kindNumber k)) (one || eitherWay k && turned) e′)))
+
+  single-written : (k : Kind) (x y : ℕ) → l .kind ≡ kindNumber k → l .first ≡ x → l .second ≡ y → covers l k x y ≡ true
+  single-written k x y e f s = covers-single k x y ∙ rw (eq-eqb (l .kind) (kindNumber k) e, eq-eqb (l .first) x f, eq-eqb (l .second) y s) refl
+
+  single-turned : (k : Kind) (x y : ℕ) → l .kind ≡ kindNumber k → eitherWay k ≡ true → l .first ≡ y → l .second ≡ x → covers l k x y ≡ true
+  single-turned k x y e w f s =
+      covers-single k x y
+      ∙ rw (eq-eqb (l .kind) (kindNumber k) e, w, eq-eqb (l .first) y f, eq-eqb (l .second) x s) (or-true (eqb (l .first) x && eqb (l .second) y))
+
+-- ---- the pairs of a group
+
+module _ (m : ℕ) (g : isGroup m ≡ false) (k : Kind) where
+  -- the first of the group with itself and with each later one
+  row : ℕ → ℕ → Declaration
+  row f j = record { kind = m; first = f; second = f + j }
+
+  pairs-found : (n f x y : ℕ) → declaredIn (pairsFrom m f n) k x y ≡ true → (m ≡ kindNumber k) × (f ≤ x) × (x < f + n) × (f ≤ y) × (y < f + n)
+  unfolding pairsFrom row
+  pairs-found zero f x y e = absurd (false≢true (sym (declared-none k x y) ∙ e))
+  pairs-found (suc n) f x y e =
+      ⊎-elim
+      (λ a. let (j, l, h) = declared-found (suc n) (row f) k x y a in
+      let (kind, ends) = single-found (row f j) g k x y h in
+      ⊎-elim (λ o. (kind, omega arith, omega arith, omega arith, omega arith)) (λ o. (kind, omega arith, omega arith, omega arith, omega arith)) ends)
+      (λ a. let (kind, lx, hx, ly, hy) = pairs-found n (suc f) x y a in (kind, omega arith, omega arith, omega arith, omega arith))
+      (or-cases (declaredIn (tabulate (suc n) (row f)) k x y) (declaredIn (pairsFrom m (suc f) n) k x y)
+      (sym (declared-append (tabulate (suc n) (row f)) (pairsFrom m (suc f) n) k x y) ∙ e))
+
+  module _ (e : m ≡ kindNumber k) (way : eitherWay k ≡ true) where
+    pairs-made : (n f x y : ℕ) → f ≤ x → x < f + n → f ≤ y → y < f + n → declaredIn (pairsFrom m f n) k x y ≡ true
+    unfolding pairsFrom row
+    pairs-made zero f x y lx hx ly hy = absurd (omega arith)
+    pairs-made (suc n) f x y lx hx ly hy =
+        let own = declaredIn (tabulate (suc n) (row f)) k x y in
+        let rest = declaredIn (pairsFrom m (suc f) n) k x y in
+        declared-append (tabulate (suc n) (row f)) (pairsFrom m (suc f) n) k x y
+        ∙ by-cases (decLt f x)
+        (λ a. by-cases (decLt f y)
+        (λ c. or-second own rest (pairs-made n (suc f) x y (omega arith) (omega arith) (omega arith) (omega arith)))
+        (λ c. or-first own rest (declared-made (suc n) (row f) k x y (x - f) (omega arith) (single-turned (row f (x - f)) g k x y e way (omega arith) (omega arith)))))
+        (λ a. or-first own rest (declared-made (suc n) (row f) k x y (y - f) (omega arith) (single-written (row f (y - f)) g k x y e (omega arith) (omega arith))))
+
+-- there are n (n + 1) / 2 of n productions: of nine, forty-five
+pub pairs-length : (m f n : ℕ) → 2 * length (pairsFrom m f n) ≡ n * (n + 1)
+unfolding pairsFrom
+pairs-length m f zero = refl
+pairs-length m f (suc n) =
+    let row : ℕ → Declaration = λ j. record { kind = m; first = f; second = f + j } in
+    omega (arith, pairs-length m (suc f) n, length-append (tabulate (suc n) row) (pairsFrom m (suc f) n), length-tabulate (suc n) row)
+
+-- ---- a list of declarations
+
+-- a group spelled out covers what the group covers
+spelled-group : (l : Declaration) → isGroup (l .kind) ≡ true → (k : Kind) (x y : ℕ) → declaredIn (spelled l) k x y ≡ covers l k x y
+unfolding spelled covers namesPair
+spelled-group l g k x y =
+    let m = saidKind (l .kind) in
+    let f = l .first in
+    let s = l .second in
+    let n = s + 1 - f in
+    let inside = between f s in
+    rw g
+    (same-test (declaredIn (pairsFrom m f n) k x y) (eqb m (kindNumber k) && (inside x && inside y || eitherWay k && (inside y && inside x)))
+    (λ e. let (kind, lx, hx, ly, hy) = pairs-found m (said-single (l .kind) g) k n f x y e in
+    rw (eq-eqb m (kindNumber k) kind, between-in f s x lx (omega arith), between-in f s y ly (omega arith)) refl)
+    (λ e. let kind = eqb-true m (kindNumber k) (and-first-true (eqb m (kindNumber k)) (inside x && inside y || eitherWay k && (inside y && inside x)) e) in
+    let (px, py) : (inside x ≡ true) × (inside y ≡ true) =
+    ⊎-elim
+    (λ a. (and-first-true (inside x) (inside y) a, and-second-true (inside x) (inside y) a))
+    (λ a. let c = and-second-true (eitherWay k) (inside y && inside x) a in (and-second-true (inside y) (inside x) c, and-first-true (inside y) (inside x) c))
+    (or-cases (inside x && inside y) (eitherWay k && (inside y && inside x)) (and-second-true (eqb m (kindNumber k)) (inside x && inside y || eitherWay k && (inside y && inside x)) e)) in
+    let (lx, hx) = between-ends f s x px in
+    let (ly, hy) = between-ends f s y py in
+    pairs-made m (said-single (l .kind) g) k kind (said-way (l .kind) g k kind) n f x y lx (omega arith) ly (omega arith)))
+
+spelled-covers : (l : Declaration) (k : Kind) (x y : ℕ) → declaredIn (spelled l) k x y ≡ covers l k x y
+unfolding spelled
+spelled-covers l k x y =
+    ⊎-elim (λ g. spelled-group l g k x y) (λ (g : isGroup (l .kind) ≡ false). rw g (declared-one l k x y)) (true-or-false (isGroup (l .kind)))
+
+-- The spelled-out list declares the same pairs.
+pub spelled-declared : (ls : List Declaration) (k : Kind) (x y : ℕ) → declaredIn (spelledOut ls) k x y ≡ declaredIn ls k x y
+unfolding spelledOut joined declaredIn
+spelled-declared [] k x y = refl
+spelled-declared (l ∷ ls) k x y =
+    declared-append (spelled l) (spelledOut ls) k x y ∙ ap₂ _||_ (spelled-covers l k x y) (spelled-declared ls k x y)
+
+-- ---- lists that declare the same pairs
+
+through-alike : (r s : ℕ → ℕ → Bool) → ((x y : ℕ) → r x y ≡ s x y) → (n x y : ℕ) → through r n x y ≡ through s n x y
+unfolding through
+through-alike r s e zero x y = e x y
+through-alike r s e (suc n) x y = rw (through-alike r s e n x y, through-alike r s e n x n, through-alike r s e n n y) refl
+
+module _ (ls ms : List Declaration) (e : (k : Kind) (x y : ℕ) → declaredIn ls k x y ≡ declaredIn ms k x y) where
+  -- have the same closed priorities
+  pub higher-alike : (x y : ℕ) → HigherIn ls x y ↔ HigherIn ms x y
+  higher-alike x y = (chain-map (λ u v h. sym (e higher u v) ∙ h), chain-map (λ u v h. e higher u v ∙ h))
+
+  pub is-higher-alike : (n x y : ℕ) → isHigherIn n ls x y ≡ isHigherIn n ms x y
+  unfolding isHigherIn
+  is-higher-alike = through-alike (declaredIn ls higher) (declaredIn ms higher) (e higher)
+
+  -- the same refusal 9
+  pub circles-alike : (b : List ℕ) → circlesIn b ls ≡ circlesIn b ms
+  unfolding circle
+  circles-alike b = first-same (circle (productions b) ls) (circle (productions b) ms) (productions b) (λ p l. rw (is-higher-alike (productions b) p p) refl)
+
+  -- and the same conflicts
+  right-alike : (x y : ℕ) → rightOrNonassoc ls x y ≡ rightOrNonassoc ms x y
+  unfolding rightOrNonassoc
+  right-alike x y = ap₂ _||_ (e right x y) (e nonassoc x y)
+
+  left-alike : (x y : ℕ) → leftOrNonassoc ls x y ≡ leftOrNonassoc ms x y
+  unfolding leftOrNonassoc
+  left-alike x y = ap₂ _||_ (e left x y) (e nonassoc x y)
+
+  pub conflicts-alike : (b : List ℕ) (p i q : ℕ) → conflictsIn b ls p i q ≡ conflictsIn b ms p i q
+  unfolding conflictsIn barred
+  conflicts-alike b p i q = rw (is-higher-alike (productions b) p q, right-alike p q, left-alike p q) refl
+
+-- a conflict by one list is one by the other
+pub conflict-carried : (ls ms : List Declaration) → ((k : Kind) (x y : ℕ) → declaredIn ls k x y ≡ declaredIn ms k x y)
+    → {b : List ℕ} {p i q : ℕ} → ConflictIn b ls p i q → ConflictIn b ms p i q
+conflict-carried ls ms e {p = p} {q = q} (anywhere fit h) = anywhere fit (higher-alike ls ms e p q .0 h)
+conflict-carried ls ms e {p = p} {q = q} (atFirst fit f h) = atFirst fit f (sym (right-alike ls ms e p q) ∙ h)
+conflict-carried ls ms e {p = p} {q = q} (atLast fit f h) = atLast fit f (sym (left-alike ls ms e p q) ∙ h)
