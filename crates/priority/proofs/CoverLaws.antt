@@ -155,7 +155,7 @@ square-named true way false false false f g = or-false (way && false)
 -- what code marks for a declaration, its two productions and the square of its group, is what it names
 marks-named : (l : Declaration) (x y : ℕ) (written turned way : Bool) → (isGroup (l .kind) ≡ true → l .first ≤ l .second) → turned ≡ (written && way)
     → ((written && (eqb (l .first) x && eqb (l .second) y) || turned && (eqb (l .first) y && eqb (l .second) x))
-      || (written && isGroup (l .kind)) && (between (l .first) (l .second) x && between (l .first) (l .second) y))
+    || (written && isGroup (l .kind)) && (between (l .first) (l .second) x && between (l .first) (l .second) y))
     ≡ (written && namesPair l x y || turned && namesPair l y x)
 unfolding namesPair
 marks-named l x y written turned way rises e =

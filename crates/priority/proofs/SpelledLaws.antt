@@ -64,12 +64,13 @@ module _ (l : Declaration) (g : isGroup (l .kind) ≡ false) where
       let s = l .second in
       let e′ = sym (covers-single k x y) ∙ e in
       let one = eqb f x && eqb s y in
-      let turned = eqb f y && eqb s x in
-      (eqb-true (l .kind) (kindNumber k) (and-first-true (eqb (l .kind) (kindNumber k)) (one || eitherWay k && turned) e′),
-      ⊎-elim
-      (λ a. inl (eqb-true f x (and-first-true (eqb f x) (eqb s y) a), eqb-true s y (and-second-true (eqb f x) (eqb s y) a)))
-      (λ a. let t = and-second-true (eitherWay k) turned a in inr (eqb-true f y (and-first-true (eqb f y) (eqb s x) t), eqb-true s x (and-second-true (eqb f y) (eqb s x) t)))
-      (or-cases one (eitherWay k && turned) (and-second-true (eqb (l .kind) (kindNumber k)) (one || eitherWay k && turned) e′)))
+      let turned = eqb f y && eqb s x in (
+        eqb-true (l .kind) (kindNumber k) (and-first-true (eqb (l .kind) (kindNumber k)) (one || eitherWay k && turned) e′),
+        ⊎-elim
+            (λ a. inl (eqb-true f x (and-first-true (eqb f x) (eqb s y) a), eqb-true s y (and-second-true (eqb f x) (eqb s y) a)))
+            (λ a. let t = and-second-true (eitherWay k) turned a in inr (eqb-true f y (and-first-true (eqb f y) (eqb s x) t), eqb-true s x (and-second-true (eqb f y) (eqb s x) t)))
+            (or-cases one (eitherWay k && turned) (and-second-true (eqb (l .kind) (kindNumber k)) (one || eitherWay k && turned) e′)),
+      )
 
   single-written : (k : Kind) (x y : ℕ) → l .kind ≡ kindNumber k → l .first ≡ x → l .second ≡ y → covers l k x y ≡ true
   single-written k x y e f s = covers-single k x y ∙ rw (eq-eqb (l .kind) (kindNumber k) e, eq-eqb (l .first) x f, eq-eqb (l .second) y s) refl

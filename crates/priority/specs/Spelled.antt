@@ -2,9 +2,12 @@
 use Prim.Native.Nat.{ℕ, zero, suc, _+_, _-_}
 use mathlib.Core.Bool.{cond}
 use mathlib.Core.List.{List, [], _∷_, _++_}
+use lib.ListN.{length, take}
+use lib.Seq.{slice}
 use Rattle.common.specs.Lists.{tabulate, joined}
 use Rattle.grammar.specs.Check.{isGroup}
-use Rattle.priority.specs.Priorities.{Declaration, saidKind}
+use Rattle.grammar.specs.Layout.{declarationAt}
+use Rattle.priority.specs.Priorities.{Declaration, saidKind, declarationsOf}
 
 -- A kind declared of `count` productions from `first` on: of the first with itself and with each later one, and then of those behind it.
 unfoldable pub pairsFrom : (kind first count : ℕ) → List Declaration
@@ -18,3 +21,16 @@ spelled l = cond (isGroup (l .kind)) (pairsFrom (saidKind (l .kind)) (l .first) 
 -- Every declaration of the list so.
 unfoldable pub spelledOut : List Declaration → List Declaration
 spelledOut = joined spelled
+
+-- ---- a grammar with its groups spelled out
+
+-- A declaration's three numbers.
+abbrev pub declarationNumbers : Declaration → List ℕ
+declarationNumbers l = l .kind ∷ l .first ∷ l .second ∷ []
+
+-- The grammar's numbers, but for the count of declarations (number 3) and what follows the classes: there each pair has a declaration of its own.
+-- If they are at most 255, these are the bytes of a grammar.
+unfoldable pub spelledGrammar : List ℕ → List ℕ
+spelledGrammar b =
+    let out = spelledOut (declarationsOf b) in
+    take 3 b ++ (length out ∷ []) ++ slice 4 (declarationAt b 0) b ++ joined declarationNumbers out

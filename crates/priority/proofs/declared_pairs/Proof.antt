@@ -261,8 +261,8 @@ loop-again c =
     let ss = small-second b wf d h in
     let square = square-put productionLimit t₁ (second b d) (first b d) w (square-put productionLimit t (first b d) (second b d) v (turn .inv .square) sf ss) ss sf in
     let next : (wider : List (List Bool)) → Square productionLimit wider
-        → ((x y : ℕ) → entry wider x y ≡ (entry t₂ x y || (written && isGroup (kind b d)) && (between (first b d) (second b d) x && between (first b d) (second b d) y)))
-        → Taken b (start .args .kind) (start .args .also) (declaration-count .result) (turn .at + 3) (d + 1) wider =
+    → ((x y : ℕ) → entry wider x y ≡ (entry t₂ x y || (written && isGroup (kind b d)) && (between (first b d) (second b d) x && between (first b d) (second b d) y)))
+    → Taken b (start .args .kind) (start .args .also) (declaration-count .result) (turn .at + 3) (d + 1) wider =
     λ wider q e. record {
       square = q;
       place = omega (arith, turn .inv .place, declaration-next b d);

@@ -26,9 +26,11 @@ abbrev μ-loop : tie.MeasureT-loop
 
 loop-holds : tie.Need-loop-holds Inv-loop μ-loop
 unfolding Member
-loop-holds c =
-    (filled-from (Member (c .args .first) (c .args .second)) false (replicate productionLimit false) (c .args .first)
-      (λ k l. getD-none productionLimit k ∙ sym (between-below (c .args .first) (c .args .second) k l)), omega arith)
+loop-holds c = (
+  filled-from (Member (c .args .first) (c .args .second)) false (replicate productionLimit false) (c .args .first)
+      (λ k l. getD-none productionLimit k ∙ sym (between-below (c .args .first) (c .args .second) k l)),
+  omega arith,
+)
 
 array-write-row : tie.Need-array-write-row Inv-loop μ-loop
 array-write-row c = omega arith
@@ -42,9 +44,11 @@ loop-less c = omega arith
 loop-again : tie.Need-loop-again Inv-loop μ-loop
 unfolding Member
 loop-again c =
-    let start = c .before .before in
-    (filled-more (Member (start .args .first) (start .args .second)) false (replicate productionLimit false) (c .before .loop .y) (c .before .loop .row) _ (omega (arith, length-replicate productionLimit false)) (c .before .loop .inv .0)
-      (sym (between-in (start .args .first) (start .args .second) (c .before .loop .y) (c .before .loop .inv .1) (omega arith))), omega arith)
+    let start = c .before .before in (
+      filled-more (Member (start .args .first) (start .args .second)) false (replicate productionLimit false) (c .before .loop .y) (c .before .loop .row) _ (omega (arith, length-replicate productionLimit false)) (c .before .loop .inv .0)
+          (sym (between-in (start .args .first) (start .args .second) (c .before .loop .y) (c .before .loop .inv .1) (omega arith))),
+      omega arith,
+    )
 
 returns : tie.Need-returns Inv-loop μ-loop
 unfolding Member

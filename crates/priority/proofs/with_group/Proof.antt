@@ -45,9 +45,11 @@ members-requires c κs = c .pre .0
 
 loop-holds : tie.Need-loop-holds Inv-loop μ-loop
 loop-holds c =
-    let start = c .before in
-    (filled-from (Grouped (start .args .table) (start .args .first) (start .args .second)) [] (start .args .table) (start .args .first)
-      (λ k l. grouped-out (start .args .table) (start .args .first) (start .args .second) k (start .pre .1) (between-below (start .args .first) (start .args .second) k l)), omega arith)
+    let start = c .before in (
+      filled-from (Grouped (start .args .table) (start .args .first) (start .args .second)) [] (start .args .table) (start .args .first)
+          (λ k l. grouped-out (start .args .table) (start .args .first) (start .args .second) k (start .pre .1) (between-below (start .args .first) (start .args .second) k l)),
+      omega arith,
+    )
 
 mul-merged : tie.Need-mul-merged Inv-loop μ-loop
 mul-merged c = omega arith
@@ -77,9 +79,11 @@ loop-again c =
     let members = c .before .before .before .before .members in
     let turn = c .before .before .before .loop in
     let n : length (start .args .table) ≡ productionLimit = search needs in
-    let own : getD (turn .wider) (turn .x) [] ≡ getD (start .args .table) (turn .x) [] = turn .inv .0 .rest (turn .x) (omega arith) in
-    (filled-more (Grouped (start .args .table) (start .args .first) (start .args .second)) [] (start .args .table) (turn .x) (turn .wider) (c .merged .result) (omega arith) (turn .inv .0)
-    (grouped-in (start .args .table) (start .args .first) (start .args .second) (turn .x) (c .merged .result) (members .result) (search needs) (turn .inv .1) (omega arith) (members .ensures) (rw own at (c .merged .ensures))), omega arith)
+    let own : getD (turn .wider) (turn .x) [] ≡ getD (start .args .table) (turn .x) [] = turn .inv .0 .rest (turn .x) (omega arith) in (
+      filled-more (Grouped (start .args .table) (start .args .first) (start .args .second)) [] (start .args .table) (turn .x) (turn .wider) (c .merged .result) (omega arith) (turn .inv .0)
+          (grouped-in (start .args .table) (start .args .first) (start .args .second) (turn .x) (c .merged .result) (members .result) (search needs) (turn .inv .1) (omega arith) (members .ensures) (rw own at (c .merged .ensures))),
+      omega arith,
+    )
 
 returns : tie.Need-returns Inv-loop μ-loop
 unfolding entry
@@ -90,8 +94,8 @@ returns c =
     let n : length table ≡ productionLimit = search needs in
     let each : (x : ℕ) → Grouped table (start .args .first) (start .args .second) x (getD (c .before .loop .wider) x []) =
     λ x. by-cases (decLt x (c .before .loop .x))
-        (λ l. done .done x l)
-        (λ l. rw (done .rest x (omega arith)) (grouped-out table (start .args .first) (start .args .second) x (start .pre .1) (between-above (start .args .first) (start .args .second) x (omega arith)))) in
+    (λ l. done .done x l)
+    (λ l. rw (done .rest x (omega arith)) (grouped-out table (start .args .first) (start .args .second) x (start .pre .1) (between-above (start .args .first) (start .args .second) x (omega arith)))) in
     (record { rows = done .long ∙ n; columns = λ x l. each x .long l }, λ x y. each x .entries y)
 
 pub with-group-spec : {M : Type 1} → statement M
