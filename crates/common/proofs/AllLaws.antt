@@ -3,7 +3,7 @@ use Prim.Native.Nat.{ℕ, zero, suc, _<_}
 use mathlib.Core.List.{List, [], _∷_, _++_}
 use native.Mathlib.Omega.{arith}
 use lib.ListN.{length, getD}
-use Rattle.common.specs.Lists.{All}
+use Rattle.common.specs.Lists.{tabulate, All}
 
 module _ {A : Type 0} (P : A → Type 0) where
   pub all-append : (l m : List A) → All P l → All P m → All P (l ++ m)
@@ -24,3 +24,9 @@ module _ {A : Type 0} (P : A → Type 0) where
   pub all-of-at : (l : List A) (d : A) → ((k : ℕ) → k < length l → P (getD l k d)) → All P l
   all-of-at [] d h = tt
   all-of-at (a ∷ l) d h = (h 0 (omega arith), all-of-at l d (λ k i. h (suc k) (omega arith)))
+
+  -- of a list made of a function, it holds of what that gives
+  pub all-tabulate : (n : ℕ) (f : ℕ → A) → ((i : ℕ) → i < n → P (f i)) → All P (tabulate n f)
+  unfolding tabulate
+  all-tabulate zero f h = tt
+  all-tabulate (suc n) f h = all-append (tabulate n f) (f n ∷ []) (all-tabulate n f (λ i l. h i (omega arith))) (h n (omega arith), tt)

@@ -1,21 +1,23 @@
 -- In a frame that stands, each part lies within the bytes.
 use Prim.Native.Nat.{ℕ, _+_, _*_, _≤_, _<_}
-use mathlib.Core.Path.{_≡_, refl, _∙_}
+use mathlib.Core.Path.{_≡_, refl, sym, _∙_, ap}
 use mathlib.Core.Bool.{false, true, _&&_}
 use mathlib.Core.List.{List, [], _∷_}
+use mathlib.Core.Logic.{by-cases}
 use native.Mathlib.Omega.{arith}
+use native.Mathlib.Decide.{decLt}
 use lib.Dec.{leb, ltb, eqb}
 use lib.ListN.{length}
-use borrow.Author.Tests.{ltb-false, leb-false, eqb-true, not-false, le-ltb}
+use borrow.Author.Tests.{ltb-false, leb-false, eqb-true, not-false, lt-ltb, le-ltb}
 use Rattle.common.proofs.BelowLaws.{any-never}
 use Rattle.common.proofs.BoolLaws.{or-first-false, or-second-false}
 use Rattle.grammar.proofs.LayoutLaws.{production-first, class-first, declaration-first, production-within, production-after, class-within, class-after-productions, declaration-within, declaration-after-classes, needed-is-end}
-use Rattle.grammar.proofs.VerdictLaws.{refuse-accepted, and-first, and-second, first-all}
+use Rattle.grammar.proofs.VerdictLaws.{refuse-accepted, accepted-last, and-first, and-second, first-all}
 use Rattle.grammar.specs.Check.{outside, shortHeader, headerLines, headerBytes, badHeader, shortContents, badArgumentCount, badRangeCount, badLength, namesArgument, badArgument, badArguments, badProduction, badRange, badClass, isGroup, declarationLines, declarationBytes, badDeclaration, sameProduction, repeatedProduction, frameLines, frameCheck, bodiesLines, bodiesCheck}
 use Rattle.grammar.specs.Formed.{Framed, WellFormed}
 use Rattle.grammar.specs.Layout.{byteAt, sorts, productions, classes, declarations, startSort, argumentCount, rangeCount, bodiesAt, productionAt, result, argument, classAt, low, high, declarationAt, kind, first, second, neededLength}
-use Rattle.grammar.specs.Limits.{sortLimit, productionLimit, classLimit, argumentLimit, rangeLimit, kindLimit, headerLength}
-use Rattle.grammar.specs.Verdict.{refuseIf, inOrder}
+use Rattle.grammar.specs.Limits.{sortLimit, productionLimit, classLimit, argumentLimit, rangeLimit, kindLimit, pairKindLimit, headerLength}
+use Rattle.grammar.specs.Verdict.{refuseIf, andThen, inOrder}
 use Rattle.grammar.specs.declared.Verdict.{Verdict}
 use Rattle.grammar.specs.declared.Verdict.the-variants.{Accepted}
 
@@ -127,6 +129,26 @@ module _ (b : List ℕ) (d : ℕ) (e : badDeclaration b d ≡ Accepted) where
 
   pub group-rises : isGroup (kind b d) ≡ true → first b d ≤ second b d
   group-rises g = ltb-false (second b d) (first b d) (rw g at (refuse-accepted (isGroup (kind b d) && ltb (second b d) (first b d)) 7 (declarationAt b d + 1) (parts .1 .1 .1 .0)))
+
+-- a declaration of two productions is judged as if there were no kinds of groups
+no-group : (n : ℕ) → isGroup n ≡ false → outside 1 kindLimit n ≡ outside 1 pairKindLimit n
+unfolding isGroup
+no-group n g =
+    by-cases (decLt pairKindLimit n)
+    (λ l. let above : kindLimit < n = leb-false n kindLimit (rw (lt-ltb pairKindLimit n l) at g) in rw (lt-ltb pairKindLimit n l, lt-ltb kindLimit n above) refl)
+    (λ l. rw (le-ltb pairKindLimit n (omega arith), le-ltb kindLimit n (omega arith)) refl)
+
+pub pair-judged : (b : List ℕ) (d : ℕ) → isGroup (kind b d) ≡ false
+    → badDeclaration b d ≡ inOrder
+    (refuseIf (outside 1 pairKindLimit (kind b d)) 7 (declarationAt b d)
+    ∷ refuseIf (leb (productions b) (first b d)) 7 (declarationAt b d + 1)
+    ∷ refuseIf (leb (productions b) (second b d)) 7 (declarationAt b d + 2)
+    ∷ [])
+unfolding badDeclaration declarationBytes
+pair-judged b d g =
+    let own = refuseIf (outside 1 pairKindLimit (kind b d)) 7 (declarationAt b d) in
+    let ofFirst = refuseIf (leb (productions b) (first b d)) 7 (declarationAt b d + 1) in
+    rw (g, no-group (kind b d) g) (ap (λ (v : Verdict). andThen own (andThen ofFirst v)) (sym (accepted-last (refuseIf (leb (productions b) (second b d)) 7 (declarationAt b d + 2)))))
 
 pub well-formed : (b : List ℕ) → frameCheck b ≡ Accepted → bodiesCheck b ≡ Accepted → WellFormed b
 unfolding bodiesCheck repeatedProduction

@@ -37,7 +37,7 @@ pub and-second : (v w : Verdict) → andThen v w ≡ Accepted → w ≡ Accepted
 and-second Accepted w e = e
 and-second (Refused n p) w e = refused-not-accepted n p e
 
-accepted-last : (v : Verdict) → v ≡ andThen v Accepted
+pub accepted-last : (v : Verdict) → v ≡ andThen v Accepted
 accepted-last Accepted = refl
 accepted-last (Refused n p) = refl
 

@@ -10,19 +10,20 @@ use lib.Dec.{leb, ltb, eqb}
 use lib.ListN.{length, length-append}
 use borrow.Author.Tests.{le-ltb, ltb-true, leb-true, eqb-true, eq-eqb}
 use Rattle.common.proofs.BoolLaws.{or-cases, or-first, or-second, and-both, and-first-true, and-second-true, same-test, true-or-false}
-use Rattle.common.proofs.ListLaws.{length-tabulate}
-use Rattle.common.specs.Lists.{tabulate, joined}
+use Rattle.common.proofs.AllLaws.{all-append, all-tabulate}
+use Rattle.common.proofs.ListLaws.{length-tabulate, joined-one}
+use Rattle.common.specs.Lists.{tabulate, joined, All}
 use Rattle.grammar.proofs.VerdictLaws.{first-same}
 use Rattle.grammar.specs.Check.{isGroup}
 use Rattle.grammar.specs.Layout.{productions}
-use Rattle.grammar.specs.Limits.{kindLimit, pairKindLimit}
+use Rattle.grammar.specs.Limits.{kindLimit, pairKindLimit, groupStep}
 use Rattle.priority.proofs.ChainLaws.{chain-map}
 use Rattle.priority.proofs.CoverLaws.{declared-append, declared-one, declared-found, declared-made, declared-none, between-in, between-ends}
 use Rattle.priority.specs.Chain.{through}
 use Rattle.priority.specs.Check.{circle, circlesIn}
 use Rattle.priority.specs.Conflict.{rightOrNonassoc, leftOrNonassoc, ConflictIn, anywhere, atFirst, atLast, barred, conflictsIn}
 use Rattle.priority.specs.Priorities.{Kind, higher, left, right, nonassoc, kindNumber, saidKind, eitherWay, Declaration, between, namesPair, covers, declaredIn, HigherIn, isHigherIn}
-use Rattle.priority.specs.Spelled.{pairsFrom, spelled, spelledOut}
+use Rattle.priority.specs.Spelled.{IsOfTwo, pairsFrom, spelled, spelledOut}
 
 -- ---- kinds of groups
 
@@ -48,37 +49,101 @@ module _ (n : ℕ) (g : isGroup n ≡ true) where
   said-way right e = refl
   said-way nonassoc e = refl
 
+-- the number of the groups of a kind
+pub group-number : (k : Kind) → eitherWay k ≡ true → (n : ℕ) → n ≡ kindNumber k + groupStep → (isGroup n ≡ true) × (saidKind n ≡ kindNumber k)
+unfolding eitherWay kindNumber isGroup saidKind
+group-number higher h n e = absurd (false≢true h)
+group-number left h n e = rw e (refl, refl)
+group-number right h n e = rw e (refl, refl)
+group-number nonassoc h n e = rw e (refl, refl)
+
+-- a number says one kind at most
+kind-of : ℕ → Kind
+kind-of zero = nonassoc
+kind-of (suc zero) = higher
+kind-of (suc (suc zero)) = left
+kind-of (suc (suc (suc zero))) = right
+kind-of (suc (suc (suc (suc n)))) = nonassoc
+
+kind-numbered : (k : Kind) → kind-of (kindNumber k) ≡ k
+unfolding kind-of kindNumber
+kind-numbered higher = refl
+kind-numbered left = refl
+kind-numbered right = refl
+kind-numbered nonassoc = refl
+
+same-kind : (k k′ : Kind) → kindNumber k ≡ kindNumber k′ → k ≡ k′
+same-kind k k′ e = sym (kind-numbered k) ∙ ap kind-of e ∙ kind-numbered k′
+
 -- ---- a declaration of two productions
 
--- what it covers
-module _ (l : Declaration) (g : isGroup (l .kind) ≡ false) where
-  pub covers-single : (k : Kind) (x y : ℕ)
+-- it covers what it did before there were groups
+module _ (l : Declaration) (g : IsOfTwo l) where
+  covers-single : (k : Kind) (x y : ℕ)
       → covers l k x y ≡ (eqb (l .kind) (kindNumber k) && (eqb (l .first) x && eqb (l .second) y || eitherWay k && (eqb (l .first) y && eqb (l .second) x)))
   unfolding covers namesPair saidKind
   covers-single k x y = rw g refl
 
-  -- its kind is k, and it names the pair so or turned round
-  single-found : (k : Kind) (x y : ℕ) → covers l k x y ≡ true → (l .kind ≡ kindNumber k) × (((l .first ≡ x) × (l .second ≡ y)) ⊎ ((l .first ≡ y) × (l .second ≡ x)))
+  -- its kind is k, and it names the pair so, or turned round if k holds either way
+  pub single-found : (k : Kind) (x y : ℕ) → covers l k x y ≡ true
+      → (l .kind ≡ kindNumber k) × (((l .first ≡ x) × (l .second ≡ y)) ⊎ ((eitherWay k ≡ true) × (l .first ≡ y) × (l .second ≡ x)))
   single-found k x y e =
       let f = l .first in
       let s = l .second in
       let e′ = sym (covers-single k x y) ∙ e in
       let one = eqb f x && eqb s y in
-      let turned = eqb f y && eqb s x in (
+      let turned = eqb f y && eqb s x in
+      (
         eqb-true (l .kind) (kindNumber k) (and-first-true (eqb (l .kind) (kindNumber k)) (one || eitherWay k && turned) e′),
         ⊎-elim
-            (λ a. inl (eqb-true f x (and-first-true (eqb f x) (eqb s y) a), eqb-true s y (and-second-true (eqb f x) (eqb s y) a)))
-            (λ a. let t = and-second-true (eitherWay k) turned a in inr (eqb-true f y (and-first-true (eqb f y) (eqb s x) t), eqb-true s x (and-second-true (eqb f y) (eqb s x) t)))
-            (or-cases one (eitherWay k && turned) (and-second-true (eqb (l .kind) (kindNumber k)) (one || eitherWay k && turned) e′)),
+        (λ a. inl (eqb-true f x (and-first-true (eqb f x) (eqb s y) a), eqb-true s y (and-second-true (eqb f x) (eqb s y) a)))
+        (λ a. let t = and-second-true (eitherWay k) turned a in
+        inr (and-first-true (eitherWay k) turned a, eqb-true f y (and-first-true (eqb f y) (eqb s x) t), eqb-true s x (and-second-true (eqb f y) (eqb s x) t)))
+        (or-cases one (eitherWay k && turned) (and-second-true (eqb (l .kind) (kindNumber k)) (one || eitherWay k && turned) e′)),
       )
 
-  single-written : (k : Kind) (x y : ℕ) → l .kind ≡ kindNumber k → l .first ≡ x → l .second ≡ y → covers l k x y ≡ true
+  pub single-written : (k : Kind) (x y : ℕ) → l .kind ≡ kindNumber k → l .first ≡ x → l .second ≡ y → covers l k x y ≡ true
   single-written k x y e f s = covers-single k x y ∙ rw (eq-eqb (l .kind) (kindNumber k) e, eq-eqb (l .first) x f, eq-eqb (l .second) y s) refl
 
-  single-turned : (k : Kind) (x y : ℕ) → l .kind ≡ kindNumber k → eitherWay k ≡ true → l .first ≡ y → l .second ≡ x → covers l k x y ≡ true
+  pub single-turned : (k : Kind) (x y : ℕ) → l .kind ≡ kindNumber k → eitherWay k ≡ true → l .first ≡ y → l .second ≡ x → covers l k x y ≡ true
   single-turned k x y e w f s =
       covers-single k x y
       ∙ rw (eq-eqb (l .kind) (kindNumber k) e, w, eq-eqb (l .first) y f, eq-eqb (l .second) x s) (or-true (eqb (l .first) x && eqb (l .second) y))
+
+-- ---- a declaration of a group
+
+-- it covers every two from its first to its second, with the kind that it says
+module _ (l : Declaration) (g : isGroup (l .kind) ≡ true) (k : Kind) (x y : ℕ) where
+  abbrev named : (ℕ → ℕ → Bool)
+  named u v = between (l .first) (l .second) u && between (l .first) (l .second) v
+
+  group-covers : covers l k x y ≡ (eqb (saidKind (l .kind)) (kindNumber k) && (named x y || eitherWay k && named y x))
+  unfolding covers namesPair
+  group-covers = rw g refl
+
+  pub group-found : covers l k x y ≡ true → (saidKind (l .kind) ≡ kindNumber k) × (l .first ≤ x) × (x ≤ l .second) × (l .first ≤ y) × (y ≤ l .second)
+  group-found e =
+      let f = l .first in
+      let s = l .second in
+      let inside = between f s in
+      let says = eqb (saidKind (l .kind)) (kindNumber k) in
+      let e′ = sym group-covers ∙ e in
+      let (px, py) : (inside x ≡ true) × (inside y ≡ true) =
+      ⊎-elim
+      (λ a. (and-first-true (inside x) (inside y) a, and-second-true (inside x) (inside y) a))
+      (λ a. let c = and-second-true (eitherWay k) (named y x) a in (and-second-true (inside y) (inside x) c, and-first-true (inside y) (inside x) c))
+      (or-cases (named x y) (eitherWay k && named y x) (and-second-true says (named x y || eitherWay k && named y x) e′)) in
+      let (lx, hx) = between-ends f s x px in
+      let (ly, hy) = between-ends f s y py in
+      (eqb-true (saidKind (l .kind)) (kindNumber k) (and-first-true says (named x y || eitherWay k && named y x) e′), lx, hx, ly, hy)
+
+  pub group-made : saidKind (l .kind) ≡ kindNumber k → l .first ≤ x → x ≤ l .second → l .first ≤ y → y ≤ l .second → covers l k x y ≡ true
+  group-made e lx hx ly hy =
+      group-covers ∙ rw (eq-eqb (saidKind (l .kind)) (kindNumber k) e, between-in (l .first) (l .second) x lx hx, between-in (l .first) (l .second) y ly hy) refl
+
+-- and with no other
+pub group-only : (l : Declaration) → isGroup (l .kind) ≡ true → (k other : Kind) → saidKind (l .kind) ≡ kindNumber k → (x y : ℕ) → covers l other x y ≡ true → other ≡ k
+group-only l g k other e x y h = same-kind other k (sym (group-found l g other x y h .0) ∙ e)
 
 -- ---- the pairs of a group
 
@@ -113,8 +178,8 @@ module _ (m : ℕ) (g : isGroup m ≡ false) (k : Kind) where
         (λ c. or-first own rest (declared-made (suc n) (row f) k x y (x - f) (omega arith) (single-turned (row f (x - f)) g k x y e way (omega arith) (omega arith)))))
         (λ a. or-first own rest (declared-made (suc n) (row f) k x y (y - f) (omega arith) (single-written (row f (y - f)) g k x y e (omega arith) (omega arith))))
 
--- there are n (n + 1) / 2 of n productions: of nine, forty-five
-pub pairs-length : (m f n : ℕ) → 2 * length (pairsFrom m f n) ≡ n * (n + 1)
+-- there are n (n + 1) / 2 of n productions
+pairs-length : (m f n : ℕ) → 2 * length (pairsFrom m f n) ≡ n * (n + 1)
 unfolding pairsFrom
 pairs-length m f zero = refl
 pairs-length m f (suc n) =
@@ -125,26 +190,15 @@ pairs-length m f (suc n) =
 
 -- a group spelled out covers what the group covers
 spelled-group : (l : Declaration) → isGroup (l .kind) ≡ true → (k : Kind) (x y : ℕ) → declaredIn (spelled l) k x y ≡ covers l k x y
-unfolding spelled covers namesPair
+unfolding spelled
 spelled-group l g k x y =
     let m = saidKind (l .kind) in
-    let f = l .first in
-    let s = l .second in
-    let n = s + 1 - f in
-    let inside = between f s in
+    let n = l .second + 1 - l .first in
+    let single = said-single (l .kind) g in
     rw g
-    (same-test (declaredIn (pairsFrom m f n) k x y) (eqb m (kindNumber k) && (inside x && inside y || eitherWay k && (inside y && inside x)))
-    (λ e. let (kind, lx, hx, ly, hy) = pairs-found m (said-single (l .kind) g) k n f x y e in
-    rw (eq-eqb m (kindNumber k) kind, between-in f s x lx (omega arith), between-in f s y ly (omega arith)) refl)
-    (λ e. let kind = eqb-true m (kindNumber k) (and-first-true (eqb m (kindNumber k)) (inside x && inside y || eitherWay k && (inside y && inside x)) e) in
-    let (px, py) : (inside x ≡ true) × (inside y ≡ true) =
-    ⊎-elim
-    (λ a. (and-first-true (inside x) (inside y) a, and-second-true (inside x) (inside y) a))
-    (λ a. let c = and-second-true (eitherWay k) (inside y && inside x) a in (and-second-true (inside y) (inside x) c, and-first-true (inside y) (inside x) c))
-    (or-cases (inside x && inside y) (eitherWay k && (inside y && inside x)) (and-second-true (eqb m (kindNumber k)) (inside x && inside y || eitherWay k && (inside y && inside x)) e)) in
-    let (lx, hx) = between-ends f s x px in
-    let (ly, hy) = between-ends f s y py in
-    pairs-made m (said-single (l .kind) g) k kind (said-way (l .kind) g k kind) n f x y lx (omega arith) ly (omega arith)))
+    (same-test (declaredIn (pairsFrom m (l .first) n) k x y) (covers l k x y)
+    (λ e. let (kind, lx, hx, ly, hy) = pairs-found m single k n (l .first) x y e in group-made l g k x y kind lx (omega arith) ly (omega arith))
+    (λ e. let (kind, lx, hx, ly, hy) = group-found l g k x y e in pairs-made m single k kind (said-way (l .kind) g k kind) n (l .first) x y lx (omega arith) ly (omega arith)))
 
 spelled-covers : (l : Declaration) (k : Kind) (x y : ℕ) → declaredIn (spelled l) k x y ≡ covers l k x y
 unfolding spelled
@@ -157,6 +211,41 @@ unfolding spelledOut joined declaredIn
 spelled-declared [] k x y = refl
 spelled-declared (l ∷ ls) k x y =
     declared-append (spelled l) (spelledOut ls) k x y ∙ ap₂ _||_ (spelled-covers l k x y) (spelled-declared ls k x y)
+
+-- It has no group,
+pairs-of-two : (m f n : ℕ) → isGroup m ≡ false → All IsOfTwo (pairsFrom m f n)
+unfolding pairsFrom
+pairs-of-two m f zero g = tt
+pairs-of-two m f (suc n) g =
+    let row : ℕ → Declaration = λ j. record { kind = m; first = f; second = f + j } in
+    all-append IsOfTwo (tabulate (suc n) row) (pairsFrom m (suc f) n) (all-tabulate IsOfTwo (suc n) row (λ j l. g)) (pairs-of-two m (suc f) n g)
+
+spelled-of-two : (l : Declaration) → All IsOfTwo (spelled l)
+unfolding spelled
+spelled-of-two l =
+    ⊎-elim
+    (λ (g : isGroup (l .kind) ≡ true). rw g (pairs-of-two (saidKind (l .kind)) (l .first) (l .second + 1 - l .first) (said-single (l .kind) g)))
+    (λ (g : isGroup (l .kind) ≡ false). rw g (g, tt))
+    (true-or-false (isGroup (l .kind)))
+
+pub spelled-none : (ls : List Declaration) → All IsOfTwo (spelledOut ls)
+unfolding spelledOut joined
+spelled-none [] = tt
+spelled-none (l ∷ ls) = all-append IsOfTwo (spelled l) (spelledOut ls) (spelled-of-two l) (spelled-none ls)
+
+-- is the list itself if that has none,
+pub spelled-same : (ls : List Declaration) → All IsOfTwo ls → spelledOut ls ≡ ls
+unfolding spelledOut joined spelled
+spelled-same [] h = refl
+spelled-same (l ∷ ls) h = rw (h .0, spelled-same ls (h .1)) refl
+
+-- and of a group of n + 1 productions it has (n + 1) (n + 2) / 2 declarations: of nine, forty-five.
+pub spelled-many : (kind first n : ℕ) → isGroup kind ≡ true → 2 * length (spelledOut (record { kind = kind; first = first; second = first + n } ∷ [])) ≡ (n + 1) * (n + 2)
+unfolding spelledOut spelled
+spelled-many kind first n g =
+    let l : Declaration = record { kind = kind; first = first; second = first + n } in
+    let e : first + n + 1 - first ≡ n + 1 = omega arith in
+    rw (joined-one spelled l, g, e) (pairs-length (saidKind kind) first (n + 1) ∙ omega arith)
 
 -- ---- lists that declare the same pairs
 

@@ -1,13 +1,18 @@
 -- Groups spelled out (02, [2]): a list of declarations in which each pair of a group has a line of its own. The list may be longer than a grammar's bytes can say.
 use Prim.Native.Nat.{ℕ, zero, suc, _+_, _-_}
-use mathlib.Core.Bool.{cond}
+use mathlib.Core.Bool.{false, cond}
 use mathlib.Core.List.{List, [], _∷_, _++_}
+use mathlib.Core.Path.{_≡_}
 use lib.ListN.{length, take}
 use lib.Seq.{slice}
 use Rattle.common.specs.Lists.{tabulate, joined}
 use Rattle.grammar.specs.Check.{isGroup}
 use Rattle.grammar.specs.Layout.{declarationAt}
 use Rattle.priority.specs.Priorities.{Declaration, saidKind, declarationsOf}
+
+-- A declaration of two productions.
+abbrev pub IsOfTwo : Declaration → Type 0
+IsOfTwo l = isGroup (l .kind) ≡ false
 
 -- A kind declared of `count` productions from `first` on: of the first with itself and with each later one, and then of those behind it.
 unfoldable pub pairsFrom : (kind first count : ℕ) → List Declaration

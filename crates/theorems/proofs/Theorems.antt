@@ -1,6 +1,7 @@
 -- The theorems of the page, each from the law that proves it.
-use Prim.Native.Nat.{ℕ, _<_}
+use Prim.Native.Nat.{ℕ, _+_, _<_}
 use mathlib.Core.Path.{_≡_, refl, sym, _∙_, ap, subst, subst⁻¹, fun-ext}
+use mathlib.Core.Bool.{true}
 use mathlib.Core.Logic.{⊎-elim}
 use mathlib.Core.List.{List}
 use lib.ListN.{length, getD}
@@ -9,6 +10,7 @@ use Rattle.flatten.proofs.AnswerLaws.{flat-fits, flat-too-long, flat-grammar}
 use Rattle.flatten.proofs.FlatClassLaws.{flat-any, flat-argument}
 use Rattle.flatten.proofs.FlatLaws.{flat-trees}
 use Rattle.flatten.proofs.VisserLaws.{flat-completed, flat-visser}
+use Rattle.flatten.proofs.AlikeLaws.{flat-alike, reading-alike, entry-alike}
 use Rattle.ccg.proofs.ListingLaws.{listing-determines}
 use Rattle.ccg.proofs.WrittenLaws.{text-determines}
 use Rattle.flatten.proofs.FlatWrittenLaws.{flat-written}
@@ -31,13 +33,18 @@ use Rattle.flatten.specs.Reading.{Reading}
 use Rattle.priority.proofs.CheckLaws.{accepted-formed}
 use Rattle.question.proofs.AnswerLaws.{conflict-yes, conflict-no, conflict-absent, conflict-refused}
 use Rattle.priority.proofs.DeclarationLaws.{accepted-declares}
+use Rattle.priority.proofs.SpelledLaws.{group-number, single-found, single-written, single-turned, group-found, group-made, group-only, spelled-none, spelled-same, spelled-many, spelled-declared, higher-alike, circles-alike, conflict-carried}
+use Rattle.grammar.proofs.FormedLaws.{pair-judged}
+use Rattle.grammar.specs.Limits.{groupStep}
+use Rattle.priority.specs.Priorities.{Kind, left, right, nonassoc, kindNumber, eitherWay, Declaration, declarationOf, declarationsOf}
+use Rattle.priority.specs.Spelled.{spelledOut}
 use Rattle.priority.proofs.RefusalLaws.{refused-first, first-refused, accepted-free, free-accepted}
 use Rattle.rows.proofs.RowsLaws.{row-number}
 use Rattle.rows.proofs.UnderLaws.{row-stands}
 use Rattle.rows.specs.declared.Row.{Row}
 use Rattle.writing.specs.declared.WriteAnswer.{WriteAnswer}
 use Rattle.writing.specs.declared.WriteAnswer.the-variants.{Written, Refused as NotWritten}
-use Rattle.theorems.specs.Theorems.{Bytes, AcceptedExactly, RefusedExactly, ConflictExactly, FlatExactly, Refuses, OneOutcome, ListingExactly, OneIsRight, Declares, FlatIsVisser, FlatIsCompleted, FlatTrees, FlatArguments, ReadingsAreFlat, Read, TextDetermines, Archived, FlatIsWritten, ListingDetermines, OneListed, PageExactly, PageSays, Pages, Parts, MarkedCases}
+use Rattle.theorems.specs.Theorems.{Bytes, AcceptedExactly, RefusedExactly, ConflictExactly, FlatExactly, Refuses, OneOutcome, ListingExactly, OneIsRight, Declares, FlatIsVisser, FlatIsCompleted, FlatTrees, FlatArguments, ReadingsAreFlat, Read, TextDetermines, Archived, FlatIsWritten, ListingDetermines, OneListed, PageExactly, PageSays, Pages, Parts, SaysOfGroup, GroupsSay, Spells, GroupsAreTheirPairs, PairsAsBefore, MarkedCases}
 
 -- ---- demand 1
 
@@ -196,6 +203,46 @@ parts b bytes w l index part under =
       onePlace = row-one b bytes w l index;
       spells = λ right t lent h. part-spelled (record { bytes = bytes; right = right }) lent under h;
       none = λ absent r other. let e = row-none b w l index r other absent in (ap (λ (q : Row). q .start) e, ap (λ (q : Row). q .end) e);
+    }
+
+-- ---- request 2
+
+says-of-group : (l : Declaration) (k : Kind) → eitherWay k ≡ true → l .kind ≡ kindNumber k + groupStep → SaysOfGroup l k
+says-of-group l k h e =
+    let (g, said) = group-number k h (l .kind) e in
+    record {
+      pairs = λ x y. ((λ c. let (_, lx, hx, ly, hy) = group-found l g k x y c in (lx, hx, ly, hy)), (λ (lx, hx, ly, hy). group-made l g k x y said lx hx ly hy));
+      only = λ other. group-only l g k other said;
+    }
+
+pub groups-say : (l : Declaration) → GroupsSay l
+unfolding eitherWay kindNumber
+groups-say l = record { five = says-of-group l left refl; six = says-of-group l right refl; seven = says-of-group l nonassoc refl }
+
+pub spells : (ls : List Declaration) → Spells ls
+spells ls = record { none = spelled-none ls; same = spelled-same ls; many = spelled-many }
+
+pub groups-are-their-pairs : GroupsAreTheirPairs
+groups-are-their-pairs b =
+    let ls = declarationsOf b in
+    let out = spelledOut ls in
+    let e = spelled-declared ls in
+    record {
+      higher = higher-alike out ls e;
+      circle = circles-alike out ls e b;
+      conflict = λ p i q. (conflict-carried out ls e, conflict-carried ls out (λ k x y. sym (e k x y)));
+      flat = flat-alike out ls e b;
+      reading = reading-alike out ls e b;
+      entries = entry-alike out ls e b;
+    }
+
+pub pairs-as-before : PairsAsBefore
+unfolding declarationOf
+pairs-as-before b d g =
+    let l = declarationOf b d in
+    record {
+      covered = λ k x y. (single-found l g k x y, λ (e, ends). ⊎-elim (λ (f, s). single-written l g k x y e f s) (λ (way, f, s). single-turned l g k x y e way f s) ends);
+      seven = pair-judged b d g;
     }
 
 -- ---- the marked cases

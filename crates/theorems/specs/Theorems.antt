@@ -20,13 +20,14 @@
 -- (rows/specs/Rows). `Only P t`: P holds of t and of nothing else; `Two P`: of two different things; `Counts P v`: of none, one or two, as v is 0, 1 or 2 (theory/specs/Counts).
 use Prim.Native.Nat.{ℕ, _+_, _*_, _/_, _%_, _≤_, _<_}
 use mathlib.Core.Path.{_≡_}
-use mathlib.Core.Bool.{true}
-use mathlib.Core.List.{List, _++_}
+use mathlib.Core.Bool.{false, true}
+use mathlib.Core.List.{List, [], _∷_, _++_}
 use mathlib.Core.Logic.{_↔_, _⊎_}
+use lib.Dec.{leb}
 use lib.ListN.{length, getD, take, drop}
 use lib.Seq.{slice}
 use Rattle.ccg.specs.Ccg.{Class, Line, OwnNumbers, Generated}
-use Rattle.flatten.specs.Flat.{flatClass, flatGrammar, plainClass}
+use Rattle.flatten.specs.Flat.{flatClass, flatGrammarIn, flatGrammar, plainClass}
 use Rattle.ccg.specs.Text.{grammarText}
 use Rattle.flatten.specs.Answer.{flatAnswer}
 use Rattle.flatten.specs.Trees.{Built, ConflictFree, Apart}
@@ -40,7 +41,10 @@ use Rattle.common.specs.Lists.{All}
 use Rattle.engine.specs.declared.Answer.{Answer}
 use Rattle.engine.specs.declared.Answer.the-variants.{None, One, Several, Refused as NotRead}
 use Rattle.numbers.specs.Written.{bytesOf}
-use Rattle.grammar.specs.Layout.{productions, startSort, argumentCount, result, argument}
+use Rattle.grammar.specs.Layout.{productions, startSort, argumentCount, result, argument, declarationAt, kind, first, second}
+use Rattle.grammar.specs.Check.{outside, isGroup, badDeclaration}
+use Rattle.grammar.specs.Limits.{pairKindLimit}
+use Rattle.grammar.specs.Verdict.{refuseIf, inOrder}
 use Rattle.grammar.specs.declared.Verdict.the-variants.{Accepted, Refused}
 use Rattle.listing.specs.Answer.{byteLimit, listingAnswer}
 use Rattle.numbers.specs.Numbers.{numbersOf}
@@ -49,11 +53,12 @@ use Rattle.marked.specs.Cases.{Promised, table}
 use Rattle.page.specs.Answer.{Listed, pageAnswer, PageOutcome, RowUnder, TextUnder}
 use Rattle.lines.specs.Read.{ReadBack}
 use Rattle.parse.specs.Outcome.{needed, Outcome}
-use Rattle.flatten.specs.Reading.{Reading, EntryList}
-use Rattle.priority.specs.Check.{checked}
-use Rattle.priority.specs.Conflict.{Conflict}
+use Rattle.flatten.specs.Reading.{ReadingIn, EntryListIn, Reading, EntryList}
+use Rattle.priority.specs.Check.{circlesIn, circles, checked}
+use Rattle.priority.specs.Conflict.{ConflictIn, Conflict}
 use Rattle.question.specs.Answer.{There, conflictAnswer}
-use Rattle.priority.specs.Priorities.{PriorityDeclaration}
+use Rattle.priority.specs.Priorities.{Kind, left, right, nonassoc, kindNumber, eitherWay, Declaration, covers, HigherIn, declarationOf, declarationsOf, Higher, PriorityDeclaration}
+use Rattle.priority.specs.Spelled.{IsOfTwo, spelledOut}
 use Rattle.priority.specs.Refusals.{Holds, First}
 use Rattle.question.specs.declared.ConflictAnswer.the-variants.{Yes, No, Refused as NotAsked}
 use Rattle.rows.specs.Rows.{noRow, rows}
@@ -250,6 +255,54 @@ pub record PartSays (b w l : List ℕ) (index : ℕ) (part : List ℕ) : Type 0 
 
 abbrev pub Parts : Type 0
 Parts = (b : List ℕ) → Bytes b → (w l : List ℕ) (index : ℕ) (part : List ℕ) → TextUnder b w l index part → PartSays b w l index part
+
+-- ---- Request 2. "Kinds 5, 6 and 7 say left, right and not together of every two rules from the first named to the second, ends included, a rule with itself too. A book
+-- with groups has the same clashes as the book with each pair spelled out, even where that list of declarations runs past 255, and that is how flat books of such
+-- books are judged."
+
+-- With kind k the declaration covers every two productions from its first to its second, and with another kind none.
+pub record SaysOfGroup (l : Declaration) (k : Kind) : Type 0 where
+  pub pairs : (x y : ℕ) → (covers l k x y ≡ true) ↔ ((l .first ≤ x) × (x ≤ l .second) × (l .first ≤ y) × (y ≤ l .second))
+  pub only : (other : Kind) (x y : ℕ) → covers l other x y ≡ true → other ≡ k
+
+pub record GroupsSay (l : Declaration) : Type 0 where
+  pub five : l .kind ≡ 5 → SaysOfGroup l left
+  pub six : l .kind ≡ 6 → SaysOfGroup l right
+  pub seven : l .kind ≡ 7 → SaysOfGroup l nonassoc
+
+-- `spelledOut` (priority/specs/Spelled) leaves no group in a list of declarations, and changes nothing in one that has none; a group of n productions becomes
+-- n (n + 1) / 2 declarations, so one of nine becomes forty-five.
+pub record Spells (ls : List Declaration) : Type 0 where
+  pub none : All IsOfTwo (spelledOut ls)
+  pub same : All IsOfTwo ls → spelledOut ls ≡ ls
+  pub many : (kind first n : ℕ) → isGroup kind ≡ true → 2 * length (spelledOut (record { kind = kind; first = first; second = first + n } ∷ [])) ≡ (n + 1) * (n + 2)
+
+-- Whatever declarations decide is decided for every b by its own as by these spelled out, however many: the closed priorities, refusal 9, the conflicts, the flat
+-- grammar, the readings and what the chart counts. So what is stated above of a grammar is stated of it with each pair spelled out.
+pub record SpelledOut (b : List ℕ) (ls : List Declaration) : Type 0 where
+  pub higher : (x y : ℕ) → HigherIn ls x y ↔ Higher b x y
+  pub circle : circlesIn b ls ≡ circles b
+  pub conflict : (p i q : ℕ) → ConflictIn b ls p i q ↔ Conflict b p i q
+  pub flat : flatGrammarIn b ls ≡ flatGrammar b
+  pub reading : (w : List ℕ) (t : Tree) → ReadingIn b ls w t ↔ Reading b w t
+  pub entries : (w : List ℕ) (p d i j : ℕ) (f : Forest) → EntryListIn b ls w p d i j f ↔ EntryList b w p d i j f
+
+abbrev pub GroupsAreTheirPairs : Type 0
+GroupsAreTheirPairs = (b : List ℕ) → SpelledOut b (spelledOut (declarationsOf b))
+
+-- A declaration of two productions covers what it did before there were groups, and refusal 7 judges it as it did. (No other definition knows of kinds.)
+pub record AsBefore (b : List ℕ) (d : ℕ) : Type 0 where
+  pub covered : (k : Kind) (x y : ℕ)
+      → (covers (declarationOf b d) k x y ≡ true)
+      ↔ ((kind b d ≡ kindNumber k) × (((first b d ≡ x) × (second b d ≡ y)) ⊎ ((eitherWay k ≡ true) × (first b d ≡ y) × (second b d ≡ x))))
+  pub seven : badDeclaration b d ≡ inOrder
+      (refuseIf (outside 1 pairKindLimit (kind b d)) 7 (declarationAt b d)
+      ∷ refuseIf (leb (productions b) (first b d)) 7 (declarationAt b d + 1)
+      ∷ refuseIf (leb (productions b) (second b d)) 7 (declarationAt b d + 2)
+      ∷ [])
+
+abbrev pub PairsAsBefore : Type 0
+PairsAsBefore = (b : List ℕ) (d : ℕ) → isGroup (kind b d) ≡ false → AsBefore b d
 
 -- ---- The paper's marked cases: any outcome of reading each of them, whatever chart and buffer held, is the one marked.
 abbrev pub MarkedCases : Type 0
