@@ -10,8 +10,8 @@ extern "C" {
 #endif
 
 /*
- * Limits. A grammar (a "book") has at most 32 sorts, 64 rules of at most 8 arguments, 64 classes of at most 16 ranges, and 255 declarations; a text has at
- * most 200 bytes. What is over a limit is refused.
+ * Limits. A grammar (a "book") has at most 32 sorts, 64 rules of at most 8 arguments, 64 classes of at most 16 ranges, and 255 declarations, a group of rules
+ * counting as one; a text has at most 200 bytes. What is over a limit is refused.
  *
  * Areas. Each area is a pointer and a length in bytes. A `const` area is only read, and such areas may overlap one another; an area that is written must not
  * overlap any other. What it holds before a call doesn't matter. An area of length 0 may have any pointer, NULL too.
@@ -30,7 +30,7 @@ extern "C" {
  *   4    the book's length is not the one its counts call for. Place: the smaller of the two.
  *   5    a result or argument names nothing. Place: its byte.
  *   6    a range has its low end above its high end. Place: the byte of the low end.
- *   7    a declaration has no such kind or names no rule. Place: its byte.
+ *   7    a declaration has no such kind or names no rule, or a group's first rule is above its last. Place: its byte; for the group that of the first rule.
  *        For the conflict question also: there is no such rule or no such argument. Place: 0.
  *   8    two rules are equal. Place: the byte at which the later one starts.
  *   9    a rule is ranked above itself. Place: the rule, the lowest such.

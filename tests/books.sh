@@ -93,6 +93,13 @@ transcript() {
     try "start s" "s = 'a' 'b'" "class late 'b'"
     try "start s" "s = 'b' c" "class c 'z'-'a'"
 
+    echo '# groups'
+    try "start s" "a: s = 'a'" "s = s 'b' s" "c: s = 'c'" "left a..c" "right a .. c" "not-together a.. c" "left a ..a"
+    try "start s" "a: s = 'a'" "b: s = s 'b' s" "c: s = 'c'" "left a b, b..c, c c,a..a" "right b..c, a b" "not-together a..b,b..c" "higher a b"
+    try "start s" "a: s = 'a'" "b: s = 'b'" "c: s = 'c'" "left c..a" "right b..a, a..b" "not-together c .. b"
+    try "start s" "left: s = 'a'" "right: s = 'b'" "left left..right" "right left..left"
+    try "start s" "a-: s = 'a'" "_1: s = 'b'" "left a-.._1" "left _1.._1"
+
     echo '# wrong texts'
     try "s = 'a'"
     try "start s" "start s" "s ="
@@ -108,6 +115,28 @@ transcript() {
     try "start s" "a: s =" "left a"
     try "start s" "a: s =" "left a a a a"
     try "start s" "a: s =" "left a a,"
+    try "start s" "a: s =" "higher a a,"
+    try "start s" "a: s =" "left a.."
+    try "start s" "a: s =" "left ..a"
+    try "start s" "a: s =" "left .."
+    try "start s" "a: s =" "left a.a"
+    try "start s" "a: s =" "left a...a"
+    try "start s" "a: s =" "left a....a"
+    try "start s" "a: s =" "left a. .a"
+    try "start s" "a: s =" "left a a..a"
+    try "start s" "a: s =" "left a..a a"
+    try "start s" "a: s =" "left a..a..a"
+    try "start s" "a: s =" "left a..a,"
+    try "start s" "a: s =" "left a-a"
+    try "start s" "a: s =" "left a..'a'"
+    try "start s" "a: s =" "left 0..1"
+    try "start s" "a: s =" "right a..b"
+    try "start s" "a: s =" "not-together b..a"
+    try "start s" "a: s =" "higher a..a"
+    try "start s" "a: s =" "higher a a, a..a"
+    try "start s" "a..b: s ="
+    try "start s" "s = s..s"
+    try "start s" "class c 'a'..'z'" "s = c"
     try "start s" "a: s"
     try "start s" "a:"
     try "start s" "s = = s"
@@ -139,6 +168,11 @@ transcript() {
     try_many 1 "class c $(repeat 256 ' 7')"
     try_many 1 "left $(repeat 254 'a a, ') a a"
     try_many 1 "left $(repeat 255 'a a, ') a a"
+    try_many 1 "left $(repeat 254 'a..a, ') a..a"
+    try_many 1 "left $(repeat 255 'a..a, ') a..a"
+
+    echo '# groups shown'
+    show 1 2 0 5 0 0 0 1 0 0 0 5 0 1 6 1 1 7 1 0 2 0 1 4 1 0
 
     echo '# books that cannot be shown'
     show
@@ -150,8 +184,11 @@ transcript() {
     show 1 1 0 0 0 1 0 0
     show 1 1 0 0 0 0 0 1
     show 1 1 0 0 0 0 1 0 64
-    show 1 1 0 1 0 0 0 0 5 0 0
+    show 1 1 0 1 0 0 0 0 8 0 0
+    show 1 1 0 1 0 0 0 0 0 0 0
     show 1 1 0 1 0 0 0 0 1 0 1
+    show 1 1 0 1 0 0 0 0 5 0 1
+    show 1 1 0 1 0 0 0 0 7 1 0
     show 65 1 0 0 0 0 0 0
     "$tool" --show "$dir/missing" 2>&1 | sed "s|$dir/||"
     "$tool" --what 2>&1
@@ -167,6 +204,10 @@ transcript() {
     explain - 2 1 2 1 2 0 2 2 0 2 2 63 65 66 64 39 92 200 10 5 0 1 7
     explain 18 2 1 2 1 2 0 2 2 0 2 66 1 65 66 64 39 0 0 1
     explain 17 2 1 2 1 2 0 2 2 0 2 66 1 65 66 64 39 0 0 1
+    explain - 1 2 0 6 0 0 0 1 0 0 0 5 0 1 6 1 1 7 1 0 4 1 0 8 1 0 0 1 0
+    explain - 1 2 0 4 0 0 0 1 0 0 0 5 2 0 6 0 2 7 3 2 5 1
+    explain 11 1 2 0 1 0 0 0 1 0 0 0
+    explain 12 1 2 0 1 0 0 0 1 0 0 0 5
     explain 255 255 255 255 255 255 255
     explain x 1 1 0 0 0 0 0 0
     explain -1 1 1 0 0 0 0 0 0

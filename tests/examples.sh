@@ -71,6 +71,19 @@ trees() {
     run viewer --flat T.book
 }
 
+# T with one group for its declarations: left, right and not together. And the going train, whose nine signs are one group.
+groups() {
+    echo '# groups'
+    for kind in 5 6 7; do
+        bytes 1 3 3 1 0 0 1 3 3 1 1 1 0 64 0 0 65 0 0 0 66 0 48 57 42 42 47 47 $kind 1 2 > g.book
+        echo "T with $kind 1 2 alone"
+        run viewer --flat g.book
+        run viewer g.book '8/4*2'
+    done
+    "$tool" --names going.names "$here/books/going.txt" going.book
+    run viewer --names going.names going.book '9:8-6/7^2'
+}
+
 # One, none and several; empty parts in the middle; bytes from 32 to 126 and others; 54 bytes of a text and more; what has too many numbers.
 pages() {
     echo '# pages'
@@ -129,9 +142,12 @@ refusals() {
     refused 1 3 3 3 0 0 1 3 3 1 1 1 0 64 0 0 65 5 0 0 66 0 48 57 42 42 47 47 2 1 1 2 2 2 2 1 2
     refused 1 3 3 3 0 0 1 3 3 1 1 1 0 64 0 0 67 0 0 0 66 0 48 57 42 42 47 47 2 1 1 2 2 2 2 1 2
     refused 1 3 3 3 0 0 1 3 3 1 1 1 0 64 0 0 65 0 0 0 66 0 48 57 42 42 48 47 2 1 1 2 2 2 2 1 2
-    refused 1 3 3 3 0 0 1 3 3 1 1 1 0 64 0 0 65 0 0 0 66 0 48 57 42 42 47 47 5 1 1 2 2 2 2 1 2
+    refused 1 3 3 3 0 0 1 3 3 1 1 1 0 64 0 0 65 0 0 0 66 0 48 57 42 42 47 47 8 1 1 2 2 2 2 1 2
     refused 1 3 3 3 0 0 1 3 3 1 1 1 0 64 0 0 65 0 0 0 66 0 48 57 42 42 47 47 2 1 1 2 3 2 2 1 2
     refused 1 3 3 3 0 0 1 3 3 1 1 1 0 64 0 0 65 0 0 0 66 0 48 57 42 42 47 47 2 1 1 2 2 2 2 1 255
+    refused 1 3 3 3 0 0 1 3 3 1 1 1 0 64 0 0 65 0 0 0 66 0 48 57 42 42 47 47 5 1 2 6 2 1 7 1 2
+    refused 1 3 3 3 0 0 1 3 3 1 1 1 0 64 0 0 65 0 0 0 66 0 48 57 42 42 47 47 5 1 2 6 1 2 7 3 2
+    refused 1 3 3 3 0 0 1 3 3 1 1 1 0 64 0 0 65 0 0 0 66 0 48 57 42 42 47 47 5 1 2 6 1 2 7 2 3
     refused 1 3 3 3 0 0 1 3 3 1 1 1 0 64 0 0 65 0 0 0 65 0 48 57 42 42 47 47 2 1 1 2 2 2 2 1 2
     refused 1 3 3 2 0 0 1 3 3 1 1 1 0 64 0 0 65 0 0 0 66 0 48 57 42 42 47 47 1 1 2 1 2 1
     run viewer --names T.names b 8
@@ -162,6 +178,7 @@ books() {
     for line in '8/4*2' 88 8/; do answer T "$line"; done
     for line in '12+(3*4-5)/6*7' 12+ ')3('; do answer arithmetic "$line"; done
     for line in '64:8*60:8/2' '(96:12*(60:10))/30' 64: 08:8; do answer gears "$line"; done
+    for line in '96:8-64:8-60:8-30^2' '144=96/100>64:8' 96: 96::8 60/62/64 60/62~64; do answer going "$line"; done
     for line in '[]' '[arbor]' '[arbor,[pin,[]],wheel]' '[arbor,]' arbor; do answer lists "$line"; done
     for line in 3 -12.5m +7s .5 '' '~k' '12!' '!' 1.2.3 '~'; do answer loops "$line"; done
     for line in a aa aaa '' b; do answer pairs "$line"; done
@@ -171,7 +188,7 @@ books() {
     for line in 'wheel pinion arbor turn' strike wheels 'wheel  pinion'; do answer words "$line"; done
     for line in abba abbba '' ab; do answer palindromes "$line"; done
     for line in 1a2b3 1z2a3 1a ab; do answer priorities "$line"; done
-    for book in ladder dense dense_unique chain power power_loop; do
+    for book in ladder dense dense_unique chain power power_loop groups; do
         for line in '' aaa; do answer $book "$line"; done
     done
 }
@@ -197,6 +214,7 @@ everything() {
     : > empty
     "$tool" --names T.names "$here/books/T.txt" T.book
     trees
+    groups
     pages
     lengths
     refusals

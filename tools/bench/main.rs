@@ -120,13 +120,12 @@ fn worst(folder: &str) {
 // Checking the book, closing its ranks, the flat tables and the answer: what an empty text costs.
 fn fixed_cost(folder: &str) {
     println!("\nfixed cost: an empty text");
-    for name in ["pairs", "arithmetic", "ladder", "words", "dense", "limits"] {
+    for name in ["pairs", "arithmetic", "ladder", "words", "dense", "limits", "groups"] {
         let book = book(folder, name);
         let mut buffers = Buffers::for_text(&book, 0);
-        let time = best(|| {
-            library(&book, &[], &mut buffers);
-        });
-        println!("{name:<12} {:>3} rules {:>9.1} microseconds", book[1], time * 1e3);
+        let mut number = 0;
+        let time = best(|| number = library(&book, &[], &mut buffers));
+        println!("{name:<12} {:>3} rules {:>9.1} microseconds  {}", book[1], time * 1e3, answer(number));
     }
 }
 

@@ -29,20 +29,36 @@ struct Ranks {
     at_last: Vec<u64>,
 }
 
+// Kinds from 5 on say of a group what the kinds 3 below them say of two rules.
+const FIRST_GROUP: u8 = 5;
+const GROUP_STEP: u8 = 3;
+
+impl Ranks {
+    fn declare(&mut self, kind: u8, rule: usize, others: u64) {
+        match kind {
+            1 => self.higher[rule] |= others,
+            2 => self.at_last[rule] |= others,
+            3 => self.at_first[rule] |= others,
+            _ => {
+                self.at_first[rule] |= others;
+                self.at_last[rule] |= others;
+            }
+        }
+    }
+}
+
 fn ranks(declarations: &[u8], rules: usize) -> Ranks {
     let mut ranks = Ranks { higher: vec![0; rules], at_first: vec![0; rules], at_last: vec![0; rules] };
     for d in declarations.chunks(3) {
-        let (a, b) = (d[1] as usize, d[2] as usize);
-        for (x, y) in [(a, b), (b, a)] {
-            match d[0] {
-                1 => ranks.higher[a] |= 1 << b,
-                2 => ranks.at_last[x] |= 1 << y,
-                3 => ranks.at_first[x] |= 1 << y,
-                _ => {
-                    ranks.at_first[x] |= 1 << y;
-                    ranks.at_last[x] |= 1 << y;
-                }
-            }
+        let (kind, a, b) = (d[0], d[1] as usize, d[2] as usize);
+        if kind >= FIRST_GROUP {
+            let group = (a..=b).fold(0, |bits, rule| bits | 1 << rule);
+            (a..=b).for_each(|rule| ranks.declare(kind - GROUP_STEP, rule, group));
+            continue;
+        }
+        ranks.declare(kind, a, 1 << b);
+        if kind != 1 {
+            ranks.declare(kind, b, 1 << a);
         }
     }
     for middle in 0..rules {

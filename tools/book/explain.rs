@@ -1,6 +1,6 @@
 //! What stands at each byte of a book, whether it is accepted or not.
 
-use crate::grammar::{DECLARATION, FIRST_CLASS, HEADER, KINDS};
+use crate::grammar::{kind, Reach, DECLARATION, FIRST_CLASS, HEADER};
 use crate::tokens::character;
 
 // Their limits, as those below, are the library's.
@@ -26,9 +26,11 @@ enum Part {
     Kind(usize),
     First(usize),
     Second(usize),
+    GroupFirst(usize),
+    GroupLast(usize),
 }
 
-use Part::{Argument, ArgumentCount, First, Header, High, Kind, Low, RangeCount, RuleResult, Second};
+use Part::{Argument, ArgumentCount, First, GroupFirst, GroupLast, Header, High, Kind, Low, RangeCount, RuleResult, Second};
 
 // The parts of a book in order, as its counts call for them; as far as there are counts.
 fn parts(bytes: &[u8]) -> Vec<Part> {
@@ -49,8 +51,26 @@ fn parts(bytes: &[u8]) -> Vec<Part> {
     for (class, count) in of_classes.iter().enumerate() {
         parts.extend((0..*count as usize).flat_map(|index| [Low(class, index), High(class, index)]));
     }
-    parts.extend((0..declarations as usize).flat_map(|d| -> [Part; DECLARATION] { [Kind(d), First(d), Second(d)] }));
+    for d in 0..declarations as usize {
+        parts.extend(declaration(d, bytes.get(parts.len())));
+    }
     parts
+}
+
+// The parts of declaration d, by the byte of its kind, if that is there.
+fn declaration(d: usize, byte: Option<&u8>) -> [Part; DECLARATION] {
+    match byte.and_then(|byte| kind(*byte)) {
+        Some((_, Reach::Group)) => [Kind(d), GroupFirst(d), GroupLast(d)],
+        _ => [Kind(d), First(d), Second(d)],
+    }
+}
+
+fn kind_words(byte: u8) -> String {
+    match kind(byte) {
+        Some((word, Reach::Pair)) => word.into(),
+        Some((word, Reach::Group)) => format!("{word}, of a group"),
+        None => "no kind".into(),
+    }
 }
 
 impl Part {
@@ -66,6 +86,8 @@ impl Part {
             Kind(d) => format!("the kind of declaration {d}"),
             First(d) => format!("the first rule of declaration {d}"),
             Second(d) => format!("the second rule of declaration {d}"),
+            GroupFirst(d) => format!("the first rule of the group of declaration {d}"),
+            GroupLast(d) => format!("the last rule of the group of declaration {d}"),
         }
     }
 
@@ -77,14 +99,17 @@ impl Part {
             false => format!("{what} {number}, and there is none"),
         };
         let end = || character(value as u8);
+        let rule = || named("rule", value, bytes[1]);
+        let falls = bytes.get(place + 1).is_some_and(|next| (*next as usize) < value);
         match self {
             Header(4) | RuleResult(_) => Some(named("sort", value, bytes[0])),
             Argument(..) if value >= FIRST_CLASS => Some(named("class", value - FIRST_CLASS, bytes[2])),
             Argument(..) => Some(named("sort", value, bytes[0])),
-            Low(..) if bytes.get(place + 1).is_some_and(|high| (*high as usize) < value) => Some(format!("{}, above its high end", end())),
+            Low(..) if falls => Some(format!("{}, above its high end", end())),
             Low(..) | High(..) => Some(end()),
-            Kind(_) => Some(value.checked_sub(1).and_then(|k| KINDS.get(k)).map_or("no kind".into(), |kind| kind.to_string())),
-            First(_) | Second(_) => Some(named("rule", value, bytes[1])),
+            Kind(_) => Some(kind_words(value as u8)),
+            GroupFirst(_) if falls && value < bytes[1] as usize => Some(format!("{}, above the last", rule())),
+            First(_) | Second(_) | GroupFirst(_) | GroupLast(_) => Some(rule()),
             _ => None,
         }
     }

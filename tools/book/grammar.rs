@@ -10,8 +10,26 @@ pub const FIRST_CLASS: usize = 64;
 pub const CLASSES_MOST: usize = BYTE_MOST + 1 - FIRST_CLASS;
 // The number of rule 0.
 pub const FIRST_RULE: usize = 258;
-// The words for kinds 1 to 4.
-pub const KINDS: [&str; 4] = ["higher", "left", "right", "not-together"];
+
+// Of what a declaration speaks: of its two rules, or of every two rules from its first to its second.
+#[derive(Clone, Copy, PartialEq)]
+pub enum Reach {
+    Pair,
+    Group,
+}
+
+use Reach::{Group, Pair};
+
+const LEFT: &str = "left";
+const RIGHT: &str = "right";
+const APART: &str = "not-together";
+// The words for kinds 1 to 7, and of what they speak.
+pub const KINDS: [(&str, Reach); 7] = [("higher", Pair), (LEFT, Pair), (RIGHT, Pair), (APART, Pair), (LEFT, Group), (RIGHT, Group), (APART, Group)];
+
+// What a kind byte says, if it is one.
+pub fn kind(byte: u8) -> Option<(&'static str, Reach)> {
+    KINDS.get((byte as usize).checked_sub(1)?).copied()
+}
 
 pub type Range = (u8, u8);
 
@@ -66,7 +84,7 @@ pub fn decode(bytes: &[u8]) -> Result<Grammar, String> {
     if let Some(r) = productions.iter().position(|(result, arguments)| *result >= sorts || !arguments.iter().all(|a| known(*a))) {
         return Err(format!("rule {r}, counted from 0, names something that isn't there"));
     }
-    let sound = |p: &[u8; DECLARATION]| (1..=KINDS.len()).contains(&(p[0] as usize)) && p[1].max(p[2]) < bytes[1];
+    let sound = |p: &[u8; DECLARATION]| kind(p[0]).is_some() && p[1].max(p[2]) < bytes[1];
     if let Some(d) = priorities.iter().position(|p| !sound(p)) {
         return Err(format!("declaration {d}, counted from 0, has no such kind or no such rule"));
     }

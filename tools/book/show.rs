@@ -1,7 +1,7 @@
 //! A grammar as text, with names of its own making.
 
-use crate::grammar::{Grammar, Range, FIRST_CLASS, FIRST_RULE, KINDS};
-use crate::tokens::character;
+use crate::grammar::{Grammar, Range, Reach, DECLARATION, FIRST_CLASS, FIRST_RULE, KINDS};
+use crate::tokens::{character, DOTS};
 use std::fmt::Write as _;
 
 fn show_range((low, high): &Range) -> String {
@@ -22,6 +22,14 @@ fn show_argument(grammar: &Grammar, argument: u8) -> String {
     }
 }
 
+fn show_priority([kind, first, second]: &[u8; DECLARATION]) -> String {
+    let (word, reach) = KINDS[*kind as usize - 1];
+    match reach {
+        Reach::Pair => format!("{word} r{first} r{second}"),
+        Reach::Group => format!("{word} r{first}{DOTS}r{second}"),
+    }
+}
+
 pub fn show(grammar: &Grammar) -> String {
     let row = |words: &mut dyn Iterator<Item = String>| words.map(|word| format!(" {word}")).collect::<String>();
     let mut out = String::from("# Rule rN has the number 258 + N, class cN is 64 + N in an argument, and sort sN is N.\n");
@@ -36,8 +44,8 @@ pub fn show(grammar: &Grammar) -> String {
     for (n, (result, arguments)) in grammar.productions.iter().enumerate() {
         let _ = writeln!(out, "r{n}: s{result} ={}", row(&mut arguments.iter().map(|a| show_argument(grammar, *a))));
     }
-    for [kind, first, second] in &grammar.priorities {
-        let _ = writeln!(out, "{} r{first} r{second}", KINDS[*kind as usize - 1]);
+    for priority in &grammar.priorities {
+        let _ = writeln!(out, "{}", show_priority(priority));
     }
     out
 }

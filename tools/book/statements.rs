@@ -1,10 +1,10 @@
 //! The statements of a text.
 
-use crate::grammar::{limit, Range, BYTE_MOST, CLASSES_MOST, FIRST_CLASS, KINDS};
+use crate::grammar::{limit, Range, Reach, BYTE_MOST, CLASSES_MOST, FIRST_CLASS, KINDS};
 use crate::tokens::Token::{self, Character, Mark, Name, Text};
-use crate::tokens::tokens;
+use crate::tokens::{tokens, COLON, COMMA, DASH, DOTS, EQUALS};
 
-const RULE_FORM: &str = "a rule is NAME: SORT = ARGUMENT ..";
+const RULE_FORM: &str = "a rule is NAME: SORT = ARGUMENT ...";
 
 pub struct Named {
     pub name: String,
@@ -67,15 +67,13 @@ impl Source {
     fn statement(&mut self, words: &[Token]) -> Result<(), String> {
         match words {
             [] => Ok(()),
-            [Name(label), Mark(b':'), rest @ ..] => self.add_production(label, rest),
-            [Name(_), Mark(b'='), ..] => self.add_production("", words),
+            [Name(label), Mark(COLON), rest @ ..] => self.add_production(label, rest),
+            [Name(_), Mark(EQUALS), ..] => self.add_production("", words),
             [Name(word), rest @ ..] if word == "start" => self.add_start(rest),
             [Name(word), rest @ ..] if word == "sorts" => self.add_sorts(rest),
             [Name(word), rest @ ..] if word == "class" => self.add_class(rest),
-            [Name(word), rest @ ..] => match KINDS.iter().position(|kind| kind == word) {
-                Some(index) => self.add_priorities(index as u8 + 1, rest),
-                None => Err(format!("`{word}` starts no statement; {RULE_FORM}")),
-            },
+            [Name(word), rest @ ..] if KINDS.iter().any(|(own, _)| own == word) => self.add_priorities(word, rest),
+            [Name(word), ..] => Err(format!("`{word}` starts no statement; {RULE_FORM}")),
             _ => Err("a statement starts with a name".into()),
         }
     }
@@ -122,7 +120,7 @@ impl Source {
     }
 
     fn add_production(&mut self, label: &str, words: &[Token]) -> Result<(), String> {
-        let [Name(result), Mark(b'='), rest @ ..] = words else {
+        let [Name(result), Mark(EQUALS), rest @ ..] = words else {
             return Err(RULE_FORM.into());
         };
         if !label.is_empty() {
@@ -134,14 +132,32 @@ impl Source {
         limit(self.productions.len(), BYTE_MOST, "rules")
     }
 
-    fn add_priorities(&mut self, kind: u8, words: &[Token]) -> Result<(), String> {
-        for pair in words.split(|word| *word == Mark(b',')) {
-            let [Name(first), Name(second)] = pair else {
-                return Err(format!("`{}` takes pairs of rules, with commas between the pairs", KINDS[kind as usize - 1]));
+    fn add_priorities(&mut self, word: &str, items: &[Token]) -> Result<(), String> {
+        for item in items.split(|token| *token == Mark(COMMA)) {
+            let Some((kind, first, second)) = priority(word, item) else {
+                return Err(priority_form(word));
             };
-            self.priorities.push(Priority { kind, line: self.line, first: first.clone(), second: second.clone() });
+            self.priorities.push(Priority { kind, line: self.line, first: first.into(), second: second.into() });
         }
         limit(self.priorities.len(), BYTE_MOST, "declarations")
+    }
+}
+
+// The kind and the rules of a pair or a group behind a word, if the word takes it.
+fn priority<'a>(word: &str, item: &'a [Token]) -> Option<(u8, &'a str, &'a str)> {
+    let (reach, first, second) = match item {
+        [Name(first), Name(second)] => (Reach::Pair, first, second),
+        [Name(first), Mark(DOTS), Name(second)] => (Reach::Group, first, second),
+        _ => return None,
+    };
+    let index = KINDS.iter().position(|kind| *kind == (word, reach))?;
+    Some((index as u8 + 1, first, second))
+}
+
+fn priority_form(word: &str) -> String {
+    match KINDS.contains(&(word, Reach::Group)) {
+        true => format!("`{word}` takes pairs of rules, A B, and groups, A{DOTS}B, with commas between them"),
+        false => format!("`{word}` takes pairs of rules, A B, with commas between them, and no groups"),
     }
 }
 
@@ -156,7 +172,7 @@ fn ranges(words: &[Token]) -> Result<Vec<Range>, String> {
     let (mut rest, mut out) = (words, Vec::new());
     while !rest.is_empty() {
         match rest {
-            [Character(low), Mark(b'-'), Character(high), behind @ ..] => {
+            [Character(low), Mark(DASH), Character(high), behind @ ..] => {
                 out.push((*low, *high));
                 rest = behind;
             }
@@ -177,7 +193,7 @@ fn arguments(words: &[Token]) -> Result<Vec<Argument>, String> {
             Name(name) => out.push(Argument::Named(name.clone())),
             Character(c) => out.push(Argument::Character(*c)),
             Text(text) => out.extend(text.iter().map(|c| Argument::Character(*c))),
-            Mark(c) => return Err(format!("`{}` is no argument", *c as char)),
+            Mark(mark) => return Err(format!("`{mark}` is no argument")),
         }
     }
     Ok(out)

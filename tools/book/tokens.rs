@@ -2,12 +2,20 @@
 
 use crate::grammar::BYTE_MOST;
 
+pub const COLON: &str = ":";
+pub const EQUALS: &str = "=";
+pub const COMMA: &str = ",";
+pub const DASH: &str = "-";
+// Between the first and the last rule of a group.
+pub const DOTS: &str = "..";
+const MARKS: [&str; 5] = [COLON, EQUALS, COMMA, DASH, DOTS];
+
 #[derive(PartialEq)]
 pub enum Token {
     Name(String),
     Character(u8),
     Text(Vec<u8>),
-    Mark(u8),
+    Mark(&'static str),
 }
 
 use Token::{Character, Mark, Name, Text};
@@ -29,10 +37,16 @@ fn first_token(text: &[u8]) -> Result<(Token, &[u8]), String> {
             (inner, rest) if inner.len() == 1 => Ok((Character(inner[0]), rest)),
             (inner, _) => Err(format!("{} characters between single quotes, where one belongs", inner.len())),
         },
-        b':' | b'=' | b',' | b'-' => Ok((Mark(text[0]), &text[1..])),
         c if c.is_ascii_digit() => code(text),
         c if c.is_ascii_alphabetic() || c == b'_' => Ok(name(text)),
-        c => Err(format!("{} has no meaning outside quotes", character(c))),
+        _ => mark(text),
+    }
+}
+
+fn mark(text: &[u8]) -> Result<(Token, &[u8]), String> {
+    match MARKS.iter().find(|mark| text.starts_with(mark.as_bytes())) {
+        Some(mark) => Ok((Mark(mark), &text[mark.len()..])),
+        None => Err(format!("{} has no meaning outside quotes", character(text[0]))),
     }
 }
 
