@@ -1,4 +1,5 @@
-//! Reading a book's bytes by document 01, with the number and place of the first refusal in 01's order.
+//! Reading a book's bytes by document 01 and request [2] of 02, with the number and place of the first refusal in 01's
+//! order.
 
 use crate::ranks::Ranks;
 use std::collections::HashSet;
@@ -23,11 +24,18 @@ pub struct Rule {
     pub arguments: Vec<Argument>,
 }
 
-#[derive(Clone, Copy)]
+/// Kinds 1 to 4 are of two rules, kinds 5 to 7 of all rules from the first to the second.
+#[derive(Clone, Copy, PartialEq, Eq, Debug)]
 pub struct Declaration {
     pub kind: u8,
     pub first: usize,
     pub second: usize,
+}
+
+impl Declaration {
+    pub fn is_group(&self) -> bool {
+        (5..=7).contains(&self.kind)
+    }
 }
 
 pub struct Book {
@@ -35,6 +43,8 @@ pub struct Book {
     pub rules: Vec<Rule>,
     /// For each class, which bytes are in it.
     pub classes: Vec<[bool; 256]>,
+    /// As they stand in the bytes, groups and all.
+    pub declarations: Vec<Declaration>,
     pub ranks: Ranks,
 }
 
@@ -137,8 +147,9 @@ fn class(bytes: &[u8], at: usize, count: usize) -> Result<[bool; 256], Refusal> 
     Ok(set)
 }
 
+/// Kind, first and second rule as they come; the two rules of a group are compared when both are rules.
 fn declaration(bytes: &[u8], at: usize, head: &Header) -> Result<Declaration, Refusal> {
-    if !(1..=4).contains(&bytes[at]) {
+    if !(1..=7).contains(&bytes[at]) {
         return refuse(7, at);
     }
     for place in [at + 1, at + 2] {
@@ -146,7 +157,11 @@ fn declaration(bytes: &[u8], at: usize, head: &Header) -> Result<Declaration, Re
             return refuse(7, place);
         }
     }
-    Ok(Declaration { kind: bytes[at], first: bytes[at + 1] as usize, second: bytes[at + 2] as usize })
+    let found = Declaration { kind: bytes[at], first: bytes[at + 1] as usize, second: bytes[at + 2] as usize };
+    if found.is_group() && found.first > found.second {
+        return refuse(7, at + 1);
+    }
+    Ok(found)
 }
 
 /// Refusal 8: the first rule whose bytes an earlier rule has already.
@@ -184,7 +199,7 @@ pub fn read_book(bytes: &[u8]) -> Result<Book, Refusal> {
     if let Some(lowest) = ranks.circle() {
         return refuse(9, lowest);
     }
-    Ok(Book { start: head.start, rules, classes, ranks })
+    Ok(Book { start: head.start, rules, classes, declarations, ranks })
 }
 
 impl Book {

@@ -30,6 +30,8 @@ fn telling_byte(dice: &mut Dice, book: &[u8], old: u8) -> u8 {
         9,
         17,
         5,
+        7,
+        8,
         dice.byte(),
     ];
     dice.pick(&choices)
@@ -51,9 +53,18 @@ fn telling_place(dice: &mut Dice, book: &[u8]) -> usize {
     place.min(book.len() - 1)
 }
 
-/// Changes one byte, cuts, or lengthens.
+/// Swaps the two rules of a declaration, so that a group falls.
+fn turn_round(dice: &mut Dice, book: &mut [u8]) {
+    let count = book.get(3).map_or(0, |&d| d as usize).min(book.len() / 3);
+    if count > 0 {
+        let at = book.len() - 3 * dice.between(1, count);
+        book.swap(at + 1, at + 2);
+    }
+}
+
+/// Changes one byte, cuts, lengthens, or turns a declaration round.
 fn damage(dice: &mut Dice, book: &mut Vec<u8>) {
-    match dice.below(10) {
+    match dice.below(11) {
         0 => {
             let length = dice.below(book.len() + 1);
             book.truncate(length);
@@ -71,6 +82,7 @@ fn damage(dice: &mut Dice, book: &mut Vec<u8>) {
                 book.push(dice.byte() % 8);
             }
         }
+        4 => turn_round(dice, book),
         _ if book.is_empty() => book.push(1),
         _ => {
             let at = telling_place(dice, book);

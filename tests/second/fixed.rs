@@ -1,9 +1,10 @@
 //! Cases worked by hand: the marked cases (a) to (k) of document 01 with the paper's own answers, more of the same kind,
-//! and every one-byte damage of book T.
+//! and every one-byte damage of book T, with groups and without.
 
 use crate::book::Refusal;
 use crate::cases::Case;
 use crate::compare::{read_with, Mismatch};
+use crate::groups::same_answers;
 use crate::others;
 use crate::plans::{tower, Plan};
 use crate::prng::Dice;
@@ -22,21 +23,21 @@ pub fn book_t(declarations: &[[u8; 3]]) -> Vec<u8> {
 pub const T: [[u8; 3]; 3] = [[2, 1, 1], [2, 2, 2], [2, 1, 2]];
 
 /// A book, a text, and the answer by hand: a verdict, the only listing, or a refusal.
-enum Hand {
+pub enum Hand {
     None,
     One(&'static [u16]),
     Several,
     Refused(u64, u64),
 }
 
-struct Worked {
+pub struct Worked {
     name: &'static str,
     book: Vec<u8>,
     text: &'static [u8],
     hand: Hand,
 }
 
-fn worked(name: &'static str, book: Vec<u8>, text: &'static [u8], hand: Hand) -> Worked {
+pub fn worked(name: &'static str, book: Vec<u8>, text: &'static [u8], hand: Hand) -> Worked {
     Worked { name, book, text, hand }
 }
 
@@ -58,13 +59,13 @@ fn marked() -> Vec<Worked> {
 }
 
 /// Two sorts A and B: A -> B, B -> A, A -> [8], with these declarations.
-fn see_saw(declarations: &[[u8; 3]]) -> Vec<u8> {
+pub fn see_saw(declarations: &[[u8; 3]]) -> Vec<u8> {
     let rules = vec![(0, vec![1]), (1, vec![0]), (0, vec![64])];
     Plan { sorts: 2, start: 0, rules, classes: vec![vec![(56, 56)]], declarations: declarations.to_vec() }.bytes()
 }
 
 /// Digits, and one more shape over 8, + ( and ).
-fn shape(arguments: &[u8], declarations: &[[u8; 3]]) -> Vec<u8> {
+pub fn shape(arguments: &[u8], declarations: &[[u8; 3]]) -> Vec<u8> {
     let classes = vec![vec![(56, 56)], vec![(43, 43)], vec![(40, 40)], vec![(41, 41)]];
     let rules = vec![(0, vec![64]), (0, arguments.to_vec())];
     Plan { sorts: 1, start: 0, rules, classes, declarations: declarations.to_vec() }.bytes()
@@ -92,6 +93,17 @@ fn more() -> Vec<Worked> {
     ]
 }
 
+/// The answers of this program against those by hand, and the library's against them.
+pub fn all_by_hand(cases: &[Worked], dice: &mut Dice, tally: &mut Tally) -> Result<(), Mismatch> {
+    for case in cases {
+        by_hand(case, dice, tally).map_err(|mut wrong| {
+            wrong.call = format!("worked case {}: {}", case.name, wrong.call);
+            wrong
+        })?;
+    }
+    Ok(())
+}
+
 fn by_hand(case: &Worked, dice: &mut Dice, tally: &mut Tally) -> Result<(), Mismatch> {
     let study = Study::new(&case.book, case.text);
     let (chart, listing) = (dice.garbage(study.need + 7), dice.garbage(99));
@@ -107,18 +119,19 @@ fn by_hand(case: &Worked, dice: &mut Dice, tally: &mut Tally) -> Result<(), Mism
         _ => true,
     };
     if own.answer != answer || !right_listing {
-        let call = format!("worked case {} (this program against the paper)", case.name);
+        let call = "this program against the paper".into();
         return Err(Mismatch { call, expected: format!("{answer:?}"), found: format!("{:?}", own.answer), lent: vec![] });
     }
     tally.add("fixed", "worked by hand");
-    crate::crosscheck::both_methods(&study, tally)?;
     whole_case(&case.book, case.text, dice, tally)
 }
 
 /// Everything that a random case is compared by.
 fn whole_case(book: &[u8], text: &[u8], dice: &mut Dice, tally: &mut Tally) -> Result<(), Mismatch> {
     let case = Case { book: book.to_vec(), text: text.to_vec(), listing: vec![258] };
-    crate::all_calls(&case, dice, tally)
+    let study = Study::new(book, text);
+    crate::all_calls(&case, &study, dice, tally)?;
+    same_answers(book, &study, "fixed, spelled", dice, tally)
 }
 
 /// (k), and listing buffers of every small size.
@@ -201,19 +214,18 @@ fn deepest(dice: &mut Dice, tally: &mut Tally) -> Result<(), Mismatch> {
     whole_case(&book, &text, dice, tally)
 }
 
-/// T with each byte at each value, cut at each length, one byte longer, and with two bytes changed at once (which of two
-/// refusals comes first).
-fn damaged(dice: &mut Dice, tally: &mut Tally) -> Result<(), Mismatch> {
-    let good = book_t(&[[2, 1, 1], [1, 1, 2]]);
+/// A book with each byte at each value, cut at each length, one byte longer, and with two bytes changed at once (which of
+/// two refusals comes first).
+fn damaged(good: &[u8], dice: &mut Dice, tally: &mut Tally) -> Result<(), Mismatch> {
     let changed = |book: &[u8], at: usize, value: u8| [&book[..at], &[value], &book[at + 1..]].concat();
-    let telling = [0, 1, 2, 5, 9, 65, 255];
+    let telling = [0, 1, 2, 5, 8, 9, 65, 255];
     let mut books: Vec<Vec<u8>> = (0..good.len()).map(|cut| good[..cut].to_vec()).collect();
-    books.push([&good[..], &[0]].concat());
+    books.push([good, &[0]].concat());
     for first in 0..good.len() {
-        books.extend((0..=255).map(|value| changed(&good, first, value)));
+        books.extend((0..=255).map(|value| changed(good, first, value)));
         for second in first + 1..good.len() {
             for (a, b) in telling.iter().flat_map(|&a| telling.map(|b| (a, b))) {
-                books.push(changed(&changed(&good, first, a), second, b));
+                books.push(changed(&changed(good, first, a), second, b));
             }
         }
     }
@@ -252,16 +264,15 @@ fn flat_texts(dice: &mut Dice, tally: &mut Tally) -> Result<(), Mismatch> {
 
 pub fn run(tally: &mut Tally) -> Result<(), Mismatch> {
     let mut dice = Dice::new(0);
-    for case in marked().iter().chain(&more()) {
-        by_hand(case, &mut dice, tally).map_err(|mut wrong| {
-            wrong.call = format!("worked case {}: {}", case.name, wrong.call);
-            wrong
-        })?;
-    }
+    all_by_hand(&marked(), &mut dice, tally)?;
+    all_by_hand(&more(), &mut dice, tally)?;
     buffers(&mut dice, tally)?;
     flat_texts(&mut dice, tally)?;
     long_listings(&mut dice, tally)?;
     long_texts(&mut dice, tally)?;
     crate::fixed_pages::run(&mut dice, tally)?;
-    damaged(&mut dice, tally)
+    crate::fixed_groups::run(&mut dice, tally)?;
+    crate::fixed_clashes::run(&mut dice, tally)?;
+    damaged(&book_t(&[[2, 1, 1], [1, 1, 2]]), &mut dice, tally)?;
+    damaged(&book_t(&[[5, 1, 2], [7, 2, 2]]), &mut dice, tally)
 }

@@ -4,7 +4,8 @@
 //! and of the listing buffer (those that must be written and those that must stay), that book and text and the bytes
 //! around every lent area are untouched; and so for the book check, clash questions, the flat
 //! book with its buffer, and right, cut, changed and random listings: their check, their page for the binder with its
-//! buffer, and the part of the text under a number.
+//! buffer, and the part of the text under a number. A book with groups is also compared with the book that has each pair
+//! spelled out, if that has no more than 255 declarations.
 //!
 //! The proved parser fills a chart by columns with counts that stop at 2. This program has neither a column nor a chart
 //! that is filled in order. It has two other methods, checked against each other on all small cases:
@@ -30,8 +31,12 @@ mod compare;
 mod counter;
 mod crosscheck;
 mod fixed;
+mod fixed_clashes;
+mod fixed_groups;
 mod fixed_pages;
 mod flat;
+mod group_plans;
+mod groups;
 mod library;
 mod listing;
 mod loops;
@@ -56,15 +61,23 @@ use std::process::exit;
 use tally::Tally;
 
 /// One case through both methods and through every call that is linked.
-pub fn all_calls(case: &Case, dice: &mut Dice, tally: &mut Tally) -> Result<(), Mismatch> {
-    let study = Study::new(&case.book, &case.text);
-    tally.note_sizes(case, &study);
-    crosscheck::both_methods(&study, tally)?;
-    compare::reading(&case.book, &study, dice, tally)?;
+pub fn all_calls(case: &Case, study: &Study, dice: &mut Dice, tally: &mut Tally) -> Result<(), Mismatch> {
+    tally.note_sizes(case, study);
+    crosscheck::both_methods(study, tally)?;
+    compare::reading(&case.book, study, dice, tally)?;
     others::check(&case.book, &study.book, dice, tally)?;
     others::conflicts(&case.book, &study.book, dice, tally)?;
     others::flat(&case.book, &study.book, dice, tally)?;
-    tries::listings(case, &study, dice, tally)
+    tries::listings(case, study, dice, tally)
+}
+
+/// One random case, and its book with the groups spelled out. Groups are counted here alone, so that random books must have
+/// them whatever the fixed ones have.
+fn random_case(case: &Case, dice: &mut Dice, tally: &mut Tally) -> Result<(), Mismatch> {
+    let study = Study::new(&case.book, &case.text);
+    groups::note(&case.book, &study.book, tally);
+    all_calls(case, &study, dice, tally)?;
+    groups::same_answers(&case.book, &study, "spelled out", dice, tally)
 }
 
 fn decimals(bytes: &[u8]) -> String {
@@ -112,7 +125,7 @@ fn main() {
         }
         let mut dice = Dice::new(own_seed);
         let case = cases::make(&mut dice);
-        if let Err(wrong) = all_calls(&case, &mut dice, &mut tally) {
+        if let Err(wrong) = random_case(&case, &mut dice, &mut tally) {
             report(&wrong, Some(own_seed), Some(&case));
         }
     }

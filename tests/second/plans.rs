@@ -1,6 +1,7 @@
-//! Random books, biased to trouble: loops, rules that vanish, unit chains, all kinds of ranks on one pair, and each limit
-//! from both sides.
+//! Random books, biased to trouble: loops, rules that vanish, unit chains, all kinds of ranks on one pair, groups, and each
+//! limit from both sides.
 
+use crate::group_plans::{only_groups, perhaps_groups};
 use crate::prng::Dice;
 
 /// A book before it is bytes. Nothing here is checked: plans may break every limit.
@@ -96,12 +97,13 @@ fn one_pair(dice: &mut Dice, rules: usize) -> Vec<[u8; 3]> {
 
 fn ranks(dice: &mut Dice, rules: usize) -> Vec<[u8; 3]> {
     let few = dice.below(4);
-    match dice.below(5) {
+    let single = match dice.below(5) {
         0 => vec![],
         1 => one_pair(dice, rules),
         2 => some_declarations(dice, rules, few),
         _ => some_declarations(dice, rules, few + rules),
-    }
+    };
+    perhaps_groups(dice, rules, single)
 }
 
 /// What a tangle is made of: how many sorts, rules and classes at most, how many arguments, and how often a sort.
@@ -151,17 +153,23 @@ fn operators(dice: &mut Dice) -> Plan {
     plan
 }
 
-/// Rules 1 and up in levels; only neighbouring levels are declared, so that the closure has work to do.
+/// Rules 1 and up in levels; only neighbouring levels are declared, so that the closure has work to do. In some books a level
+/// is a group, and may be wider.
 fn levels(dice: &mut Dice, rules: usize) -> Vec<[u8; 3]> {
+    let grouped = dice.chance(35);
     let mut out = vec![];
     let mut before: Vec<u8> = vec![];
     let mut next = 1;
     while next < rules {
-        let size = dice.between(1, 2).min(rules - next);
+        let size = dice.between(1, if grouped { 4 } else { 2 }).min(rules - next);
         let level: Vec<u8> = (next..next + size).map(|r| r as u8).collect();
         let kind = dice.pick(&[2u8, 2, 3, 3, 4]);
-        for &a in &level {
-            out.extend(level.iter().filter(|&&b| a <= b).map(|&b| [kind, a, b]));
+        if grouped {
+            out.push([kind + 3, level[0], level[size - 1]]);
+        } else {
+            for &a in &level {
+                out.extend(level.iter().filter(|&&b| a <= b).map(|&b| [kind, a, b]));
+            }
         }
         for &a in &before {
             out.push([1, a, level[0]]);
@@ -201,6 +209,7 @@ fn ring(dice: &mut Dice) -> Plan {
             plan.declarations.push([1, p as u8, dice.pick(&below) as u8]);
         }
     }
+    plan.declarations = perhaps_groups(dice, plan.rules.len(), plan.declarations);
     plan
 }
 
@@ -238,14 +247,20 @@ fn fill_up(dice: &mut Dice, plan: &mut Plan, count: usize) {
 fn limits(dice: &mut Dice) -> Plan {
     let mut plan = tangle(dice, Taste { sorts: 3, rules: 5, classes: 3, counts: &[0, 1, 2, 3], sort_percent: 50 });
     let over = dice.below(2);
-    match dice.below(7) {
+    match dice.below(9) {
         0 => fill_up(dice, &mut plan, 64 + over),
         1 => plan.rules[0].1 = (0..8 + over).map(|_| some_argument(dice, plan.sorts, plan.classes.len(), 50)).collect(),
         2 => plan.sorts = 32 + over,
         3 => plan.classes.resize(64 + over, vec![(97, 98)]),
         4 => plan.classes.push((0..16 + over as u8).map(|k| (90 + k, 90 + k + dice.below(3) as u8)).collect()),
         5 => plan.start = plan.sorts - 1 + over,
-        _ => plan.declarations = some_declarations(dice, plan.rules.len(), 255),
+        6 => plan.declarations = some_declarations(dice, plan.rules.len(), 255),
+        7 => plan.declarations = only_groups(dice, plan.rules.len(), 255),
+        _ => {
+            fill_up(dice, &mut plan, 64);
+            let count = dice.pick(&[1, 2, 5, 255]);
+            plan.declarations = only_groups(dice, 64, count);
+        }
     }
     plan
 }

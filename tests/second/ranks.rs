@@ -1,5 +1,6 @@
 //! Ranks and clashes, in two forms that are checked against each other: the clash question as 01's three lines put it,
-//! and the set of tree patterns that Definition 2.6 of document 000 generates from the declarations.
+//! with each group spelled out, and the set of tree patterns that Definition 2.6 of document 000 generates from the
+//! declarations, where a group is asked whether both rules are in it.
 
 use crate::book::{Argument, Book, Declaration, Refusal};
 use std::collections::HashSet;
@@ -28,6 +29,24 @@ fn below(from: usize, next: &[Vec<usize>]) -> Vec<bool> {
     reached
 }
 
+/// Every two rules from `first` to `second`, ends included, a rule with itself too.
+fn pairs(first: usize, second: usize) -> impl Iterator<Item = (usize, usize)> {
+    (first..=second).flat_map(move |a| (a..=second).map(move |b| (a, b)))
+}
+
+/// The declarations with each group in its pairs: kind 5 as so many of kind 2, 6 of 3, and 7 of 4. The list may have any
+/// length.
+pub fn spelled_out(declarations: &[Declaration]) -> Vec<Declaration> {
+    let mut list = vec![];
+    for d in declarations {
+        match d.is_group() {
+            true => list.extend(pairs(d.first, d.second).map(|(first, second)| Declaration { kind: d.kind - 3, first, second })),
+            false => list.push(*d),
+        }
+    }
+    list
+}
+
 fn both_ways(rules: usize, kind: u8, declarations: &[Declaration]) -> Table {
     let mut table = vec![vec![false; rules]; rules];
     for d in declarations.iter().filter(|d| d.kind == kind) {
@@ -38,7 +57,8 @@ fn both_ways(rules: usize, kind: u8, declarations: &[Declaration]) -> Table {
 }
 
 impl Ranks {
-    pub fn new(rules: usize, declarations: &[Declaration]) -> Ranks {
+    pub fn new(rules: usize, with_groups: &[Declaration]) -> Ranks {
+        let declarations = &spelled_out(with_groups);
         let mut next = vec![vec![]; rules];
         for d in declarations.iter().filter(|d| d.kind == 1) {
             next[d.first].push(d.second);
@@ -81,6 +101,13 @@ impl Book {
         Ok(self.clashes(p as usize, i as usize, q as usize))
     }
 
+    /// Is this kind (2, 3 or 4) declared of two rules, in either order or by a group that both are in?
+    fn declared(&self, kind: u8, a: usize, b: usize) -> bool {
+        let single = |d: &Declaration| d.kind == kind && [(a, b), (b, a)].contains(&(d.first, d.second));
+        let group = |d: &Declaration| d.kind == kind + 3 && d.first <= a.min(b) && a.max(b) <= d.second;
+        self.declarations.iter().any(|d| single(d) || group(d))
+    }
+
     /// The smallest set closed under Definition 2.6's three rules. A pattern [alpha [beta -> B] gamma -> A] is held as
     /// (outer rule, length of alpha, inner rule).
     pub fn patterns(&self) -> HashSet<(usize, usize, usize)> {
@@ -95,20 +122,20 @@ impl Book {
 
     fn patterns_of_pair(&self, outer: usize, inner: usize, set: &mut HashSet<(usize, usize, usize)>) {
         let b = Argument::Sort(self.rules[inner].result);
-        let ranks = &self.ranks;
+        let [left, right, apart] = [2, 3, 4].map(|kind| self.declared(kind, inner, outer));
         // Every way to write the outer rule as alpha B gamma -> A.
         for (alpha, argument) in self.rules[outer].arguments.iter().enumerate() {
             if *argument != b {
                 continue;
             }
             let gamma = self.count(outer) - alpha - 1;
-            if ranks.higher[outer][inner] {
+            if self.ranks.higher[outer][inner] {
                 set.insert((outer, alpha, inner));
             }
-            if alpha == 0 && gamma != 0 && (ranks.right[inner][outer] || ranks.apart[inner][outer]) {
+            if alpha == 0 && gamma != 0 && (right || apart) {
                 set.insert((outer, alpha, inner));
             }
-            if gamma == 0 && alpha != 0 && (ranks.left[inner][outer] || ranks.apart[inner][outer]) {
+            if gamma == 0 && alpha != 0 && (left || apart) {
                 set.insert((outer, alpha, inner));
             }
         }

@@ -53,7 +53,7 @@ impl Tally {
     fn wanted() -> Vec<(&'static str, String)> {
         let refusals = |numbers: &[u64]| numbers.iter().map(|n| format!("refused {n}")).collect::<Vec<_>>();
         let words = |list: &[&str]| list.iter().map(|w| w.to_string()).collect::<Vec<_>>();
-        let groups = vec![
+        let lists = vec![
             ("read", words(&["none", "one", "several"])),
             ("read", refusals(&[1, 2, 3, 4, 5, 6, 7, 8, 9, 10, 20, 22])),
             ("text", words(&["0 bytes", "1 to 12 bytes", "13 to 40 bytes", "41 to 199 bytes", "200 bytes", "over 200 bytes"])),
@@ -72,8 +72,13 @@ impl Tally {
             ("page with", words(&["an empty text in the middle", "a text over 54 bytes", "a byte as a full stop", "a depth of 100 or more"])),
             ("text_under", words(&["some bytes", "empty", "beyond the listing"])),
             ("text_under", refusals(&[1, 2, 3, 4, 5, 6, 7, 8, 9, 10, 11, 23])),
+            ("groups", words(&["kind 5", "kind 6", "kind 7", "one rule", "all rules", "all of 64 rules", "255 groups"])),
+            ("groups", words(&["overlapping", "kind 1 on a pair of it", "kinds 2 to 4 on a pair of it", "clashes by groups alone"])),
+            ("groups", words(&["refused, kind 5 falling", "refused, kind 6 falling", "refused, kind 7 falling"])),
+            ("groups", words(&["refused, kind 0", "refused, kind 8", "refused, first is no rule", "refused, second is no rule"])),
+            ("spelled out", words(&["clash yes", "clash no", "flat", "read none", "read one", "read several", "past 255"])),
         ];
-        groups.into_iter().flat_map(|(call, kinds)| kinds.into_iter().map(move |k| (call, k))).collect()
+        lists.into_iter().flat_map(|(call, kinds)| kinds.into_iter().map(move |k| (call, k))).collect()
     }
 
     /// The kinds that were never met.
