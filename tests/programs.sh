@@ -95,6 +95,12 @@ flat_books() {
     flat 'T with right for left' '[\48-\57] -> [\258]' '[\258] [\42] [\258-\260] -> [\259]' '[\258] [\47] [\258-\260] -> [\260]'
     given $(book_t 4 2 1)
     flat 'T with 2 and 1 not together' '[\48-\57] -> [\258]' '[\258-\259] [\42] [\258-\259] -> [\259]' '[\258\260] [\47] [\258\260] -> [\260]'
+    given $(book_t 5 1 2)
+    flat 'T with left of the group from 1 to 2' '[\48-\57] -> [\258]' '[\258-\260] [\42] [\258] -> [\259]' '[\258-\260] [\47] [\258] -> [\260]'
+    given $(book_t 6 1 2)
+    flat 'T with right of the group' '[\48-\57] -> [\258]' '[\258] [\42] [\258-\260] -> [\259]' '[\258] [\47] [\258-\260] -> [\260]'
+    given $(book_t 7 1 2)
+    flat 'T with the group not together' '[\48-\57] -> [\258]' '[\258] [\42] [\258] -> [\259]' '[\258] [\47] [\258] -> [\260]'
     given $(book_t 1 1 2 1 2 0)
     flat 'T with 1 above 2 and 2 above 0: closed' '[\48-\57] -> [\258]' '[\259] [\42] [\259] -> [\259]' '[\259-\260] [\47] [\259-\260] -> [\260]'
     given 1 1 0 0 0 0 0 0
@@ -131,6 +137,10 @@ flat_refusals() {
     flat 'low above high' 'refused 6 12'
     given $(book_t 2 1 3)
     flat 'a rule that is not there' 'refused 7 30'
+    given $(book_t 8 1 2)
+    flat 'no kind' 'refused 7 28'
+    given $(book_t 7 1 2 5 2 1)
+    flat 'a group whose first is above its second' 'refused 7 32'
     given 1 3 0 0 0 0 1 0 1 0 0 0 0 0
     flat 'a rule equal to an earlier one' 'refused 8 12'
     given $(book_t 1 1 2 1 2 1)

@@ -53,6 +53,7 @@ reading() {
     both "$READ_STACK" 'kind 1 value 19094 levels 12663' 0 read "$books/deepest.book" 200
     both "$READ_STACK" 'kind 3 value 22' 32768 read "$books/power.book" 0
     both "$READ_STACK" 'kind 2 value 0' 0 read "$books/dense.book" 200
+    both "$READ_STACK" 'kind 0 value 0' 0 read "$books/groups.book" 200
 }
 
 # The calls that are lent a listing: each one is checked, written as a page, and asked for the text under its last number.
@@ -84,9 +85,10 @@ listings() {
 
 # Rule 2 of the deepest book may stand below rule 0 and not below itself. The lines of its flat text have 30 * 17 + 22 + 31 * 24 + 23 + 10 bytes.
 others() {
-    for name in deepest limits dense; do both "$CALL_STACK" 'number 0' 0 check "$books/$name.book"; done
+    for name in deepest limits dense groups; do both "$CALL_STACK" 'number 0' 0 check "$books/$name.book"; done
     both "$CALL_STACK" 'kind 0 value 0' 0 conflict "$books/deepest.book" 0 0 2
     both "$CALL_STACK" 'kind 1 value 0' 0 conflict "$books/deepest.book" 2 1 2
+    both "$CALL_STACK" 'kind 1 value 0' 0 conflict "$books/groups.book" 0 7 0
     both "$CALL_STACK" 'kind 1 value 1309' 0 flat "$books/deepest.book"
     both "$CALL_STACK" 'kind 1 value 19481' 0 flat "$books/limits.book"
     both "$CALL_STACK" 'kind 1 value 63532' 0 flat "$books/dense.book"

@@ -26,7 +26,7 @@ use Rattle.grammar.specs.Layout.{productions, startSort, argumentCount, result,
 use Rattle.priority.proofs.ConflictLaws.{fits-result}
 use Rattle.priority.proofs.PriorityLaws.{table-higher}
 use Rattle.priority.specs.Chain.{entry}
-use Rattle.priority.specs.Conflict.{fits, isFirst, isLast, rightOrNonassoc, leftOrNonassoc, barred, conflicts, conflictsIn}
+use Rattle.priority.specs.Conflict.{fits, isFirst, isLast, rightOrNonassoc, leftOrNonassoc, barred, conflictsIn}
 use Rattle.priority.specs.Priorities.{left, right, nonassoc, kindNumber, DeclaredPairs, Higher, declarationsOf}
 use Rattle.tables.proofs.LayoutLaws.{slot-in}
 use Rattle.tables.proofs.PutLaws.{put-counts, put-tables, char-stays, production-stays, counts-stay}

@@ -12,7 +12,7 @@ use borrow.Author.Tests.{eqb-true, lt-ltb, le-ltb, le-leb, lt-leb, eq-eqb, ne-eq
 use Rattle.flatten.proofs.FlatLaws.{is-production, production-there, production-is, flat-of-class, flat-of-sort, flat-no-conflict}
 use Rattle.theory.proofs.TreeLaws.{production-of-number}
 use Rattle.ccg.specs.Ccg.{Class, Line, noLine, noClass}
-use Rattle.flatten.specs.Flat.{isProduction, mayStand, mayStandIn, flatClass, flatLine, flatLineIn, flatGrammar, flatGrammarIn}
+use Rattle.flatten.specs.Flat.{isProduction, mayStandIn, flatClass, flatLineIn, flatGrammar, flatGrammarIn}
 use Rattle.charset.specs.Set.{characters}
 use Rattle.common.proofs.BoolLaws.{and-first-true, and-second-true, true-or-false, eqb-sym, taken-out}
 use Rattle.common.proofs.ListLaws.{getD-tabulate, tabulate-same}
@@ -24,7 +24,7 @@ use Rattle.grammar.specs.Layout.{productions, argumentCount, result, argument}
 use Rattle.grammar.specs.Limits.{classBase}
 use Rattle.priority.proofs.ConflictLaws.{fits-result}
 use Rattle.priority.proofs.PriorityLaws.{higher-chain}
-use Rattle.priority.specs.Conflict.{isFirst, isLast, rightOrNonassoc, leftOrNonassoc, anywhere, barred, conflicts, conflictsIn}
+use Rattle.priority.specs.Conflict.{isFirst, isLast, rightOrNonassoc, leftOrNonassoc, anywhere, barred, conflictsIn}
 use Rattle.priority.specs.Priorities.{left, right, nonassoc, declared, isHigher, declarationsOf}
 use Rattle.theory.specs.Tree.{productionNumber}
 use Rattle.flatten.specs.Visser.{

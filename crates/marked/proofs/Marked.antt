@@ -8,7 +8,7 @@ use Rattle.chart.specs.Layout.{spanCount}
 use Rattle.common.specs.Below.{sumBelow, allBelow, anyBelow}
 use Rattle.common.specs.Lists.{All, tabulate}
 use Rattle.engine.specs.Refusals.{tooLong, chartTooShort}
-use Rattle.flatten.specs.Flat.{mayStand, mayStandIn}
+use Rattle.flatten.specs.Flat.{mayStandIn}
 use Rattle.grammar.specs.Check.{shortHeader, headerBytes, badHeader, shortContents, badArgumentCount, badRangeCount, badLength, namesArgument, badArgument, badProduction, badRange, isGroup, declarationBytes, badDeclaration, sameProduction, repeatedProduction}
 use Rattle.grammar.specs.Classes.{isClass, classHas}
 use Rattle.grammar.specs.Layout.{argumentCount, rangeCount, productionAt, result, argument, classAt, low, high, declarationAt, kind, first, second, neededLength}
@@ -20,8 +20,8 @@ use Rattle.marked.specs.Cases.{Statement, Promised, caseA, caseB, caseC,
 use Rattle.parse.specs.Outcome.{needed, refusal}
 use Rattle.priority.specs.Chain.{through}
 use Rattle.priority.specs.Check.{circle, checked}
-use Rattle.priority.specs.Conflict.{isSort, fits, isFirst, isLast, rightOrNonassoc, leftOrNonassoc, barred, conflicts, conflictsIn}
-use Rattle.priority.specs.Priorities.{kindNumber, saidKind, eitherWay, between, namesPair, covers, declaredIn, declarationOf, declarationsOf, isHigher, isHigherIn}
+use Rattle.priority.specs.Conflict.{isSort, fits, isFirst, isLast, rightOrNonassoc, leftOrNonassoc, barred, conflictsIn}
+use Rattle.priority.specs.Priorities.{kindNumber, saidKind, eitherWay, between, namesPair, covers, declaredIn, declarationOf, declarationsOf, isHigherIn}
 use Rattle.tables.specs.Layout.{rowCount}
 use Rattle.theory.specs.Steps.{charEntry, argumentSum, splitSum}
 use Rattle.theory.specs.Tree.{Tree, leaf, node, none, _▷_, yield, listing}

@@ -1,15 +1,15 @@
 -- Groups spelled out declare the same pairs (02, [2]); so whatever declarations decide is the same by the spelled-out list, however long that is.
 use Prim.Native.Nat.{ℕ, zero, suc, _+_, _-_, _*_, _≤_, _<_}
 use mathlib.Core.Path.{_≡_, refl, sym, _∙_, ap, ap₂}
-use mathlib.Core.Bool.{Bool, false, true, cond, _&&_, _||_, false≢true, or-true, or-false}
-use mathlib.Core.List.{List, [], _∷_, _++_}
+use mathlib.Core.Bool.{Bool, false, true, _&&_, _||_, false≢true, or-true}
+use mathlib.Core.List.{List, [], _∷_}
 use mathlib.Core.Logic.{_↔_, _⊎_, inl, inr, ⊎-elim, by-cases}
 use native.Mathlib.Omega.{arith}
 use native.Mathlib.Decide.{decLt}
 use lib.Dec.{leb, ltb, eqb}
 use lib.ListN.{length, length-append}
 use borrow.Author.Tests.{le-ltb, ltb-true, leb-true, eqb-true, eq-eqb}
-use Rattle.common.proofs.BoolLaws.{or-cases, or-first, or-second, and-both, and-first-true, and-second-true, same-test, true-or-false}
+use Rattle.common.proofs.BoolLaws.{or-cases, or-first, or-second, and-first-true, and-second-true, same-test, true-or-false}
 use Rattle.common.proofs.AllLaws.{all-append, all-tabulate}
 use Rattle.common.proofs.ListLaws.{length-tabulate, joined-one}
 use Rattle.common.specs.Lists.{tabulate, joined, All}

@@ -1,10 +1,12 @@
 -- `check_declaration_bytes` meets its contract: its tests are those of the definition, in the same order.
-use mathlib.Core.Path.{refl}
+use mathlib.Core.Path.{_≡_, refl, sym, _∙_}
+use mathlib.Core.Bool.{false, true, _&&_}
 use native.Mathlib.Omega.{arith}
+use lib.Dec.{ltb}
 use borrow.Author.Needs.{needs}
 use borrow.Author.Tests.{le-ltb, lt-leb}
 use Rattle.grammar.proofs.VerdictLaws.{cases}
-use Rattle.grammar.specs.Check.{declarationBytes}
+use Rattle.grammar.specs.Check.{isGroup, declarationBytes}
 use Rattle.grammar.specs.Limits.{kindLimit}
 use Rattle.grammar.proofs.check.check_declaration_bytes.Statement.{statement}
 use Rattle.grammar.proofs.check.check_declaration_bytes.Tie as tie
@@ -44,15 +46,17 @@ returns-5 : tie.Need-returns-5
 unfolding declarationBytes
 returns-5 c =
     let a = c .before .before .before .before .before .before .before .args in
+    let falls : (isGroup (a .kind) && ltb (a .second) (a .first)) ≡ true = rw (c .before .before .is-group .ensures) at (sym (c .before .both .ensures) ∙ c .if5 .taken) in
     rw (le-ltb (a .kind) 1 (omega arith), le-ltb kindLimit (a .kind) (omega arith), lt-leb (a .productions) (a .first) (omega arith), lt-leb (a .productions) (a .second) (omega arith))
-    (rw (← (c .before .before .is-group .ensures), ← (c .before .both .ensures), c .if5 .taken) refl)
+    (rw falls refl)
 
 returns-6 : tie.Need-returns-6
 unfolding declarationBytes
 returns-6 c =
     let a = c .before .before .before .before .before .before .before .args in
+    let falls : (isGroup (a .kind) && ltb (a .second) (a .first)) ≡ false = rw (c .before .before .is-group .ensures) at (sym (c .before .both .ensures) ∙ c .if5 .left) in
     rw (le-ltb (a .kind) 1 (omega arith), le-ltb kindLimit (a .kind) (omega arith), lt-leb (a .productions) (a .first) (omega arith), lt-leb (a .productions) (a .second) (omega arith))
-    (rw (← (c .before .before .is-group .ensures), ← (c .before .both .ensures), c .if5 .left) refl)
+    (rw falls refl)
 
 pub check-declaration-bytes-spec : {M : Type 1} → statement M
 check-declaration-bytes-spec =
