@@ -9,7 +9,8 @@ use Rattle.flatten.specs.Reading.{ReadingIn, EntryListIn}
 use Rattle.flatten.specs.Trees.{RootConflictIn, conflictAt, ConflictFreeIn}
 use Rattle.grammar.specs.Layout.{productions, argumentCount}
 use Rattle.priority.proofs.SpelledLaws.{conflicts-alike, conflict-carried}
-use Rattle.priority.specs.Priorities.{Kind, Declaration, declaredIn}
+use Rattle.priority.specs.Priorities.{Kind, declaredIn}
+use Rattle.priority.specs.declared.Declaration.{Declaration}
 use Rattle.theory.specs.Tree.{Tree, Forest}
 
 -- ---- the character class grammar

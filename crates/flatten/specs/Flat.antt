@@ -9,7 +9,8 @@ use Rattle.grammar.specs.Classes.{isClass, classHas}
 use Rattle.grammar.specs.Layout.{productions, argumentCount, result, argument}
 use Rattle.grammar.specs.Limits.{classBase}
 use Rattle.priority.specs.Conflict.{fits, conflictsIn}
-use Rattle.priority.specs.Priorities.{Declaration, declarationsOf}
+use Rattle.priority.specs.Priorities.{declarationsOf}
+use Rattle.priority.specs.declared.Declaration.{Declaration}
 use Rattle.theory.specs.Tree.{productionNumber}
 
 -- n is the number of a production.

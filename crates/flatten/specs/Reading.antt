@@ -6,7 +6,8 @@ use lib.Seq.{slice}
 use Rattle.flatten.specs.Trees.{Built, Arguments, ConflictFreeIn}
 use Rattle.grammar.specs.Layout.{startSort}
 use Rattle.priority.specs.Conflict.{ConflictIn}
-use Rattle.priority.specs.Priorities.{Declaration, declarationsOf}
+use Rattle.priority.specs.Priorities.{declarationsOf}
+use Rattle.priority.specs.declared.Declaration.{Declaration}
 use Rattle.theory.specs.Tree.{Tree, node, Forest, yield, yields, At}
 
 -- By a list of declarations, a tree of the start sort, without a conflict, that spells the text.

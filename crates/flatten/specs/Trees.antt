@@ -7,7 +7,8 @@ use Rattle.grammar.specs.Classes.{isClass, classHas}
 use Rattle.grammar.specs.Layout.{productions, argumentCount, result, argument}
 use Rattle.grammar.specs.Limits.{classBase}
 use Rattle.priority.specs.Conflict.{ConflictIn, Conflict}
-use Rattle.priority.specs.Priorities.{Declaration, declarationsOf}
+use Rattle.priority.specs.Priorities.{declarationsOf}
+use Rattle.priority.specs.declared.Declaration.{Declaration}
 use Rattle.theory.specs.Tree.{Tree, leaf, node, Forest, none, _▷_, At, Subtree}
 
 -- A tree is built at an argument byte x: a character of the class that x is, or a production with result x whose arguments are built in turn.

@@ -15,7 +15,8 @@ use Rattle.common.specs.Lists.{tabulate}
 use Rattle.grammar.specs.Check.{isGroup}
 use Rattle.priority.proofs.TableLaws.{square-put, entry-put-or}
 use Rattle.priority.specs.Chain.{entry, Square}
-use Rattle.priority.specs.Priorities.{Kind, higher, left, right, nonassoc, kindNumber, saidKind, eitherWay, Declaration, between, namesPair, covers, declaredIn}
+use Rattle.priority.specs.Priorities.{Kind, higher, left, right, nonassoc, kindNumber, saidKind, eitherWay, between, namesPair, covers, declaredIn}
+use Rattle.priority.specs.declared.Declaration.{Declaration}
 
 -- ---- lists
 
@@ -181,23 +182,22 @@ turned-pair a v w f₁ s₁ f₂ s₂ g =
     ap (λ (z : Bool). z || g) (or-assoc a (v && (f₁ && s₁)) (w && (s₂ && f₂)) ∙ ap (λ (z : Bool). a || (v && (f₁ && s₁) || w && z)) (and-comm s₂ f₂))
     ∙ or-assoc a (v && (f₁ && s₁) || w && (f₂ && s₂)) g
 
-module _ (n d : ℕ) (f : ℕ → Declaration) (t : List (List Bool)) (q : Square n t) (hf : f d .first < n) (hs : f d .second < n)
-    (rises : isGroup (f d .kind) ≡ true → f d .first ≤ f d .second) (k k′ : Kind)
+module _ (n d : ℕ) (f : ℕ → Declaration) (l : Declaration) (own : l ≡ f d) (t : List (List Bool)) (q : Square n t) (hf : l .first < n) (hs : l .second < n)
+    (rises : isGroup (l .kind) ≡ true → l .first ≤ l .second) (k k′ : Kind)
     (now : (x y : ℕ) → entry t x y ≡ (declaredIn (tabulate d f) k x y || declaredIn (tabulate d f) k′ x y))
-    (written turned v w : Bool) (ew : written ≡ (eqb (saidKind (f d .kind)) (kindNumber k) || eqb (saidKind (f d .kind)) (kindNumber k′)))
-    (et : turned ≡ (written && not (eqb (saidKind (f d .kind)) (kindNumber higher)))) where
+    (written turned v w : Bool) (ew : written ≡ (eqb (saidKind (l .kind)) (kindNumber k) || eqb (saidKind (l .kind)) (kindNumber k′)))
+    (et : turned ≡ (written && not (eqb (saidKind (l .kind)) (kindNumber higher)))) where
   abbrev once : List (List Bool)
-  once = set t (f d .first) (set (getD t (f d .first) []) (f d .second) v)
+  once = set t (l .first) (set (getD t (l .first) []) (l .second) v)
 
   abbrev twice : List (List Bool)
-  twice = set once (f d .second) (set (getD once (f d .second) []) (f d .first) w)
+  twice = set once (l .second) (set (getD once (l .second) []) (l .first) w)
 
   -- the table with the declaration's pair written, the pair turned round, and the square of a group
-  pub pairs-more : v ≡ (entry t (f d .first) (f d .second) || written) → w ≡ (entry once (f d .second) (f d .first) || turned) → (wider : List (List Bool))
-      → ((x y : ℕ) → entry wider x y ≡ (entry twice x y || (written && isGroup (f d .kind)) && (between (f d .first) (f d .second) x && between (f d .first) (f d .second) y)))
+  pub pairs-more : v ≡ (entry t (l .first) (l .second) || written) → w ≡ (entry once (l .second) (l .first) || turned) → (wider : List (List Bool))
+      → ((x y : ℕ) → entry wider x y ≡ (entry twice x y || (written && isGroup (l .kind)) && (between (l .first) (l .second) x && between (l .first) (l .second) y)))
       → (x y : ℕ) → entry wider x y ≡ (declaredIn (tabulate (d + 1) f) k x y || declaredIn (tabulate (d + 1) f) k′ x y)
   pairs-more e₁ e₂ wider e₃ x y =
-      let l = f d in
       let s = square-put n t (l .first) (l .second) v q hf hs in
       let one = entry-put-or n t (l .first) (l .second) v written q hf hs e₁ x y in
       let two = entry-put-or n once (l .second) (l .first) w turned s hs hf e₂ x y in
@@ -209,4 +209,5 @@ module _ (n d : ℕ) (f : ℕ → Declaration) (t : List (List Bool)) (q : Squar
       ∙ turned-pair (old || old′) written turned (eqb (l .first) x) (eqb (l .second) y) (eqb (l .first) y) (eqb (l .second) x) square
       ∙ ap (λ (z : Bool). (old || old′) || z) (marks-named l x y written turned (not (eqb (saidKind (l .kind)) (kindNumber higher))) rises et ∙ names-covered l k k′ x y written turned ew et)
       ∙ or-swapped old (covers l k x y) old′ (covers l k′ x y)
+      ∙ ap (λ (m : Declaration). (old || covers m k x y) || (old′ || covers m k′ x y)) own
       ∙ sym (ap₂ _||_ (declared-next d f k x y) (declared-next d f k′ x y))

@@ -1,19 +1,16 @@
--- Laws of the declared priorities: only productions are related, "higher" as a chain and as a test, and the bytes of a declaration.
-use Prim.Native.Nat.{ℕ, _+_, _≤_, _<_}
-use mathlib.Core.Path.{_≡_, _∙_, ap}
+-- Laws of the declared priorities: only productions are related, and "higher" as a chain and as a test.
+use Prim.Native.Nat.{ℕ, _<_}
 use mathlib.Core.Bool.{Bool, true, _&&_, _||_}
 use mathlib.Core.List.{List}
 use mathlib.Core.Logic.{_↔_, ⊎-elim}
+use mathlib.Core.Path.{_≡_, ap}
 use native.Mathlib.Omega.{arith}
 use lib.Dec.{eqb}
-use lib.ListN.{length, getD}
 use borrow.Author.Tests.{eqb-true}
 use Rattle.common.proofs.BoolLaws.{or-cases, and-first-true, and-second-true, same-test, true-or-false}
-use Rattle.grammar.proofs.FormedLaws.{declaration-in}
 use Rattle.grammar.specs.Check.{isGroup}
 use Rattle.grammar.specs.Formed.{WellFormed}
-use Rattle.grammar.specs.Layout.{productions, declarations, declarationAt, kind, first, second}
-use Rattle.grammar.specs.Limits.{productionLimit}
+use Rattle.grammar.specs.Layout.{productions, declarations, kind, first, second}
 use Rattle.grammar.specs.Verdict.{refuseIf}
 use Rattle.priority.proofs.ChainLaws.{through-chain, chain-through}
 use Rattle.priority.proofs.CoverLaws.{declared-found, between-ends}
@@ -70,35 +67,3 @@ module _ (b : List ℕ) (w : WellFormed b) (t : List (List Bool)) (h : (x y : �
   pub diagonal-circle : (p : ℕ) → onDiagonal t p ≡ circle (productions b) (declarationsOf b) p
   unfolding onDiagonal circle
   diagonal-circle p = ap (λ (v : Bool). refuseIf v 9 p) (table-higher p p)
-
--- ---- the bytes of a declaration, as code reads them
-
-module _ (b : List ℕ) (w : WellFormed b) (d : ℕ) (h : d < declarations b) where
-  pub small-first : first b d < productionLimit
-  small-first = omega (arith, w .firstThere d h, w .framed .fewProductions)
-
-  pub small-second : second b d < productionLimit
-  small-second = omega (arith, w .secondThere d h, w .framed .fewProductions)
-
-pub first-is : (b : List ℕ) (d at x : ℕ) → at ≡ declarationAt b d → x ≡ getD b (at + 1) 0 → x ≡ first b d
-unfolding first
-first-is b d at x e f = f ∙ ap (λ (a : ℕ). getD b (a + 1) 0) e
-
-pub second-is : (b : List ℕ) (d at x : ℕ) → at ≡ declarationAt b d → x ≡ getD b (at + 2) 0 → x ≡ second b d
-unfolding second
-second-is b d at x e f = f ∙ ap (λ (a : ℕ). getD b (a + 2) 0) e
-
-pub kind-is : (b : List ℕ) (d at x : ℕ) → at ≡ declarationAt b d → x ≡ getD b at 0 → x ≡ kind b d
-unfolding kind
-kind-is b d at x e f = f ∙ ap (λ (a : ℕ). getD b a 0) e
-
--- what was read as first or second production fits the table
-module _ (b : List ℕ) (w : WellFormed b) (d at : ℕ) (h : d < declarations b) (e : at ≡ declarationAt b d) where
-  pub first-below : (x : ℕ) → x ≡ getD b (at + 1) 0 → x < productionLimit
-  first-below x f = omega (arith, first-is b d at x e f, small-first b w d h)
-
-  pub second-below : (x : ℕ) → x ≡ getD b (at + 2) 0 → x < productionLimit
-  second-below x f = omega (arith, second-is b d at x e f, small-second b w d h)
-
-  pub declaration-ends : at + 3 ≤ length b
-  declaration-ends = omega (arith, declaration-in b (w .framed) d h)

@@ -22,7 +22,8 @@ use Rattle.priority.proofs.CoverLaws.{declared-append, declared-one, de
 use Rattle.priority.specs.Chain.{through}
 use Rattle.priority.specs.Check.{circle, circlesIn}
 use Rattle.priority.specs.Conflict.{rightOrNonassoc, leftOrNonassoc, ConflictIn, anywhere, atFirst, atLast, barred, conflictsIn}
-use Rattle.priority.specs.Priorities.{Kind, higher, left, right, nonassoc, kindNumber, saidKind, eitherWay, Declaration, between, namesPair, covers, declaredIn, HigherIn, isHigherIn}
+use Rattle.priority.specs.Priorities.{Kind, higher, left, right, nonassoc, kindNumber, saidKind, eitherWay, between, namesPair, covers, declaredIn, HigherIn, isHigherIn}
+use Rattle.priority.specs.declared.Declaration.{Declaration}
 use Rattle.priority.specs.Spelled.{IsOfTwo, pairsFrom, spelled, spelledOut}
 
 -- ---- kinds of groups
@@ -92,14 +93,13 @@ module _ (l : Declaration) (g : IsOfTwo l) where
       let s = l .second in
       let e′ = sym (covers-single k x y) ∙ e in
       let one = eqb f x && eqb s y in
-      let turned = eqb f y && eqb s x in
-      (
+      let turned = eqb f y && eqb s x in (
         eqb-true (l .kind) (kindNumber k) (and-first-true (eqb (l .kind) (kindNumber k)) (one || eitherWay k && turned) e′),
         ⊎-elim
-        (λ a. inl (eqb-true f x (and-first-true (eqb f x) (eqb s y) a), eqb-true s y (and-second-true (eqb f x) (eqb s y) a)))
-        (λ a. let t = and-second-true (eitherWay k) turned a in
-        inr (and-first-true (eitherWay k) turned a, eqb-true f y (and-first-true (eqb f y) (eqb s x) t), eqb-true s x (and-second-true (eqb f y) (eqb s x) t)))
-        (or-cases one (eitherWay k && turned) (and-second-true (eqb (l .kind) (kindNumber k)) (one || eitherWay k && turned) e′)),
+            (λ a. inl (eqb-true f x (and-first-true (eqb f x) (eqb s y) a), eqb-true s y (and-second-true (eqb f x) (eqb s y) a)))
+            (λ a. let t = and-second-true (eitherWay k) turned a in
+            inr (and-first-true (eitherWay k) turned a, eqb-true f y (and-first-true (eqb f y) (eqb s x) t), eqb-true s x (and-second-true (eqb f y) (eqb s x) t)))
+            (or-cases one (eitherWay k && turned) (and-second-true (eqb (l .kind) (kindNumber k)) (one || eitherWay k && turned) e′)),
       )
 
   pub single-written : (k : Kind) (x y : ℕ) → l .kind ≡ kindNumber k → l .first ≡ x → l .second ≡ y → covers l k x y ≡ true

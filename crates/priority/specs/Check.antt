@@ -7,7 +7,8 @@ use Rattle.grammar.specs.Layout.{productions}
 use Rattle.grammar.specs.Verdict.{refuseIf, firstRefusal, inOrder}
 use Rattle.grammar.specs.declared.Verdict.{Verdict}
 use Rattle.priority.specs.Chain.{entry}
-use Rattle.priority.specs.Priorities.{Declaration, isHigherIn, declarationsOf}
+use Rattle.priority.specs.Priorities.{isHigherIn, declarationsOf}
+use Rattle.priority.specs.declared.Declaration.{Declaration}
 
 -- 9: a circle by a list of declarations; the place is the lowest production higher than itself
 unfoldable pub circle : ℕ → List Declaration → ℕ → Verdict

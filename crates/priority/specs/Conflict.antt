@@ -5,7 +5,8 @@ use mathlib.Core.List.{List}
 use mathlib.Core.Path.{_≡_}
 use lib.Dec.{leb, ltb, eqb}
 use Rattle.grammar.specs.Layout.{sorts, productions, argumentCount, result, argument}
-use Rattle.priority.specs.Priorities.{left, right, nonassoc, Declaration, declaredIn, HigherIn, isHigherIn, declarationsOf}
+use Rattle.priority.specs.Priorities.{left, right, nonassoc, declaredIn, HigherIn, isHigherIn, declarationsOf}
+use Rattle.priority.specs.declared.Declaration.{Declaration}
 
 -- An argument byte that is a sort.
 unfoldable pub isSort : List ℕ → ℕ → Bool

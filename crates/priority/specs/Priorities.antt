@@ -9,6 +9,7 @@ use Rattle.grammar.specs.Check.{isGroup}
 use Rattle.grammar.specs.Layout.{productions, declarations, kind, first, second}
 use Rattle.grammar.specs.Limits.{groupStep}
 use Rattle.priority.specs.Chain.{Chain, through, entry}
+use Rattle.priority.specs.declared.Declaration.{Declaration}
 
 -- The four kinds; `nonassoc` is 01's "not together".
 pub data Kind : Type 0 where
@@ -32,17 +33,11 @@ eitherWay left = true
 eitherWay right = true
 eitherWay nonassoc = true
 
--- A declaration (a line of 01's ranks): its kind's number, and the two productions in the order in which it names them.
-pub record Declaration : Type 0 where
-  pub kind : ℕ
-  pub first : ℕ
-  pub second : ℕ
-
 -- x is one of first, first + 1, … second
 unfoldable pub between : (first second : ℕ) → ℕ → Bool
 between first second x = leb first x && leb x second
 
--- It names x first and y second: they are its two productions or, if it is of a group, two that stand from its first to its second (02, [2]).
+-- A declaration names x first and y second: they are its two productions or, if it is of a group, two that stand from its first to its second (02, [2]).
 unfoldable pub namesPair : Declaration → ℕ → ℕ → Bool
 namesPair l x y =
     cond (isGroup (l .kind)) (between (l .first) (l .second) x && between (l .first) (l .second) y) (eqb (l .first) x && eqb (l .second) y)

@@ -8,7 +8,8 @@ use lib.Seq.{slice}
 use Rattle.common.specs.Lists.{tabulate, joined}
 use Rattle.grammar.specs.Check.{isGroup}
 use Rattle.grammar.specs.Layout.{declarationAt}
-use Rattle.priority.specs.Priorities.{Declaration, saidKind, declarationsOf}
+use Rattle.priority.specs.Priorities.{saidKind, declarationsOf}
+use Rattle.priority.specs.declared.Declaration.{Declaration}
 
 -- A declaration of two productions.
 abbrev pub IsOfTwo : Declaration → Type 0

@@ -18,10 +18,11 @@ ghost use Prim.Native.Nat.{ℕ, _<_, _≤_};
 ghost use lib.ListN.{getD};
 ghost use Rattle.common.specs.Below.{anyBelow};
 ghost use Rattle.grammar.specs.Limits.{productionLimit};
+ghost use Rattle.grammar.specs.Layout.{declarations, declarationAt};
 ghost use Rattle.grammar.specs.Formed.{WellFormed};
 ghost use Rattle.grammar.specs.Verdict.{firstRefusal};
 ghost use Rattle.priority.specs.Chain.{Chain, entry, Square};
-ghost use Rattle.priority.specs.Priorities.{saidKind, between, DeclaredPairs, WithGroup, Higher};
+ghost use Rattle.priority.specs.Priorities.{saidKind, between, declarationOf, DeclaredPairs, WithGroup, Higher};
 ghost use Rattle.priority.specs.Check.{checked, onDiagonal};
 
 // 01's numbers of the kinds of declaration.
@@ -32,6 +33,13 @@ pub const LEFT: usize = 2;
 pub const RIGHT: usize = 3;
 // "Not together".
 pub const NONASSOC: usize = 4;
+
+// A declaration (a line of 01's ranks): its kind's number, and the two productions in the order in which it names them.
+pub struct Declaration {
+    pub kind: usize,
+    pub first: usize,
+    pub second: usize,
+}
 
 // The operation "checking a grammar" (01's checking a book): accepted, or refused with number 1 to 9 and place.
 pub fn check_grammar(book: &[u8]) -> Verdict
@@ -85,15 +93,15 @@ pub fn declared_pairs(
     let mut at = declaration_at(book, 0);
     let mut d = 0;
     while d < count {
-        let own = byte_at(book, at);
-        let first = byte_at(book, at + 1);
-        let second = byte_at(book, at + 2);
-        let said = said_kind(own);
+        let own = read_declaration(book, d, at);
+        let first = own.first;
+        let second = own.second;
+        let said = said_kind(own.kind);
         let written = either(said == kind, said == also);
         let turned = both(written, said != HIGHER);
         table[first][second] = either(table[first][second], written);
         table[second][first] = either(table[second][first], turned);
-        if both(written, is_group(own)) {
+        if both(written, is_group(own.kind)) {
             let wider = with_group(table, first, second);
             table = wider;
         }
@@ -101,6 +109,20 @@ pub fn declared_pairs(
         d += 1;
     }
     table
+}
+
+// Declaration d, which stands at `at`.
+fn read_declaration(book: &[u8], d: usize, at: usize) -> Declaration
+    requires { ⌜ WellFormed (now book) ⌝ }
+    requires { ⌜ (d < declarations (now book)) × (at ≡ declarationAt (now book) d) ⌝ }
+    ensures { λ r. ⌜ r ≡ declarationOf (now (book .entry)) d ⌝ }
+    ensures { λ r. ⌜ (r .first < productionLimit) × (r .second < productionLimit) ⌝ }
+{
+    Declaration {
+        kind: byte_at(book, at),
+        first: byte_at(book, at + 1),
+        second: byte_at(book, at + 2),
+    }
 }
 
 // The kind that is said: a kind of groups says what the one `GROUP_STEP` below it says of two productions.

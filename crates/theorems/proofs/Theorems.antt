@@ -36,7 +36,8 @@ use Rattle.priority.proofs.DeclarationLaws.{accepted-declares}
 use Rattle.priority.proofs.SpelledLaws.{group-number, single-found, single-written, single-turned, group-found, group-made, group-only, spelled-none, spelled-same, spelled-many, spelled-declared, higher-alike, circles-alike, conflict-carried}
 use Rattle.grammar.proofs.FormedLaws.{pair-judged}
 use Rattle.grammar.specs.Limits.{groupStep}
-use Rattle.priority.specs.Priorities.{Kind, left, right, nonassoc, kindNumber, eitherWay, Declaration, declarationOf, declarationsOf}
+use Rattle.priority.specs.Priorities.{Kind, left, right, nonassoc, kindNumber, eitherWay, declarationOf, declarationsOf}
+use Rattle.priority.specs.declared.Declaration.{Declaration}
 use Rattle.priority.specs.Spelled.{spelledOut}
 use Rattle.priority.proofs.RefusalLaws.{refused-first, first-refused, accepted-free, free-accepted}
 use Rattle.rows.proofs.RowsLaws.{row-number}

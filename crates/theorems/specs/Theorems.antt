@@ -57,7 +57,8 @@ use Rattle.flatten.specs.Reading.{ReadingIn, EntryListIn, Reading, EntryList}
 use Rattle.priority.specs.Check.{circlesIn, circles, checked}
 use Rattle.priority.specs.Conflict.{ConflictIn, Conflict}
 use Rattle.question.specs.Answer.{There, conflictAnswer}
-use Rattle.priority.specs.Priorities.{Kind, left, right, nonassoc, kindNumber, eitherWay, Declaration, covers, HigherIn, declarationOf, declarationsOf, Higher, PriorityDeclaration}
+use Rattle.priority.specs.Priorities.{Kind, left, right, nonassoc, kindNumber, eitherWay, covers, HigherIn, declarationOf, declarationsOf, Higher, PriorityDeclaration}
+use Rattle.priority.specs.declared.Declaration.{Declaration}
 use Rattle.priority.specs.Spelled.{IsOfTwo, spelledOut}
 use Rattle.priority.specs.Refusals.{Holds, First}
 use Rattle.question.specs.declared.ConflictAnswer.the-variants.{Yes, No, Refused as NotAsked}
