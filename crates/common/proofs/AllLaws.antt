@@ -3,7 +3,7 @@ use Prim.Native.Nat.{ℕ, zero, suc, _<_}
 use mathlib.Core.List.{List, [], _∷_, _++_}
 use native.Mathlib.Omega.{arith}
 use lib.ListN.{length, getD}
-use Rattle.common.specs.Lists.{tabulate, All}
+use Rattle.common.specs.Lists.{tabulate, joined, All}
 
 module _ {A : Type 0} (P : A → Type 0) where
   pub all-append : (l m : List A) → All P l → All P m → All P (l ++ m)
@@ -25,8 +25,14 @@ module _ {A : Type 0} (P : A → Type 0) where
   all-of-at [] d h = tt
   all-of-at (a ∷ l) d h = (h 0 (omega arith), all-of-at l d (λ k i. h (suc k) (omega arith)))
 
-  -- of a list made of a function, it holds of what that gives
+  -- a list made of a function
   pub all-tabulate : (n : ℕ) (f : ℕ → A) → ((i : ℕ) → i < n → P (f i)) → All P (tabulate n f)
   unfolding tabulate
   all-tabulate zero f h = tt
   all-tabulate (suc n) f h = all-append (tabulate n f) (f n ∷ []) (all-tabulate n f (λ i l. h i (omega arith))) (h n (omega arith), tt)
+
+-- lists joined: each of a list gives members of which Q holds
+pub all-joined : {A B : Type 0} (P : A → Type 0) (Q : B → Type 0) (f : A → List B) → ((a : A) → P a → All Q (f a)) → (l : List A) → All P l → All Q (joined f l)
+unfolding joined
+all-joined P Q f g [] h = tt
+all-joined P Q f g (a ∷ l) h = all-append Q (f a) (joined f l) (g a (h .0)) (all-joined P Q f g l (h .1))

@@ -1,7 +1,7 @@
 -- Laws of sums and tests over the numbers below a bound.
 use Prim.Native.Nat.{ℕ, zero, suc, _+_, _*_, _≤_, _<_}
 use mathlib.Core.Path.{_≡_, refl, sym, _∙_, ap, ap₂, subst}
-use mathlib.Core.Bool.{Bool, false, true, _||_, false≢true, and-false, or-true}
+use mathlib.Core.Bool.{Bool, false, true, _&&_, _||_, false≢true, and-false, or-true}
 use mathlib.Core.Logic.{_≢_, _⊎_, inl, inr, ⊎-elim, by-cases}
 use native.Mathlib.Omega.{arith}
 use native.Mathlib.Decide.{ℕ-discrete, decLt}
@@ -136,6 +136,12 @@ any-found f (suc n) e =
     (λ a. (n, omega arith, a))
     (or-cases (anyBelow n f) (f n) e)
 
+-- tests that agree below n are met there together
+pub any-same : (f g : ℕ → Bool) (n : ℕ) → ((k : ℕ) → k < n → f k ≡ g k) → anyBelow n f ≡ anyBelow n g
+unfolding anyBelow
+any-same f g zero e = refl
+any-same f g (suc n) e = ap₂ _||_ (any-same f g n (λ k l. e k (omega arith))) (e n (omega arith))
+
 -- ---- each of them
 
 pub all-none : (f : ℕ → Bool) → allBelow 0 f ≡ true
@@ -161,6 +167,12 @@ all-here f (suc n) e i l =
     by-cases (decLt i n)
     (λ m. all-here f n (and-first-true (allBelow n f) (f n) e) i m)
     (λ m. let q : n ≡ i = omega arith in subst (λ (j : ℕ). f j ≡ true) q (and-second-true (allBelow n f) (f n) e))
+
+-- tests that agree below n hold throughout together
+pub all-same : (f g : ℕ → Bool) (n : ℕ) → ((k : ℕ) → k < n → f k ≡ g k) → allBelow n f ≡ allBelow n g
+unfolding allBelow
+all-same f g zero e = refl
+all-same f g (suc n) e = ap₂ _&&_ (all-same f g n (λ k l. e k (omega arith))) (e n (omega arith))
 
 -- ---- bits
 

@@ -44,6 +44,11 @@ pub taken-out : (a b : Bool) → (a && not (a && b)) ≡ (a && not b)
 taken-out true b = refl
 taken-out false b = refl
 
+-- tests behind a test need agree only where that one holds
+pub and-same : (a b c : Bool) → (a ≡ true → b ≡ c) → (a && b) ≡ (a && c)
+and-same true b c e = e refl
+and-same false b c e = refl
+
 -- ---- comparing two tests
 
 pub beq-true : (a b : Bool) → Bool·beq a b ≡ true → a ≡ b

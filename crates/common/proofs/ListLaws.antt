@@ -8,7 +8,7 @@ use native.Mathlib.Decide.{decLt}
 use native.Mathlib.Nat.{le-refl}
 use native.Mathlib.Numerals.{add-one}
 use lib.ListN.{length, getD, take, drop, length-append, List·getD-append}
-use lib.Seq.{getD-at, drop-at, take-add, length-take-le, slice}
+use lib.Seq.{getD-at, drop-at, take-add, length-take-le, ext-getD, slice}
 use Rattle.common.specs.Lists.{tabulate, joined}
 
 -- ---- a list made of a function
@@ -35,6 +35,12 @@ pub tabulate-same : {A : Type 0} (n : ℕ) (f g : ℕ → A) → ((i : ℕ) → 
 unfolding tabulate
 tabulate-same zero f g h = refl
 tabulate-same (suc n) f g h = rw (tabulate-same n f g (λ i l. h i (omega arith)), h n (omega arith)) refl
+
+-- a list is made of the function that gives its members
+pub tabulate-members : {A : Type 0} (d : A) (f : ℕ → A) (l : List A) → ((i : ℕ) → i < length l → f i ≡ getD l i d) → tabulate (length l) f ≡ l
+tabulate-members d f l h =
+    let long = length-tabulate (length l) f in
+    ext-getD d (tabulate (length l) f) l long (λ i k. let m : i < length l = omega (arith, long) in getD-tabulate (length l) f i d m ∙ h i m)
 
 -- ---- lists joined
 

@@ -10,3 +10,4 @@ pub mod BookLaws
 pub mod TableTextLaws
 pub mod FlatWrittenLaws
 pub mod AnswerLaws
+pub mod SpelledGrammarLaws

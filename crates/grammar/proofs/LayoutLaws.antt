@@ -50,6 +50,11 @@ module _ (b : List ℕ) where
   unfolding declarationAt
   declaration-next d = omega arith
 
+  -- declarations are three numbers each
+  pub declaration-from : (d : ℕ) → declarationAt b d ≡ declarationAt b 0 + 3 * d
+  unfolding declarationAt
+  declaration-from d = omega arith
+
   -- the ends of a range of class k, read from where the class begins
   pub low-read : (k at r : ℕ) → at ≡ classAt b k → byteAt b (at + 2 * r) ≡ low b k r
   unfolding low

@@ -3,3 +3,4 @@ pub mod LayoutLaws
 pub mod VerdictLaws
 pub mod FormedLaws
 pub mod ClassesLaws
+pub mod SameFrontLaws

@@ -10,3 +10,4 @@ pub mod StageLaws
 pub mod BodiesStageLaws
 pub mod RefusalLaws
 pub mod DeclarationLaws
+pub mod SpelledGrammarLaws

@@ -1,16 +1,17 @@
--- Laws of the declared priorities: only productions are related, and "higher" as a chain and as a test.
-use Prim.Native.Nat.{ℕ, _<_}
+-- Laws of the declared priorities: only productions are related, "higher" as a chain and as a test, and the bytes of a declaration.
+use Prim.Native.Nat.{ℕ, _+_, _<_}
 use mathlib.Core.Bool.{Bool, true, _&&_, _||_}
 use mathlib.Core.List.{List}
 use mathlib.Core.Logic.{_↔_, ⊎-elim}
-use mathlib.Core.Path.{_≡_, ap}
+use mathlib.Core.Path.{_≡_, _∙_, ap}
 use native.Mathlib.Omega.{arith}
 use lib.Dec.{eqb}
+use lib.ListN.{getD}
 use borrow.Author.Tests.{eqb-true}
 use Rattle.common.proofs.BoolLaws.{or-cases, and-first-true, and-second-true, same-test, true-or-false}
 use Rattle.grammar.specs.Check.{isGroup}
 use Rattle.grammar.specs.Formed.{WellFormed}
-use Rattle.grammar.specs.Layout.{productions, declarations, kind, first, second}
+use Rattle.grammar.specs.Layout.{productions, declarations, declarationAt, kind, first, second}
 use Rattle.grammar.specs.Verdict.{refuseIf}
 use Rattle.priority.proofs.ChainLaws.{through-chain, chain-through}
 use Rattle.priority.proofs.CoverLaws.{declared-found, between-ends}
@@ -67,3 +68,18 @@ module _ (b : List ℕ) (w : WellFormed b) (t : List (List Bool)) (h : (x y : �
   pub diagonal-circle : (p : ℕ) → onDiagonal t p ≡ circle (productions b) (declarationsOf b) p
   unfolding onDiagonal circle
   diagonal-circle p = ap (λ (v : Bool). refuseIf v 9 p) (table-higher p p)
+
+-- ---- the bytes of a declaration that stands at `at`
+
+module _ (b : List ℕ) (d at x : ℕ) (e : at ≡ declarationAt b d) where
+  pub kind-is : x ≡ getD b at 0 → x ≡ kind b d
+  unfolding kind
+  kind-is f = f ∙ ap (λ (a : ℕ). getD b a 0) e
+
+  pub first-is : x ≡ getD b (at + 1) 0 → x ≡ first b d
+  unfolding first
+  first-is f = f ∙ ap (λ (a : ℕ). getD b (a + 1) 0) e
+
+  pub second-is : x ≡ getD b (at + 2) 0 → x ≡ second b d
+  unfolding second
+  second-is f = f ∙ ap (λ (a : ℕ). getD b (a + 2) 0) e

@@ -7,13 +7,13 @@ use native.Mathlib.Omega.{arith}
 use Rattle.common.proofs.BelowLaws.{any-never, any-found}
 use Rattle.common.proofs.BoolLaws.{not-both}
 use Rattle.common.specs.Below.{anyBelow}
-use Rattle.grammar.proofs.FormedLaws.{order-accepted, well-formed}
+use Rattle.grammar.proofs.FormedLaws.{bodies-in, inside, order-accepted, well-formed}
 use Rattle.grammar.proofs.LayoutLaws.{production-first, production-after, production-before, class-first}
 use Rattle.grammar.proofs.VerdictLaws.{refused-not-accepted, refuse-accepted, first-all, refuse-case, and-first, and-second, first-of}
-use Rattle.grammar.specs.Check.{badArgumentCounts, badRangeCounts, badProductions, badClasses, badDeclarations, sameProduction, repeatedProduction, frameLines, frameCheck, bodiesLines, bodiesCheck}
+use Rattle.grammar.specs.Check.{outside, badArgumentCounts, badRangeCounts, namesArgument, badProductions, badClasses, badDeclarations, sameProduction, repeatedProduction, frameLines, frameCheck, bodiesLines, bodiesCheck}
 use Rattle.grammar.specs.Formed.{WellFormed}
-use Rattle.grammar.specs.Layout.{productions, productionAt}
-use Rattle.grammar.specs.Limits.{headerLength}
+use Rattle.grammar.specs.Layout.{sorts, productions, productionAt, argument, kind}
+use Rattle.grammar.specs.Limits.{sortLimit, productionLimit, kindLimit, headerLength}
 use Rattle.grammar.specs.Verdict.{andThen}
 use Rattle.grammar.specs.declared.Verdict.{Verdict}
 use Rattle.grammar.specs.declared.Verdict.the-variants.{Refused, Accepted}
@@ -21,8 +21,8 @@ use Rattle.priority.proofs.PriorityLaws.{higher-chain}
 use Rattle.priority.proofs.BodiesStageLaws.{names-in, range-in, declaration-in, classes-in, given5, none5}
 use Rattle.priority.proofs.StageLaws.{in-order, stage, checked-stages, Line, line, Given, given1, none1, given1′, none1′, given2, none2, given3, none3, given4, none4}
 use Rattle.priority.specs.Check.{circle, checked}
-use Rattle.priority.specs.Priorities.{declarationsOf, isHigher}
-use Rattle.priority.specs.Refusals.{EqualsEarlier, OnCircle, Holds, refusal1, refusal1′, refusal2, refusal3, refusal4, refusal5, refusal6, refusal7, refusal8, refusal9, First}
+use Rattle.priority.specs.Priorities.{declarationsOf, Higher, isHigher}
+use Rattle.priority.specs.Refusals.{BadHeaderByte, badSorts, badProductionCount, badClassCount, badStart, badLast, LargeCount, manyArguments, manyRanges, NamesNothing, noResult, noArgument, FallingRange, falling, BadDeclarationByte, badKind, badFirst, badSecond, badGroup, EqualsEarlier, OnCircle, Holds, refusal1, refusal1′, refusal2, refusal3, refusal4, refusal5, refusal6, refusal7, refusal8, refusal9, First}
 
 module _ (b : List ℕ) where
   -- ---- 8
@@ -201,3 +201,52 @@ module _ (b : List ℕ) where
       by-stage (refusal7 h) o = omega (arith, declaration-in b h, classes-in b, class-first b, production-first b, production-after b (productions b))
       by-stage (refusal8 h) o = absurd (omega arith)
       by-stage (refusal9 h) o = absurd (omega arith)
+
+-- ---- a well-formed grammar without a circle
+
+module _ (b : List ℕ) (w : WellFormed b) where
+  -- no byte of its header is outside its range
+  no-bad-header : {k : ℕ} → BadHeaderByte b k → ⊥
+  no-bad-header (badSorts h) = not-both (outside 1 sortLimit (sorts b)) h (inside 1 sortLimit (sorts b) (w .framed .someSort) (w .framed .fewSorts))
+  no-bad-header (badProductionCount h) =
+      not-both (outside 1 productionLimit (productions b)) h (inside 1 productionLimit (productions b) (w .framed .someProduction) (w .framed .fewProductions))
+  no-bad-header (badClassCount h) = omega (arith, w .framed .fewClasses)
+  no-bad-header (badStart h) = omega (arith, w .framed .startNamed)
+  no-bad-header (badLast h) = omega (arith, w .framed .lastZero)
+
+  -- no count is too large
+  no-large-count : {k : ℕ} → LargeCount b k → ⊥
+  no-large-count (manyArguments p l h) = omega (arith, w .framed .fewArguments p l)
+  no-large-count (manyRanges k l h) = omega (arith, w .framed .fewRanges k l)
+
+  -- results and arguments name something
+  all-named : {k : ℕ} → NamesNothing b k → ⊥
+  all-named (noResult p l h) = omega (arith, w .resultNamed p l)
+  all-named (noArgument p i l m h) = not-both (namesArgument b (argument b p i)) (w .argumentNamed p i l m) h
+
+  -- ranges rise
+  none-falling : {k : ℕ} → FallingRange b k → ⊥
+  none-falling (falling k r l m h) = omega (arith, w .rangesRise k r l m)
+
+  -- declarations are as they should be
+  no-bad-declaration : {k : ℕ} → BadDeclarationByte b k → ⊥
+  no-bad-declaration (badKind d l h) = not-both (outside 1 kindLimit (kind b d)) h (inside 1 kindLimit (kind b d) (w .someKind d l) (w .fewKinds d l))
+  no-bad-declaration (badFirst d l h) = omega (arith, w .firstThere d l)
+  no-bad-declaration (badSecond d l h) = omega (arith, w .secondThere d l)
+  no-bad-declaration (badGroup d l g h) = omega (arith, w .groupsRise d l g)
+
+  -- It is accepted.
+  pub formed-accepted : ((p : ℕ) → p < productions b → Higher b p p → ⊥) → checked b ≡ Accepted
+  formed-accepted acyclic = free-accepted b by-stage
+    where
+      by-stage : (s n k : ℕ) → Holds b s n k → ⊥
+      by-stage s n k (refusal1 h) = omega (arith, w .framed .header)
+      by-stage s n k (refusal2 h) = no-bad-header h
+      by-stage s n k (refusal1′ h) = omega (arith, bodies-in b (w .framed))
+      by-stage s n k (refusal3 h) = no-large-count h
+      by-stage s n k (refusal4 h) = h (w .framed .lengthIs)
+      by-stage s n k (refusal5 h) = all-named h
+      by-stage s n k (refusal6 h) = none-falling h
+      by-stage s n k (refusal7 h) = no-bad-declaration h
+      by-stage s n k (refusal8 {p} h) = not-both (sameProduction b p (h .earlier)) (h .same) (w .different p (h .earlier) (h .there) (h .isEarlier))
+      by-stage s n k (refusal9 {p} h) = acyclic p (h .there) (h .circle)

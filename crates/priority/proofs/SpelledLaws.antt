@@ -30,7 +30,7 @@ use Rattle.priority.specs.Spelled.{IsOfTwo, pairsFrom, spelled, spelledO
 
 -- a kind of groups says one of the kinds 2, 3 and 4
 module _ (n : ℕ) (g : isGroup n ≡ true) where
-  said-bounds : (2 ≤ saidKind n) × (saidKind n ≤ pairKindLimit)
+  pub said-bounds : (2 ≤ saidKind n) × (saidKind n ≤ pairKindLimit)
   unfolding isGroup saidKind
   said-bounds =
       let above = ltb-true pairKindLimit n (and-first-true (ltb pairKindLimit n) (leb n kindLimit) g) in
@@ -38,7 +38,7 @@ module _ (n : ℕ) (g : isGroup n ≡ true) where
       rw g (omega arith, omega arith)
 
   -- which is no kind of groups
-  said-single : isGroup (saidKind n) ≡ false
+  pub said-single : isGroup (saidKind n) ≡ false
   unfolding isGroup
   said-single = rw (le-ltb pairKindLimit (saidKind n) (said-bounds .1)) refl
 

@@ -4,6 +4,7 @@ use mathlib.Core.Path.{_≡_, refl, sym, _∙_, ap, subst, subst⁻¹, fun-ext}
 use mathlib.Core.Bool.{true}
 use mathlib.Core.Logic.{⊎-elim}
 use mathlib.Core.List.{List}
+use native.Mathlib.Omega.{arith}
 use lib.ListN.{length, getD}
 use lib.Seq.{slice}
 use Rattle.flatten.proofs.AnswerLaws.{flat-fits, flat-too-long, flat-grammar}
@@ -14,6 +15,7 @@ use Rattle.flatten.proofs.AlikeLaws.{flat-alike, reading-alike, entry-alike}
 use Rattle.ccg.proofs.ListingLaws.{listing-determines}
 use Rattle.ccg.proofs.WrittenLaws.{text-determines}
 use Rattle.flatten.proofs.FlatWrittenLaws.{flat-written}
+use Rattle.charset.specs.Set.{characters}
 use Rattle.ccg.specs.Ccg.{Class, Line, Generated}
 use Rattle.flatten.specs.Flat.{flatGrammar, plainClass}
 use Rattle.engine.proofs.AnswerLaws.{none-exactly, none-buffer, several-exactly, several-buffer, one-exactly, one-buffer, long-exactly, long-buffer, refused-is-long}
@@ -34,6 +36,8 @@ use Rattle.priority.proofs.CheckLaws.{accepted-formed}
 use Rattle.question.proofs.AnswerLaws.{conflict-yes, conflict-no, conflict-absent, conflict-refused}
 use Rattle.priority.proofs.DeclarationLaws.{accepted-declares}
 use Rattle.priority.proofs.SpelledLaws.{group-number, single-found, single-written, single-turned, group-found, group-made, group-only, spelled-none, spelled-same, spelled-many, spelled-declared, higher-alike, circles-alike, conflict-carried}
+use Rattle.priority.proofs.SpelledGrammarLaws.{spelled-no-groups, spelled-small, spelled-conflict, spelled-accepted}
+use Rattle.flatten.proofs.SpelledGrammarLaws.{spelled-flat, spelled-reading}
 use Rattle.grammar.proofs.FormedLaws.{pair-judged}
 use Rattle.grammar.specs.Limits.{groupStep}
 use Rattle.priority.specs.Priorities.{Kind, left, right, nonassoc, kindNumber, eitherWay, declarationOf, declarationsOf}
@@ -45,7 +49,7 @@ use Rattle.rows.proofs.UnderLaws.{row-stands}
 use Rattle.rows.specs.declared.Row.{Row}
 use Rattle.writing.specs.declared.WriteAnswer.{WriteAnswer}
 use Rattle.writing.specs.declared.WriteAnswer.the-variants.{Written, Refused as NotWritten}
-use Rattle.theorems.specs.Theorems.{Bytes, AcceptedExactly, RefusedExactly, ConflictExactly, FlatExactly, Refuses, OneOutcome, ListingExactly, OneIsRight, Declares, FlatIsVisser, FlatIsCompleted, FlatTrees, FlatArguments, ReadingsAreFlat, Read, TextDetermines, Archived, FlatIsWritten, ListingDetermines, OneListed, PageExactly, PageSays, Pages, Parts, SaysOfGroup, GroupsSay, Spells, GroupsAreTheirPairs, PairsAsBefore, MarkedCases}
+use Rattle.theorems.specs.Theorems.{Bytes, AcceptedExactly, RefusedExactly, ConflictExactly, FlatExactly, Refuses, OneOutcome, ListingExactly, OneIsRight, Declares, FlatIsVisser, FlatIsCompleted, FlatTrees, FlatArguments, ReadingsAreFlat, Read, TextDetermines, Archived, FlatIsWritten, ListingDetermines, OneListed, PageExactly, PageSays, Pages, Parts, SaysOfGroup, GroupsSay, Spells, GroupsAreTheirPairs, SpelledBooks, PairsAsBefore, MarkedCases}
 
 -- ---- demand 1
 
@@ -235,6 +239,18 @@ groups-are-their-pairs b =
       flat = flat-alike out ls e b;
       reading = reading-alike out ls e b;
       entries = entry-alike out ls e b;
+    }
+
+pub spelled-books : SpelledBooks
+spelled-books b e =
+    let w = accepted-formed b e in
+    record {
+      accepted = spelled-accepted b e;
+      noGroup = spelled-no-groups b w;
+      conflict = λ p i q (lp, li, lq). spelled-conflict b w p i q lp li lq;
+      flat = spelled-flat b w;
+      reading = spelled-reading b w;
+      bytes = λ small h. spelled-small b w characters (omega arith) small (omega arith);
     }
 
 pub pairs-as-before : PairsAsBefore

@@ -41,7 +41,7 @@ use Rattle.common.specs.Lists.{All}
 use Rattle.engine.specs.declared.Answer.{Answer}
 use Rattle.engine.specs.declared.Answer.the-variants.{None, One, Several, Refused as NotRead}
 use Rattle.numbers.specs.Written.{bytesOf}
-use Rattle.grammar.specs.Layout.{productions, startSort, argumentCount, result, argument, declarationAt, kind, first, second}
+use Rattle.grammar.specs.Layout.{productions, declarations, startSort, argumentCount, result, argument, declarationAt, kind, first, second}
 use Rattle.grammar.specs.Check.{outside, isGroup, badDeclaration}
 use Rattle.grammar.specs.Limits.{pairKindLimit}
 use Rattle.grammar.specs.Verdict.{refuseIf, inOrder}
@@ -59,7 +59,7 @@ use Rattle.priority.specs.Conflict.{ConflictIn, Conflict}
 use Rattle.question.specs.Answer.{There, conflictAnswer}
 use Rattle.priority.specs.Priorities.{Kind, left, right, nonassoc, kindNumber, eitherWay, covers, HigherIn, declarationOf, declarationsOf, Higher, PriorityDeclaration}
 use Rattle.priority.specs.declared.Declaration.{Declaration}
-use Rattle.priority.specs.Spelled.{IsOfTwo, spelledOut}
+use Rattle.priority.specs.Spelled.{IsOfTwo, spelledOut, spelledGrammar}
 use Rattle.priority.specs.Refusals.{Holds, First}
 use Rattle.question.specs.declared.ConflictAnswer.the-variants.{Yes, No, Refused as NotAsked}
 use Rattle.rows.specs.Rows.{noRow, rows}
@@ -290,6 +290,19 @@ pub record SpelledOut (b : List ℕ) (ls : List Declaration) : Type 0 where
 
 abbrev pub GroupsAreTheirPairs : Type 0
 GroupsAreTheirPairs = (b : List ℕ) → SpelledOut b (spelledOut (declarationsOf b))
+
+-- The book with each pair spelled out (`spelledGrammar`, beside `spelledOut`): the grammar's own numbers, but for the count of declarations and these themselves.
+-- It is accepted, has no group, and has the same conflicts, flat grammar and readings; it is a grammar of bytes if it has at most 255 declarations.
+pub record SpelledSame (b : List ℕ) : Type 0 where
+  pub accepted : checked (spelledGrammar b) ≡ Accepted
+  pub noGroup : (d : ℕ) → d < declarations (spelledGrammar b) → isGroup (kind (spelledGrammar b) d) ≡ false
+  pub conflict : (p i q : ℕ) → There b p i q → Conflict (spelledGrammar b) p i q ↔ Conflict b p i q
+  pub flat : flatGrammar (spelledGrammar b) ≡ flatGrammar b
+  pub reading : (w : List ℕ) (t : Tree) → Reading (spelledGrammar b) w t ↔ Reading b w t
+  pub bytes : Bytes b → length (spelledOut (declarationsOf b)) ≤ 255 → Bytes (spelledGrammar b)
+
+abbrev pub SpelledBooks : Type 0
+SpelledBooks = (b : List ℕ) → checked b ≡ Accepted → SpelledSame b
 
 -- A declaration of two productions covers what it did before there were groups, and refusal 7 judges it as it did. (No other definition knows of kinds.)
 pub record AsBefore (b : List ℕ) (d : ℕ) : Type 0 where

@@ -1,8 +1,8 @@
 -- `read_declaration` meets its contract.
-use mathlib.Core.Path.{_≡_, refl}
+use mathlib.Core.Path.{refl}
 use native.Mathlib.Omega.{arith}
 use Rattle.grammar.proofs.FormedLaws.{declaration-in}
-use Rattle.grammar.specs.Layout.{kind, first, second}
+use Rattle.priority.proofs.PriorityLaws.{kind-is, first-is, second-is}
 use Rattle.priority.specs.Priorities.{declarationOf}
 use Rattle.priority.proofs.read_declaration.Statement.{statement}
 use Rattle.priority.proofs.read_declaration.Tie as tie
@@ -33,17 +33,16 @@ byte-at-requires-3 c κs =
     omega (arith, declaration-in (start .args .book .now) (start .pre .0 .framed) (start .args .d) (start .pre .1 .0))
 
 returns : tie.Need-returns
-unfolding declarationOf kind first second
+unfolding declarationOf
 returns c =
     let start = c .before .before .before .before in
-    let byte-at = c .before .before .byte-at in
     let b = start .args .book .now in
     let d = start .args .d in
     let w = start .pre .0 in
-    let h = start .pre .1 .0 in
-    let k : byte-at .result ≡ kind b d = rw (start .pre .1 .1) at (byte-at .ensures) in
-    let f : c .before .byte-at2 .result ≡ first b d = rw (start .pre .1 .1) at (c .before .byte-at2 .ensures) in
-    let s : c .byte-at3 .result ≡ second b d = rw (start .pre .1 .1) at (c .byte-at3 .ensures) in
+    let (h, place) = start .pre .1 in
+    let k = kind-is b d (start .args .at) (c .before .before .byte-at .result) place (c .before .before .byte-at .ensures) in
+    let f = first-is b d (start .args .at) (c .before .byte-at2 .result) place (c .before .byte-at2 .ensures) in
+    let s = second-is b d (start .args .at) (c .byte-at3 .result) place (c .byte-at3 .ensures) in
     (rw (k, f, s) refl, (omega (arith, w .firstThere d h, w .framed .fewProductions), omega (arith, w .secondThere d h, w .framed .fewProductions)))
 
 pub read-declaration-spec : {M : Type 1} → statement M
