@@ -128,7 +128,7 @@ module _ (b : List ℕ) (d : ℕ) (e : badDeclaration b d ≡ Accepted) where
   second-there = leb-false (productions b) (second b d) (refuse-accepted _ 7 _ (parts .1 .1 .0))
 
   pub group-rises : isGroup (kind b d) ≡ true → first b d ≤ second b d
-  group-rises g = ltb-false (second b d) (first b d) (rw g at (refuse-accepted (isGroup (kind b d) && ltb (second b d) (first b d)) 7 (declarationAt b d + 1) (parts .1 .1 .1 .0)))
+  group-rises g = ltb-false (second b d) (first b d) (rw g at (refuse-accepted (isGroup (kind b d) && ltb (second b d) (first b d)) 7 _ (parts .1 .1 .1 .0)))
 
 -- a declaration of two productions is judged as if there were no kinds of groups
 no-group : (n : ℕ) → isGroup n ≡ false → outside 1 kindLimit n ≡ outside 1 pairKindLimit n

@@ -23,13 +23,13 @@ use Rattle.grammar.specs.declared.Verdict.the-variants.{Accepted}
 use Rattle.priority.proofs.CheckLaws.{accepted-formed}
 use Rattle.priority.proofs.PriorityLaws.{kind-is, first-is, second-is}
 use Rattle.priority.proofs.RefusalLaws.{accepted-free, formed-accepted}
-use Rattle.priority.proofs.SpelledLaws.{said-bounds, said-single, spelled-declared, higher-alike, conflict-carried}
+use Rattle.priority.proofs.SpelledLaws.{said-bounds, spelled-none, spelled-declared, higher-alike, conflict-carried}
 use Rattle.priority.specs.Check.{checked}
 use Rattle.priority.specs.Conflict.{isSort, fits, isFirst, isLast, ConflictIn, Conflict, anywhere, atFirst, atLast, barred, conflictsIn}
 use Rattle.priority.specs.Priorities.{Kind, saidKind, declaredIn, declarationOf, declarationsOf, declared}
 use Rattle.priority.specs.declared.Declaration.{Declaration}
 use Rattle.priority.specs.Refusals.{refusal9}
-use Rattle.priority.specs.Spelled.{pairsFrom, spelled, spelledOut, declarationNumbers, spelledGrammar}
+use Rattle.priority.specs.Spelled.{IsOfTwo, pairsFrom, spelled, spelledOut, declarationNumbers, spelledGrammar}
 
 -- ---- grammars that differ only in their declarations have the same conflicts by a list of declarations
 
@@ -92,44 +92,31 @@ numbers-at (x ∷ ls) (suc d) l =
 same-declaration : (k f s : ℕ) (l : Declaration) → k ≡ l .kind → f ≡ l .first → s ≡ l .second → record { kind = k; first = f; second = s } ≡ l
 same-declaration k f s l d e g = rw (d, e, g) refl
 
--- ---- each spelled-out declaration is one of two productions, and as it should be
+-- ---- each spelled-out declaration is as it should be
 
 -- A declaration as it should be, of so many productions.
 abbrev Proper : ℕ → Declaration → Type 0
 Proper count l = Declares count (l .kind) (l .first) (l .second)
 
--- One that is not of a group.
-abbrev Single : ℕ → Declaration → Type 0
-Single count l = Proper count l × (isGroup (l .kind) ≡ false)
-
-module _ (count m : ℕ) (some : 1 ≤ m) (few : m ≤ kindLimit) (g : isGroup m ≡ false) where
-  -- two productions that are there
-  single : (f s : ℕ) → f < count → s < count → f ≤ s → Single count (record { kind = m; first = f; second = s })
-  single f s lf ls h = (record { someKind = some; fewKinds = few; firstThere = lf; secondThere = ls; groupRises = λ e. h }, g)
-
-  -- the pairs of a group
-  pairs-single : (n f : ℕ) → f + n ≤ count → All (Single count) (pairsFrom m f n)
-  unfolding pairsFrom
-  pairs-single zero f h = tt
-  pairs-single (suc n) f h =
-      all-append (Single count) (tabulate (suc n) (λ j. record { kind = m; first = f; second = f + j })) (pairsFrom m (suc f) n)
-      (all-tabulate (Single count) (suc n) (λ j. record { kind = m; first = f; second = f + j }) (λ j l. single f (f + j) (omega arith) (omega arith) (omega arith)))
-      (pairs-single n (suc f) (omega arith))
+-- the pairs of a group
+pairs-proper : (count m : ℕ) → 1 ≤ m → m ≤ kindLimit → (n f : ℕ) → f + n ≤ count → All (Proper count) (pairsFrom m f n)
+unfolding pairsFrom
+pairs-proper count m some few zero f h = tt
+pairs-proper count m some few (suc n) f h =
+    let row : ℕ → Declaration = λ j. record { kind = m; first = f; second = f + j } in
+    all-append (Proper count) (tabulate (suc n) row) (pairsFrom m (suc f) n)
+    (all-tabulate (Proper count) (suc n) row (λ j l. record { someKind = some; fewKinds = few; firstThere = omega arith; secondThere = omega arith; groupRises = λ e. omega arith }))
+    (pairs-proper count m some few n (suc f) (omega arith))
 
 -- what is spelled out of one declaration
-spelled-single : (count : ℕ) (l : Declaration) → Proper count l → All (Single count) (spelled l)
+spelled-proper : (count : ℕ) (l : Declaration) → Proper count l → All (Proper count) (spelled l)
 unfolding spelled
-spelled-single count l h =
+spelled-proper count l h =
     ⊎-elim
     (λ (g : isGroup (l .kind) ≡ true). let (low, high) = said-bounds (l .kind) g in
-    rw g (pairs-single count (saidKind (l .kind)) (omega arith) (omega arith) (said-single (l .kind) g) (l .second + 1 - l .first) (l .first) (omega (arith, h .firstThere, h .secondThere))))
-    (λ (g : isGroup (l .kind) ≡ false). rw g ((h, g), tt))
+    rw g (pairs-proper count (saidKind (l .kind)) (omega arith) (omega arith) (l .second + 1 - l .first) (l .first) (omega (arith, h .firstThere, h .secondThere))))
+    (λ (g : isGroup (l .kind) ≡ false). rw g (h, tt))
     (true-or-false (isGroup (l .kind)))
-
--- and of a list of them
-spelled-out-single : (count : ℕ) (ls : List Declaration) → All (Proper count) ls → All (Single count) (spelledOut ls)
-unfolding spelledOut
-spelled-out-single count = all-joined (Proper count) (Single count) spelled (spelled-single count)
 
 -- the declarations of a grammar are as they should be
 formed-proper : (b : List ℕ) → WellFormed b → All (Proper (productions b)) (declarationsOf b)
@@ -137,6 +124,12 @@ unfolding declarationsOf declarationOf
 formed-proper b w =
     all-tabulate (Proper (productions b)) (declarations b) (declarationOf b)
     (λ d l. record { someKind = w .someKind d l; fewKinds = w .fewKinds d l; firstThere = w .firstThere d l; secondThere = w .secondThere d l; groupRises = w .groupsRise d l })
+
+-- and so are those spelled out
+spelled-out-proper : (b : List ℕ) → WellFormed b → All (Proper (productions b)) (spelledOut (declarationsOf b))
+unfolding spelledOut
+spelled-out-proper b w =
+    all-joined (Proper (productions b)) (Proper (productions b)) spelled (spelled-proper (productions b)) (declarationsOf b) (formed-proper b w)
 
 -- ---- where the numbers of the spelled-out grammar stand
 
@@ -238,26 +231,25 @@ module _ (b : List ℕ) (w : WellFormed b) where
       let ls = spelledOut (declarationsOf b) in
       ap (λ (n : ℕ). tabulate n (declarationOf c)) (spelled-count b (w .framed)) ∙ tabulate-members noDeclaration (declarationOf c) ls (spelled-is b (w .framed))
 
-  -- each of them is of two productions, and as it should be
-  spelled-each : (d : ℕ) → d < declarations (spelledGrammar b) → Single (productions b) (declarationOf (spelledGrammar b) d)
-  spelled-each d l =
+  -- what holds of each of those holds of its declarations
+  spelled-each : (P : Declaration → Type 0) → All P (spelledOut (declarationsOf b)) → (d : ℕ) → d < declarations (spelledGrammar b) → P (declarationOf (spelledGrammar b) d)
+  spelled-each P h d l =
       let ls = spelledOut (declarationsOf b) in
       let m : d < length ls = omega (arith, spelled-count b (w .framed)) in
-      subst (Single (productions b)) (sym (spelled-is b (w .framed) d m))
-      (all-at (Single (productions b)) ls d noDeclaration (spelled-out-single (productions b) (declarationsOf b) (formed-proper b w)) m)
+      subst P (sym (spelled-is b (w .framed) d m)) (all-at P ls d noDeclaration h m)
 
   -- No declaration is of a group.
   pub spelled-no-groups : (d : ℕ) → d < declarations (spelledGrammar b) → isGroup (kind (spelledGrammar b) d) ≡ false
   unfolding declarationOf
-  spelled-no-groups d l = spelled-each d l .1
+  spelled-no-groups = spelled-each IsOfTwo (spelled-none (declarationsOf b))
 
   -- Its numbers are as small as the grammar's, if there are few enough declarations: then it is a grammar of bytes.
   pub spelled-small : (m : ℕ) → kindLimit < m → ((k : ℕ) → byteAt b k < m) → length (spelledOut (declarationsOf b)) < m → (k : ℕ) → byteAt (spelledGrammar b) k < m
   spelled-small m few small h k =
       let ls = spelledOut (declarationsOf b) in
-      let numbers = all-joined (Single (productions b)) (λ n. n < m) declarationNumbers
-      (λ l (p, g). (omega (arith, p .fewKinds), (omega (arith, p .firstThere, small 1), (omega (arith, p .secondThere, small 1), tt))))
-      ls (spelled-out-single (productions b) (declarationsOf b) (formed-proper b w)) in
+      let numbers = all-joined (Proper (productions b)) (λ n. n < m) declarationNumbers
+      (λ l p. (omega (arith, p .fewKinds), (omega (arith, p .firstThere, small 1), (omega (arith, p .secondThere, small 1), tt))))
+      ls (spelled-out-proper b w) in
       let at = declarationAt b 0 in
       by-cases (decLt k at)
       (λ l. elim (ℕ-discrete k 3) [
@@ -274,7 +266,7 @@ module _ (b : List ℕ) (w : WellFormed b) where
   pub spelled-formed : WellFormed (spelledGrammar b)
   unfolding declarationOf
   spelled-formed =
-      front-formed b (spelledGrammar b) (spelled-front b (w .framed)) w (spelled-length b (w .framed)) (λ d l. spelled-each d l .0)
+      front-formed b (spelledGrammar b) (spelled-front b (w .framed)) w (spelled-length b (w .framed)) (spelled-each (Proper (productions b)) (spelled-out-proper b w))
 
   -- It declares the same pairs.
   pub spelled-pairs : (k : Kind) (x y : ℕ) → declared (spelledGrammar b) k x y ≡ declared b k x y

@@ -38,7 +38,7 @@ module _ (n : ℕ) (g : isGroup n ≡ true) where
       rw g (omega arith, omega arith)
 
   -- which is no kind of groups
-  pub said-single : isGroup (saidKind n) ≡ false
+  said-single : isGroup (saidKind n) ≡ false
   unfolding isGroup
   said-single = rw (le-ltb pairKindLimit (saidKind n) (said-bounds .1)) refl
 

@@ -37,7 +37,8 @@ eitherWay nonassoc = true
 unfoldable pub between : (first second : ℕ) → ℕ → Bool
 between first second x = leb first x && leb x second
 
--- A declaration names x first and y second: they are its two productions or, if it is of a group, two that stand from its first to its second (02, [2]).
+-- A declaration (the code's struct: a kind's number, a first and a second production) names x first and y second: they are its two productions or, if it is of a
+-- group, two that stand from its first to its second (02, [2]).
 unfoldable pub namesPair : Declaration → ℕ → ℕ → Bool
 namesPair l x y =
     cond (isGroup (l .kind)) (between (l .first) (l .second) x && between (l .first) (l .second) y) (eqb (l .first) x && eqb (l .second) y)
