@@ -233,6 +233,7 @@ groups-are-their-pairs b =
     let out = spelledOut ls in
     let e = spelled-declared ls in
     record {
+      pairs = e;
       higher = higher-alike out ls e;
       circle = circles-alike out ls e b;
       conflict = λ p i q. (conflict-carried out ls e, conflict-carried ls out (λ k x y. sym (e k x y)));

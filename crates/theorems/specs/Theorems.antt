@@ -57,7 +57,7 @@ use Rattle.flatten.specs.Reading.{ReadingIn, EntryListIn, Reading, EntryList}
 use Rattle.priority.specs.Check.{circlesIn, circles, checked}
 use Rattle.priority.specs.Conflict.{ConflictIn, Conflict}
 use Rattle.question.specs.Answer.{There, conflictAnswer}
-use Rattle.priority.specs.Priorities.{Kind, left, right, nonassoc, kindNumber, eitherWay, covers, HigherIn, declarationOf, declarationsOf, Higher, PriorityDeclaration}
+use Rattle.priority.specs.Priorities.{Kind, left, right, nonassoc, kindNumber, eitherWay, covers, declaredIn, HigherIn, declarationOf, declarationsOf, declared, Higher, PriorityDeclaration}
 use Rattle.priority.specs.declared.Declaration.{Declaration}
 use Rattle.priority.specs.Spelled.{IsOfTwo, spelledOut, spelledGrammar}
 use Rattle.priority.specs.Refusals.{Holds, First}
@@ -278,9 +278,10 @@ pub record Spells (ls : List Declaration) : Type 0 where
   pub same : All IsOfTwo ls → spelledOut ls ≡ ls
   pub many : (kind first n : ℕ) → isGroup kind ≡ true → 2 * length (spelledOut (record { kind = kind; first = first; second = first + n } ∷ [])) ≡ (n + 1) * (n + 2)
 
--- Whatever declarations decide is decided for every b by its own as by these spelled out, however many: the closed priorities, refusal 9, the conflicts, the flat
--- grammar, the readings and what the chart counts. So what is stated above of a grammar is stated of it with each pair spelled out.
+-- Spelled out, the declarations of every b declare the same pairs, however many they are, and so decide the same: the closed priorities, refusal 9, the conflicts, the
+-- flat grammar, the readings and what the chart counts. So what is stated above of a grammar is stated of it with each pair spelled out.
 pub record SpelledOut (b : List ℕ) (ls : List Declaration) : Type 0 where
+  pub pairs : (k : Kind) (x y : ℕ) → declaredIn ls k x y ≡ declared b k x y
   pub higher : (x y : ℕ) → HigherIn ls x y ↔ Higher b x y
   pub circle : circlesIn b ls ≡ circles b
   pub conflict : (p i q : ℕ) → ConflictIn b ls p i q ↔ Conflict b p i q
