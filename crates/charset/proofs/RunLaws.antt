@@ -11,6 +11,7 @@ use native.Mathlib.Numerals.{add-one}
 use lib.Dec.{eqb}
 use lib.ListN.{length}
 use borrow.Author.Tests.{le-leb, lt-leb, eq-eqb, ne-eqb}
+use Rattle.common.proofs.BelowLaws.{between-below, between-above, between-in}
 use Rattle.charset.specs.Runs.{Range, range, withNumber, runs, Apart, covered, Normal, firstRun}
 use Rattle.charset.specs.Set.{inRange}
 use Rattle.charset.specs.Sought.{Sought}
@@ -206,32 +207,20 @@ unfolding Apart
 above-apart e c [] h a = tt
 above-apart e c (r ∷ rs) h a = omega arith
 
-in-range : (l h c : ℕ) → l ≤ c → c ≤ h → inRange l h c ≡ true
-unfolding inRange
-in-range l h c p q = rw (le-leb l c p, le-leb c h q) refl
-
-below-range : (l h c : ℕ) → c < l → inRange l h c ≡ false
-unfolding inRange
-below-range l h c p = rw (lt-leb l c p) refl
-
-above-range : (l h c : ℕ) → l ≤ c → h < c → inRange l h c ≡ false
-unfolding inRange
-above-range l h c p q = rw (le-leb l c p, lt-leb c h q) refl
-
 not-covered-below : (rs : List Range) (c : ℕ) → Normal rs → Above (suc c) rs → covered rs c ≡ false
-unfolding covered Normal
+unfolding covered Normal inRange
 not-covered-below [] c n a = refl
 not-covered-below (r ∷ rs) c n a =
-    rw (below-range (r .low) (r .high) c a) (not-covered-below rs c (n .2) (above-apart (r .high) c rs (omega arith) (n .1)))
+    rw (between-below (r .low) (r .high) c a) (not-covered-below rs c (n .2) (above-apart (r .high) c rs (omega arith) (n .1)))
 
 module _ (r : Range) (rs : List Range) (n : Normal (r ∷ rs)) where
   covered-in : (c : ℕ) → r .low ≤ c → c ≤ r .high → covered (r ∷ rs) c ≡ true
-  unfolding covered
-  covered-in c p q = rw (in-range (r .low) (r .high) c p q) refl
+  unfolding covered inRange
+  covered-in c p q = rw (between-in (r .low) (r .high) c p q) refl
 
   covered-past : (c : ℕ) → r .high < c → covered (r ∷ rs) c ≡ covered rs c
-  unfolding covered Normal
-  covered-past c p = rw (above-range (r .low) (r .high) c (omega arith) p) refl
+  unfolding covered inRange
+  covered-past c p = rw (between-above (r .low) (r .high) c p) refl
 
   gap-after : (c : ℕ) → c ≤ suc (r .high) → covered rs c ≡ false
   unfolding Normal

@@ -1,9 +1,10 @@
 -- Sets of bytes, and ranges of characters (01, "The book"; 000, Definition 3.1).
 use Prim.Native.Nat.{ℕ, _/_, _%_, _^_}
-use mathlib.Core.Bool.{Bool, _&&_}
+use mathlib.Core.Bool.{Bool}
 use mathlib.Core.List.{List}
-use lib.Dec.{leb, eqb}
+use lib.Dec.{eqb}
 use lib.ListN.{getD}
+use Rattle.common.specs.Below.{between}
 
 -- How many characters there are: they are bytes.
 abbrev pub characters : ℕ
@@ -27,4 +28,4 @@ has words c = bit (getD words (c / wordBits) 0) (c % wordBits)
 
 -- Character c is in the range from low to high, ends included. Every test of a character against a range is this one.
 unfoldable pub inRange : ℕ → ℕ → ℕ → Bool
-inRange low high c = leb low c && leb c high
+inRange = between

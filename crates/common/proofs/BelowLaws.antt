@@ -1,4 +1,4 @@
--- Laws of sums and tests over the numbers below a bound.
+-- Laws of sums and tests over the numbers below a bound, and of numbers between two.
 use Prim.Native.Nat.{ℕ, zero, suc, _+_, _*_, _≤_, _<_}
 use mathlib.Core.Path.{_≡_, refl, sym, _∙_, ap, ap₂, subst}
 use mathlib.Core.Bool.{Bool, false, true, _&&_, _||_, false≢true, and-false, or-true}
@@ -7,10 +7,10 @@ use native.Mathlib.Omega.{arith}
 use native.Mathlib.Decide.{ℕ-discrete, decLt}
 use native.Mathlib.Nat.{le-refl}
 use native.Mathlib.Numerals.{add-one}
-use lib.Dec.{eqb}
-use borrow.Author.Tests.{eq-eqb, ne-eqb}
+use lib.Dec.{leb, eqb}
+use borrow.Author.Tests.{le-leb, lt-leb, leb-true, eq-eqb, ne-eqb}
 use Rattle.common.proofs.BoolLaws.{or-cases, or-first-false, or-second-false, and-first-true, and-second-true}
-use Rattle.common.specs.Below.{sumBelow, allBelow, anyBelow, bitOf}
+use Rattle.common.specs.Below.{sumBelow, allBelow, anyBelow, bitOf, between}
 
 -- ---- sums
 
@@ -173,6 +173,21 @@ pub all-same : (f g : ℕ → Bool) (n : ℕ) → ((k : ℕ) → k < n → f k �
 unfolding allBelow
 all-same f g zero e = refl
 all-same f g (suc n) e = ap₂ _&&_ (all-same f g n (λ k l. e k (omega arith))) (e n (omega arith))
+
+-- ---- a number between two
+
+module _ (low high x : ℕ) where
+  pub between-below : x < low → between low high x ≡ false
+  between-below h = rw (lt-leb low x h) refl
+
+  pub between-above : high < x → between low high x ≡ false
+  between-above h = rw (lt-leb x high h) (and-false (leb low x))
+
+  pub between-in : low ≤ x → x ≤ high → between low high x ≡ true
+  between-in h l = rw (le-leb low x h, le-leb x high l) refl
+
+  pub between-ends : between low high x ≡ true → (low ≤ x) × (x ≤ high)
+  between-ends e = (leb-true low x (and-first-true (leb low x) (leb x high) e), leb-true x high (and-second-true (leb low x) (leb x high) e))
 
 -- ---- bits
 

@@ -1,6 +1,7 @@
--- Sums and tests over the numbers 0, 1, … n - 1.
+-- Sums and tests over the numbers 0, 1, … n - 1, and the test for a number between two.
 use Prim.Native.Nat.{ℕ, zero, suc, _+_}
 use mathlib.Core.Bool.{Bool, false, true, _&&_, _||_}
+use lib.Dec.{leb}
 
 -- f 0 + f 1 + … + f (n - 1)
 unfoldable pub sumBelow : ℕ → (ℕ → ℕ) → ℕ
@@ -21,3 +22,7 @@ anyBelow (suc n) f = anyBelow n f || f n
 abbrev pub bitOf : Bool → ℕ
 bitOf true = 1
 bitOf false = 0
+
+-- x is one of low, low + 1, … high
+abbrev pub between : (low high : ℕ) → ℕ → Bool
+between low high x = leb low x && leb x high

@@ -21,7 +21,7 @@ use Rattle.parse.specs.Outcome.{needed, refusal}
 use Rattle.priority.specs.Chain.{through}
 use Rattle.priority.specs.Check.{circle, checked}
 use Rattle.priority.specs.Conflict.{isSort, fits, isFirst, isLast, rightOrNonassoc, leftOrNonassoc, barred, conflictsIn}
-use Rattle.priority.specs.Priorities.{kindNumber, saidKind, eitherWay, between, namesPair, covers, declaredIn, declarationOf, declarationsOf, isHigherIn}
+use Rattle.priority.specs.Priorities.{kindNumber, saidKind, eitherWay, namesPair, covers, declaredIn, declarationOf, declarationsOf, isHigherIn}
 use Rattle.tables.specs.Layout.{rowCount}
 use Rattle.theory.specs.Steps.{charEntry, argumentSum, splitSum}
 use Rattle.theory.specs.Tree.{Tree, leaf, node, none, _▷_, yield, listing}
@@ -113,7 +113,7 @@ shown =
     ∷ []
 
 tested : tableTest shown ≡ true
-unfolding tableTest caseTest tests every same allBytes occurrences grammarOf derives parses chartOf emptyTest stepTest parseSum accepts refuses splitSum argumentSum charEntry listing yield sumBelow allBelow anyBelow tabulate refusal tooLong chartTooShort needed rowCount spanCount checked circle isHigherIn through declaredIn declarationsOf declarationOf covers kindNumber saidKind eitherWay between namesPair isSort fits isFirst isLast rightOrNonassoc leftOrNonassoc barred conflictsIn mayStandIn isClass classHas inRange argumentCount rangeCount productionAt result argument classAt low high declarationAt kind first second neededLength shortHeader headerBytes badHeader shortContents badArgumentCount badRangeCount badLength namesArgument badArgument badProduction badRange isGroup declarationBytes badDeclaration sameProduction repeatedProduction firstRefusal
+unfolding tableTest caseTest tests every same allBytes occurrences grammarOf derives parses chartOf emptyTest stepTest parseSum accepts refuses splitSum argumentSum charEntry listing yield sumBelow allBelow anyBelow tabulate refusal tooLong chartTooShort needed rowCount spanCount checked circle isHigherIn through declaredIn declarationsOf declarationOf covers kindNumber saidKind eitherWay namesPair isSort fits isFirst isLast rightOrNonassoc leftOrNonassoc barred conflictsIn mayStandIn isClass classHas inRange argumentCount rangeCount productionAt result argument classAt low high declarationAt kind first second neededLength shortHeader headerBytes badHeader shortContents badArgumentCount badRangeCount badLength namesArgument badArgument badProduction badRange isGroup declarationBytes badDeclaration sameProduction repeatedProduction firstRefusal
 tested = refl
 
 pub marked-cases : All Statement table

@@ -6,16 +6,18 @@ use mathlib.Core.List.{List, [], _∷_, _++_}
 use mathlib.Core.Logic.{⊎-elim, by-cases}
 use native.Mathlib.Omega.{arith}
 use native.Mathlib.Decide.{ℕ-discrete, decLt}
-use lib.Dec.{leb, eqb}
+use lib.Dec.{eqb}
 use lib.ListN.{getD, set}
-use borrow.Author.Tests.{le-leb, lt-leb, leb-true, eqb-true, ne-eqb}
+use borrow.Author.Tests.{eqb-true, ne-eqb}
+use Rattle.common.proofs.BelowLaws.{between-in}
 use Rattle.common.proofs.BoolLaws.{or-cases, or-first, or-second, and-both, and-first-true, and-second-true, true-or-false}
 use Rattle.common.proofs.ListLaws.{tabulate-next}
+use Rattle.common.specs.Below.{between}
 use Rattle.common.specs.Lists.{tabulate}
 use Rattle.grammar.specs.Check.{isGroup}
 use Rattle.priority.proofs.TableLaws.{square-put, entry-put-or}
 use Rattle.priority.specs.Chain.{entry, Square}
-use Rattle.priority.specs.Priorities.{Kind, higher, left, right, nonassoc, kindNumber, saidKind, eitherWay, between, namesPair, covers, declaredIn}
+use Rattle.priority.specs.Priorities.{Kind, higher, left, right, nonassoc, kindNumber, saidKind, eitherWay, namesPair, covers, declaredIn}
 use Rattle.priority.specs.declared.Declaration.{Declaration}
 
 -- ---- lists
@@ -70,25 +72,6 @@ pub declared-turned : (ls : List Declaration) (k : Kind) (x y : ℕ) → eitherW
 unfolding declaredIn
 declared-turned [] k x y e = refl
 declared-turned (l ∷ ls) k x y e = ap₂ _||_ (covers-turned l k x y e) (declared-turned ls k x y e)
-
--- ---- groups
-
-module _ (first second x : ℕ) where
-  pub between-below : x < first → between first second x ≡ false
-  unfolding between
-  between-below h = rw (lt-leb first x h) refl
-
-  pub between-above : second < x → between first second x ≡ false
-  unfolding between
-  between-above h = rw (lt-leb x second h) (and-false (leb first x))
-
-  pub between-in : first ≤ x → x ≤ second → between first second x ≡ true
-  unfolding between
-  between-in h l = rw (le-leb first x h, le-leb x second l) refl
-
-  pub between-ends : between first second x ≡ true → (first ≤ x) × (x ≤ second)
-  unfolding between
-  between-ends e = (leb-true first x (and-first-true (leb first x) (leb x second) e), leb-true x second (and-second-true (leb first x) (leb x second) e))
 
 -- ---- kinds by their numbers
 

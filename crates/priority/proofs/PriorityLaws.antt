@@ -8,16 +8,18 @@ use native.Mathlib.Omega.{arith}
 use lib.Dec.{eqb}
 use lib.ListN.{getD}
 use borrow.Author.Tests.{eqb-true}
+use Rattle.common.proofs.BelowLaws.{between-ends}
 use Rattle.common.proofs.BoolLaws.{or-cases, and-first-true, and-second-true, same-test, true-or-false}
+use Rattle.common.specs.Below.{between}
 use Rattle.grammar.specs.Check.{isGroup}
 use Rattle.grammar.specs.Formed.{WellFormed}
 use Rattle.grammar.specs.Layout.{productions, declarations, declarationAt, kind, first, second}
 use Rattle.grammar.specs.Verdict.{refuseIf}
 use Rattle.priority.proofs.ChainLaws.{through-chain, chain-through}
-use Rattle.priority.proofs.CoverLaws.{declared-found, between-ends}
+use Rattle.priority.proofs.CoverLaws.{declared-found}
 use Rattle.priority.specs.Chain.{link, more, entry}
 use Rattle.priority.specs.Check.{circle, onDiagonal}
-use Rattle.priority.specs.Priorities.{Kind, higher, kindNumber, saidKind, eitherWay, between, namesPair, covers, declarationOf, declarationsOf, declared, Higher, isHigherIn, isHigher}
+use Rattle.priority.specs.Priorities.{Kind, higher, kindNumber, saidKind, eitherWay, namesPair, covers, declarationOf, declarationsOf, declared, Higher, isHigherIn, isHigher}
 
 -- ---- only productions are related
 

@@ -1,16 +1,15 @@
 -- The grammar with its groups spelled out (02, [2]): its declarations are the spelled-out ones, it is accepted if the grammar is, and it has the same conflicts.
 use Prim.Native.Nat.{ℕ, zero, suc, _+_, _-_, _*_, _≤_, _<_}
 use mathlib.Core.Path.{_≡_, refl, sym, _∙_, ap, subst}
-use mathlib.Core.Bool.{false, true, _&&_}
+use mathlib.Core.Bool.{false, _&&_}
 use mathlib.Core.List.{List, [], _∷_, _++_}
-use mathlib.Core.Logic.{_↔_, ⊎-elim, by-cases}
+use mathlib.Core.Logic.{_↔_, by-cases}
 use native.Mathlib.Omega.{arith}
 use native.Mathlib.Decide.{ℕ-discrete, decLt}
 use lib.Dec.{leb, eqb}
 use lib.ListN.{length, getD, take, length-append, List·getD-append, List·getD-eq-default}
 use lib.Seq.{length-take-le, getD-append-add, getD-at, getD-take, getD-drop, slice, length-slice}
-use Rattle.common.proofs.AllLaws.{all-append, all-at, all-tabulate, all-joined}
-use Rattle.common.proofs.BoolLaws.{true-or-false}
+use Rattle.common.proofs.AllLaws.{all-at, all-tabulate, all-joined}
 use Rattle.common.proofs.ListLaws.{tabulate-members}
 use Rattle.common.specs.Lists.{tabulate, joined, All}
 use Rattle.grammar.proofs.LayoutLaws.{declaration-from, declaration-after-classes, needed-is-end}
@@ -23,13 +22,13 @@ use Rattle.grammar.specs.declared.Verdict.the-variants.{Accepted}
 use Rattle.priority.proofs.CheckLaws.{accepted-formed}
 use Rattle.priority.proofs.PriorityLaws.{kind-is, first-is, second-is}
 use Rattle.priority.proofs.RefusalLaws.{accepted-free, formed-accepted}
-use Rattle.priority.proofs.SpelledLaws.{said-bounds, spelled-none, spelled-declared, higher-alike, conflict-carried}
+use Rattle.priority.proofs.SpelledLaws.{said-bounds, spelled-all, spelled-none, spelled-declared, higher-alike, conflict-carried}
 use Rattle.priority.specs.Check.{checked}
 use Rattle.priority.specs.Conflict.{isSort, fits, isFirst, isLast, ConflictIn, Conflict, anywhere, atFirst, atLast, barred, conflictsIn}
-use Rattle.priority.specs.Priorities.{Kind, saidKind, declaredIn, declarationOf, declarationsOf, declared}
+use Rattle.priority.specs.Priorities.{Kind, declaredIn, declarationOf, declarationsOf, declared}
 use Rattle.priority.specs.declared.Declaration.{Declaration}
 use Rattle.priority.specs.Refusals.{refusal9}
-use Rattle.priority.specs.Spelled.{IsOfTwo, pairsFrom, spelled, spelledOut, declarationNumbers, spelledGrammar}
+use Rattle.priority.specs.Spelled.{IsOfTwo, spelled, spelledOut, declarationNumbers, spelledGrammar}
 
 -- ---- grammars that differ only in their declarations have the same conflicts by a list of declarations
 
@@ -98,25 +97,13 @@ same-declaration k f s l d e g = rw (d, e, g) refl
 abbrev Proper : ℕ → Declaration → Type 0
 Proper count l = Declares count (l .kind) (l .first) (l .second)
 
--- the pairs of a group
-pairs-proper : (count m : ℕ) → 1 ≤ m → m ≤ kindLimit → (n f : ℕ) → f + n ≤ count → All (Proper count) (pairsFrom m f n)
-unfolding pairsFrom
-pairs-proper count m some few zero f h = tt
-pairs-proper count m some few (suc n) f h =
-    let row : ℕ → Declaration = λ j. record { kind = m; first = f; second = f + j } in
-    all-append (Proper count) (tabulate (suc n) row) (pairsFrom m (suc f) n)
-    (all-tabulate (Proper count) (suc n) row (λ j l. record { someKind = some; fewKinds = few; firstThere = omega arith; secondThere = omega arith; groupRises = λ e. omega arith }))
-    (pairs-proper count m some few n (suc f) (omega arith))
-
--- what is spelled out of one declaration
+-- what is spelled out of one
 spelled-proper : (count : ℕ) (l : Declaration) → Proper count l → All (Proper count) (spelled l)
-unfolding spelled
 spelled-proper count l h =
-    ⊎-elim
-    (λ (g : isGroup (l .kind) ≡ true). let (low, high) = said-bounds (l .kind) g in
-    rw g (pairs-proper count (saidKind (l .kind)) (omega arith) (omega arith) (l .second + 1 - l .first) (l .first) (omega (arith, h .firstThere, h .secondThere))))
-    (λ (g : isGroup (l .kind) ≡ false). rw g (h, tt))
-    (true-or-false (isGroup (l .kind)))
+    spelled-all (Proper count) l
+    (λ g x j lx hy. let (low, high) = said-bounds (l .kind) g in
+    record { someKind = omega arith; fewKinds = omega arith; firstThere = omega (arith, h .secondThere); secondThere = omega (arith, h .secondThere); groupRises = λ e. omega arith })
+    (λ g. h)
 
 -- the declarations of a grammar are as they should be
 formed-proper : (b : List ℕ) → WellFormed b → All (Proper (productions b)) (declarationsOf b)

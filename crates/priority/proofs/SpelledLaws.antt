@@ -9,20 +9,22 @@ use native.Mathlib.Decide.{decLt}
 use lib.Dec.{leb, ltb, eqb}
 use lib.ListN.{length, length-append}
 use borrow.Author.Tests.{le-ltb, ltb-true, leb-true, eqb-true, eq-eqb}
+use Rattle.common.proofs.BelowLaws.{between-in, between-ends}
 use Rattle.common.proofs.BoolLaws.{or-cases, or-first, or-second, and-first-true, and-second-true, same-test, true-or-false}
 use Rattle.common.proofs.AllLaws.{all-append, all-tabulate}
 use Rattle.common.proofs.ListLaws.{length-tabulate, joined-one}
+use Rattle.common.specs.Below.{between}
 use Rattle.common.specs.Lists.{tabulate, joined, All}
 use Rattle.grammar.proofs.VerdictLaws.{first-same}
 use Rattle.grammar.specs.Check.{isGroup}
 use Rattle.grammar.specs.Layout.{productions}
 use Rattle.grammar.specs.Limits.{kindLimit, pairKindLimit, groupStep}
 use Rattle.priority.proofs.ChainLaws.{chain-map}
-use Rattle.priority.proofs.CoverLaws.{declared-append, declared-one, declared-found, declared-made, declared-none, between-in, between-ends}
+use Rattle.priority.proofs.CoverLaws.{declared-append, declared-one, declared-found, declared-made, declared-none}
 use Rattle.priority.specs.Chain.{through}
 use Rattle.priority.specs.Check.{circle, circlesIn}
 use Rattle.priority.specs.Conflict.{rightOrNonassoc, leftOrNonassoc, ConflictIn, anywhere, atFirst, atLast, barred, conflictsIn}
-use Rattle.priority.specs.Priorities.{Kind, higher, left, right, nonassoc, kindNumber, saidKind, eitherWay, between, namesPair, covers, declaredIn, HigherIn, isHigherIn}
+use Rattle.priority.specs.Priorities.{Kind, higher, left, right, nonassoc, kindNumber, saidKind, eitherWay, namesPair, covers, declaredIn, HigherIn, isHigherIn}
 use Rattle.priority.specs.declared.Declaration.{Declaration}
 use Rattle.priority.specs.Spelled.{IsOfTwo, pairsFrom, spelled, spelledOut}
 
@@ -147,63 +149,73 @@ group-only l g k other e x y h = same-kind other k (sym (group-found l g other x
 
 -- ---- the pairs of a group
 
-module _ (m : ℕ) (g : isGroup m ≡ false) (k : Kind) where
-  -- the first of the group with itself and with each later one
-  row : ℕ → ℕ → Declaration
-  row f j = record { kind = m; first = f; second = f + j }
+-- the first of the group, f, with the one j behind it
+abbrev pair : (m f j : ℕ) → Declaration
+pair m f j = record { kind = m; first = f; second = f + j }
 
+module _ (m : ℕ) (g : isGroup m ≡ false) (k : Kind) where
   pairs-found : (n f x y : ℕ) → declaredIn (pairsFrom m f n) k x y ≡ true → (m ≡ kindNumber k) × (f ≤ x) × (x < f + n) × (f ≤ y) × (y < f + n)
-  unfolding pairsFrom row
+  unfolding pairsFrom
   pairs-found zero f x y e = absurd (false≢true (sym (declared-none k x y) ∙ e))
   pairs-found (suc n) f x y e =
       ⊎-elim
-      (λ a. let (j, l, h) = declared-found (suc n) (row f) k x y a in
-      let (kind, ends) = single-found (row f j) g k x y h in
+      (λ a. let (j, l, h) = declared-found (suc n) (pair m f) k x y a in
+      let (kind, ends) = single-found (pair m f j) g k x y h in
       ⊎-elim (λ o. (kind, omega arith, omega arith, omega arith, omega arith)) (λ o. (kind, omega arith, omega arith, omega arith, omega arith)) ends)
       (λ a. let (kind, lx, hx, ly, hy) = pairs-found n (suc f) x y a in (kind, omega arith, omega arith, omega arith, omega arith))
-      (or-cases (declaredIn (tabulate (suc n) (row f)) k x y) (declaredIn (pairsFrom m (suc f) n) k x y)
-      (sym (declared-append (tabulate (suc n) (row f)) (pairsFrom m (suc f) n) k x y) ∙ e))
+      (or-cases (declaredIn (tabulate (suc n) (pair m f)) k x y) (declaredIn (pairsFrom m (suc f) n) k x y)
+      (sym (declared-append (tabulate (suc n) (pair m f)) (pairsFrom m (suc f) n) k x y) ∙ e))
 
   module _ (e : m ≡ kindNumber k) (way : eitherWay k ≡ true) where
     pairs-made : (n f x y : ℕ) → f ≤ x → x < f + n → f ≤ y → y < f + n → declaredIn (pairsFrom m f n) k x y ≡ true
-    unfolding pairsFrom row
+    unfolding pairsFrom
     pairs-made zero f x y lx hx ly hy = absurd (omega arith)
     pairs-made (suc n) f x y lx hx ly hy =
-        let own = declaredIn (tabulate (suc n) (row f)) k x y in
+        let own = declaredIn (tabulate (suc n) (pair m f)) k x y in
         let rest = declaredIn (pairsFrom m (suc f) n) k x y in
-        declared-append (tabulate (suc n) (row f)) (pairsFrom m (suc f) n) k x y
+        declared-append (tabulate (suc n) (pair m f)) (pairsFrom m (suc f) n) k x y
         ∙ by-cases (decLt f x)
         (λ a. by-cases (decLt f y)
         (λ c. or-second own rest (pairs-made n (suc f) x y (omega arith) (omega arith) (omega arith) (omega arith)))
-        (λ c. or-first own rest (declared-made (suc n) (row f) k x y (x - f) (omega arith) (single-turned (row f (x - f)) g k x y e way (omega arith) (omega arith)))))
-        (λ a. or-first own rest (declared-made (suc n) (row f) k x y (y - f) (omega arith) (single-written (row f (y - f)) g k x y e (omega arith) (omega arith))))
+        (λ c. or-first own rest (declared-made (suc n) (pair m f) k x y (x - f) (omega arith) (single-turned (pair m f (x - f)) g k x y e way (omega arith) (omega arith)))))
+        (λ a. or-first own rest (declared-made (suc n) (pair m f) k x y (y - f) (omega arith) (single-written (pair m f (y - f)) g k x y e (omega arith) (omega arith))))
 
 -- there are n (n + 1) / 2 of n productions
 pairs-length : (m f n : ℕ) → 2 * length (pairsFrom m f n) ≡ n * (n + 1)
 unfolding pairsFrom
 pairs-length m f zero = refl
 pairs-length m f (suc n) =
-    let row : ℕ → Declaration = λ j. record { kind = m; first = f; second = f + j } in
-    omega (arith, pairs-length m (suc f) n, length-append (tabulate (suc n) row) (pairsFrom m (suc f) n), length-tabulate (suc n) row)
+    omega (arith, pairs-length m (suc f) n, length-append (tabulate (suc n) (pair m f)) (pairsFrom m (suc f) n), length-tabulate (suc n) (pair m f))
+
+-- what holds of every two, the first not above the second, holds of each of them
+pairs-all : (P : Declaration → Type 0) (m f n : ℕ) → ((x j : ℕ) → f ≤ x → x + j < f + n → P (pair m x j)) → All P (pairsFrom m f n)
+unfolding pairsFrom
+pairs-all P m f zero h = tt
+pairs-all P m f (suc n) h =
+    all-append P (tabulate (suc n) (pair m f)) (pairsFrom m (suc f) n)
+    (all-tabulate P (suc n) (pair m f) (λ j l. h f j (omega arith) (omega arith)))
+    (pairs-all P m (suc f) n (λ x j l k. h x j (omega arith) (omega arith)))
 
 -- ---- a list of declarations
 
--- a group spelled out covers what the group covers
-spelled-group : (l : Declaration) → isGroup (l .kind) ≡ true → (k : Kind) (x y : ℕ) → declaredIn (spelled l) k x y ≡ covers l k x y
-unfolding spelled
-spelled-group l g k x y =
+-- the pairs of a group, so many that they end at its second production, cover what the group covers
+pairs-cover : (l : Declaration) → isGroup (l .kind) ≡ true → (n : ℕ) → ((z : ℕ) → l .first ≤ z → (z < l .first + n) ↔ (z ≤ l .second)) → (k : Kind) (x y : ℕ)
+    → declaredIn (pairsFrom (saidKind (l .kind)) (l .first) n) k x y ≡ covers l k x y
+pairs-cover l g n ends k x y =
     let m = saidKind (l .kind) in
-    let n = l .second + 1 - l .first in
     let single = said-single (l .kind) g in
-    rw g
-    (same-test (declaredIn (pairsFrom m (l .first) n) k x y) (covers l k x y)
-    (λ e. let (kind, lx, hx, ly, hy) = pairs-found m single k n (l .first) x y e in group-made l g k x y kind lx (omega arith) ly (omega arith))
-    (λ e. let (kind, lx, hx, ly, hy) = group-found l g k x y e in pairs-made m single k kind (said-way (l .kind) g k kind) n (l .first) x y lx (omega arith) ly (omega arith)))
+    same-test (declaredIn (pairsFrom m (l .first) n) k x y) (covers l k x y)
+    (λ e. let (kind, lx, hx, ly, hy) = pairs-found m single k n (l .first) x y e in group-made l g k x y kind lx (ends x lx .0 hx) ly (ends y ly .0 hy))
+    (λ e. let (kind, lx, hx, ly, hy) = group-found l g k x y e in
+    pairs-made m single k kind (said-way (l .kind) g k kind) n (l .first) x y lx (ends x lx .1 hx) ly (ends y ly .1 hy))
 
 spelled-covers : (l : Declaration) (k : Kind) (x y : ℕ) → declaredIn (spelled l) k x y ≡ covers l k x y
 unfolding spelled
 spelled-covers l k x y =
-    ⊎-elim (λ g. spelled-group l g k x y) (λ (g : isGroup (l .kind) ≡ false). rw g (declared-one l k x y)) (true-or-false (isGroup (l .kind)))
+    ⊎-elim
+    (λ (g : isGroup (l .kind) ≡ true). rw g (pairs-cover l g _ (λ z h. ((λ a. omega arith), (λ a. omega arith))) k x y))
+    (λ (g : isGroup (l .kind) ≡ false). rw g (declared-one l k x y))
+    (true-or-false (isGroup (l .kind)))
 
 -- The spelled-out list declares the same pairs.
 pub spelled-declared : (ls : List Declaration) (k : Kind) (x y : ℕ) → declaredIn (spelledOut ls) k x y ≡ declaredIn ls k x y
@@ -212,26 +224,22 @@ spelled-declared [] k x y = refl
 spelled-declared (l ∷ ls) k x y =
     declared-append (spelled l) (spelledOut ls) k x y ∙ ap₂ _||_ (spelled-covers l k x y) (spelled-declared ls k x y)
 
--- It has no group,
-pairs-of-two : (m f n : ℕ) → isGroup m ≡ false → All IsOfTwo (pairsFrom m f n)
-unfolding pairsFrom
-pairs-of-two m f zero g = tt
-pairs-of-two m f (suc n) g =
-    let row : ℕ → Declaration = λ j. record { kind = m; first = f; second = f + j } in
-    all-append IsOfTwo (tabulate (suc n) row) (pairsFrom m (suc f) n) (all-tabulate IsOfTwo (suc n) row (λ j l. g)) (pairs-of-two m (suc f) n g)
-
-spelled-of-two : (l : Declaration) → All IsOfTwo (spelled l)
+-- what holds of the pairs of a group, or of a declaration of two productions, holds of what is spelled out
+pub spelled-all : (P : Declaration → Type 0) (l : Declaration)
+    → (isGroup (l .kind) ≡ true → (x j : ℕ) → l .first ≤ x → x + j ≤ l .second → P (record { kind = saidKind (l .kind); first = x; second = x + j }))
+    → (IsOfTwo l → P l) → All P (spelled l)
 unfolding spelled
-spelled-of-two l =
+spelled-all P l h own =
     ⊎-elim
-    (λ (g : isGroup (l .kind) ≡ true). rw g (pairs-of-two (saidKind (l .kind)) (l .first) (l .second + 1 - l .first) (said-single (l .kind) g)))
-    (λ (g : isGroup (l .kind) ≡ false). rw g (g, tt))
+    (λ (g : isGroup (l .kind) ≡ true). rw g (pairs-all P (saidKind (l .kind)) (l .first) (l .second + 1 - l .first) (λ x j lx hy. h g x j lx (omega arith))))
+    (λ (g : isGroup (l .kind) ≡ false). rw g (own g, tt))
     (true-or-false (isGroup (l .kind)))
 
+-- It has no group,
 pub spelled-none : (ls : List Declaration) → All IsOfTwo (spelledOut ls)
 unfolding spelledOut joined
 spelled-none [] = tt
-spelled-none (l ∷ ls) = all-append IsOfTwo (spelled l) (spelledOut ls) (spelled-of-two l) (spelled-none ls)
+spelled-none (l ∷ ls) = all-append IsOfTwo (spelled l) (spelledOut ls) (spelled-all IsOfTwo l (λ g x j lx hy. said-single (l .kind) g) (λ g. g)) (spelled-none ls)
 
 -- is the list itself if that has none,
 pub spelled-same : (ls : List Declaration) → All IsOfTwo ls → spelledOut ls ≡ ls

@@ -18,6 +18,7 @@ circle count ls p = refuseIf (isHigherIn count ls p p) 9 p
 unfoldable pub onDiagonal : List (List Bool) → ℕ → Verdict
 onDiagonal table p = refuseIf (entry table p p) 9 p
 
+-- the first of them; by the grammar's own declarations
 abbrev pub circlesIn : List ℕ → List Declaration → Verdict
 circlesIn b ls = firstRefusal (productions b) (circle (productions b) ls)
 

@@ -38,6 +38,7 @@ pub data ConflictIn (b : List ℕ) (ls : List Declaration) (p i q : ℕ) : Type 
   atFirst : fits b p i q ≡ true → isFirst b p i ≡ true → rightOrNonassoc ls p q ≡ true → ConflictIn b ls p i q
   atLast : fits b p i q ≡ true → isLast b p i ≡ true → leftOrNonassoc ls p q ≡ true → ConflictIn b ls p i q
 
+-- By the grammar's own declarations (01's clash).
 abbrev pub Conflict : List ℕ → ℕ → ℕ → ℕ → Type 0
 Conflict b = ConflictIn b (declarationsOf b)
 
@@ -48,5 +49,6 @@ barred b ls p i q = isHigherIn (productions b) ls p q || isFirst b p i && rightO
 unfoldable pub conflictsIn : List ℕ → List Declaration → ℕ → ℕ → ℕ → Bool
 conflictsIn b ls p i q = fits b p i q && barred b ls p i q
 
+-- The same by the grammar's own.
 abbrev pub conflicts : List ℕ → ℕ → ℕ → ℕ → Bool
 conflicts b = conflictsIn b (declarationsOf b)

@@ -3,7 +3,8 @@ use Prim.Native.Nat.{ℕ, _-_, _<_}
 use mathlib.Core.Bool.{Bool, false, true, cond, _&&_, _||_}
 use mathlib.Core.List.{List, [], _∷_}
 use mathlib.Core.Path.{_≡_}
-use lib.Dec.{leb, eqb}
+use lib.Dec.{eqb}
+use Rattle.common.specs.Below.{between}
 use Rattle.common.specs.Lists.{tabulate}
 use Rattle.grammar.specs.Check.{isGroup}
 use Rattle.grammar.specs.Layout.{productions, declarations, kind, first, second}
@@ -32,10 +33,6 @@ eitherWay higher = false
 eitherWay left = true
 eitherWay right = true
 eitherWay nonassoc = true
-
--- x is one of first, first + 1, … second
-unfoldable pub between : (first second : ℕ) → ℕ → Bool
-between first second x = leb first x && leb x second
 
 -- A declaration (the code's struct: a kind's number, a first and a second production) names x first and y second: they are its two productions or, if it is of a
 -- group, two that stand from its first to its second (02, [2]).

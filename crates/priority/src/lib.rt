@@ -16,13 +16,13 @@ ghost use mathlib.Core.Bool.{true, false, _&&_, _||_};
 ghost use mathlib.Core.Logic.{_↔_};
 ghost use Prim.Native.Nat.{ℕ, _<_, _≤_};
 ghost use lib.ListN.{getD};
-ghost use Rattle.common.specs.Below.{anyBelow};
+ghost use Rattle.common.specs.Below.{anyBelow, between};
 ghost use Rattle.grammar.specs.Limits.{productionLimit};
 ghost use Rattle.grammar.specs.Layout.{declarations, declarationAt};
 ghost use Rattle.grammar.specs.Formed.{WellFormed};
 ghost use Rattle.grammar.specs.Verdict.{firstRefusal};
 ghost use Rattle.priority.specs.Chain.{Chain, entry, Square};
-ghost use Rattle.priority.specs.Priorities.{saidKind, between, declarationOf, DeclaredPairs, WithGroup, Higher};
+ghost use Rattle.priority.specs.Priorities.{saidKind, declarationOf, DeclaredPairs, WithGroup, Higher};
 ghost use Rattle.priority.specs.Check.{checked, onDiagonal};
 
 // 01's numbers of the kinds of declaration.

@@ -7,6 +7,7 @@ use mathlib.Core.Path.{_≡_, sym, _∙_, ap, ap₂}
 use native.Mathlib.Omega.{arith}
 use lib.Dec.{eqb}
 use lib.ListN.{getD, set}
+use Rattle.common.specs.Below.{between}
 use Rattle.common.specs.Lists.{tabulate}
 use Rattle.grammar.proofs.FormedLaws.{bodies-in, declaration-in}
 use Rattle.grammar.proofs.LayoutLaws.{declaration-next}
@@ -17,7 +18,7 @@ use Rattle.grammar.specs.Limits.{productionLimit}
 use Rattle.priority.proofs.CoverLaws.{declared-none, pairs-more}
 use Rattle.priority.proofs.TableLaws.{square-put}
 use Rattle.priority.specs.Chain.{entry, Square}
-use Rattle.priority.specs.Priorities.{Kind, higher, kindNumber, saidKind, between, declaredIn, declarationOf, declarationsOf}
+use Rattle.priority.specs.Priorities.{Kind, higher, kindNumber, saidKind, declaredIn, declarationOf, declarationsOf}
 use Rattle.priority.specs.declared.Declaration.{Declaration}
 use Rattle.priority.proofs.declared_pairs.Statement.{statement}
 use Rattle.priority.proofs.declared_pairs.Tie as tie

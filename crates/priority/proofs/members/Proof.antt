@@ -6,11 +6,11 @@ use mathlib.Core.Path.{_≡_, sym, _∙_}
 use native.Mathlib.Decide.{decLt}
 use native.Mathlib.Omega.{arith}
 use lib.ListN.{replicate, length-replicate}
+use Rattle.common.proofs.BelowLaws.{between-below, between-above, between-in}
 use Rattle.common.proofs.FillLaws.{Filled, filled-from, filled-more}
+use Rattle.common.specs.Below.{between}
 use Rattle.grammar.specs.Limits.{productionLimit}
-use Rattle.priority.proofs.CoverLaws.{between-below, between-above, between-in}
 use Rattle.priority.proofs.TableLaws.{getD-none}
-use Rattle.priority.specs.Priorities.{between}
 use Rattle.priority.proofs.members.Statement.{statement}
 use Rattle.priority.proofs.members.Tie as tie
 
