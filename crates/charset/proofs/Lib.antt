@@ -2,3 +2,4 @@
 pub mod BitLaws
 pub mod RunLaws
 pub mod SeekLaws
+pub mod SpansLaws

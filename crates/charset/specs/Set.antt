@@ -1,5 +1,5 @@
 -- Sets of bytes, and ranges of characters (01, "The book"; 000, Definition 3.1).
-use Prim.Native.Nat.{ℕ, _/_, _%_, _^_}
+use Prim.Native.Nat.{ℕ, _/_, _%_, _^_, min, max}
 use mathlib.Core.Bool.{Bool}
 use mathlib.Core.List.{List}
 use lib.Dec.{eqb}
@@ -26,6 +26,11 @@ bit word b = eqb (word / 2 ^ b % 2) 1
 unfoldable pub has : List ℕ → ℕ → Bool
 has words c = bit (getD words (c / wordBits) 0) (c % wordBits)
 
--- Character c is in the range from low to high, ends included. Every test of a character against a range is this one.
+-- Character c is in the rising range from low to high, ends included: the ranges of a normal form are such.
 unfoldable pub inRange : ℕ → ℕ → ℕ → Bool
 inRange = between
+
+-- Character c is in the range that a grammar writes as low and high. With low above high it means the characters of the range turned round (02, [3]).
+-- Every test of a character against a written range is this one.
+unfoldable pub spans : ℕ → ℕ → ℕ → Bool
+spans low high = inRange (min low high) (max low high)

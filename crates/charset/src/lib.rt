@@ -3,7 +3,7 @@
 ghost use mathlib.Core.Path.{_≡_};
 ghost use mathlib.Core.Bool.{false, _||_};
 ghost use Prim.Native.Nat.{ℕ, _+_, _-_, _<_, _≤_, min};
-ghost use Rattle.charset.specs.Set.{characters, wordBits, bit, has, inRange};
+ghost use Rattle.charset.specs.Set.{characters, wordBits, bit, has, inRange, spans};
 ghost use Rattle.charset.specs.Runs.{runs, firstRun};
 ghost use Rattle.charset.specs.Sought.{Sought};
 
@@ -42,8 +42,19 @@ impl CharSet {
         (self.words[at] >> (c % 64)) % 2 == 1
     }
 
-    // The set with the bytes from low to high more.
+    // The set with the bytes of a written range more: those from low to high or, if low is above high, from high to low.
     pub fn insert_range(self, low: u8, high: u8) -> Self
+        ensures { λ r. ⌜ ((b : ℕ) → b < characters → has (r .words) b ≡ (has (self .words) b || spans low high b)) ⌝ }
+    {
+        if high < low {
+            return self.insert_rising(high, low);
+        }
+        self.insert_rising(low, high)
+    }
+
+    // The set with the bytes from low to high more.
+    fn insert_rising(self, low: u8, high: u8) -> Self
+        requires { ⌜ low ≤ high ⌝ }
         ensures { λ r. ⌜ ((b : ℕ) → b < characters → has (r .words) b ≡ (has (self .words) b || inRange low high b)) ⌝ }
     {
         let w = self.words;
@@ -85,12 +96,10 @@ impl CharSet {
 
 // The bits of the word of the 64 bytes from `base` on at which a byte of the range stands.
 fn range_mask(low: u8, high: u8, base: u8) -> u64
+    requires { ⌜ low ≤ high ⌝ }
     requires { ⌜ base + wordBits ≤ characters ⌝ }
     ensures { λ r. ⌜ ((b : ℕ) → b < wordBits → bit r b ≡ inRange low high (base + b)) ⌝ }
 {
-    if high < low {
-        return 0;
-    }
     if high < base {
         return 0;
     }

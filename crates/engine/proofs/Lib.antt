@@ -5,3 +5,4 @@ pub mod UniqueLaws
 pub mod AnswerLaws
 pub mod RefusalsLaws
 pub mod OutcomeLaws
+pub mod SameParsingLaws

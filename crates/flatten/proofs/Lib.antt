@@ -10,4 +10,6 @@ pub mod BookLaws
 pub mod TableTextLaws
 pub mod FlatWrittenLaws
 pub mod AnswerLaws
+pub mod SameFrontLaws
 pub mod SpelledGrammarLaws
+pub mod TurnedLaws

@@ -7,8 +7,9 @@ use mathlib.Core.Logic.{⊎-elim}
 use native.Mathlib.Omega.{arith}
 use lib.Dec.{leb, ltb}
 use lib.ListN.{getD}
-use borrow.Author.Tests.{ltb-true, leb-true, lt-leb}
-use Rattle.charset.specs.Set.{characters, inRange}
+use borrow.Author.Tests.{ltb-true, lt-leb}
+use Rattle.charset.proofs.SpansLaws.{spans-below}
+use Rattle.charset.specs.Set.{characters, spans}
 use Rattle.common.proofs.BelowLaws.{any-found}
 use Rattle.common.proofs.BoolLaws.{and-second-true, or-cases}
 use Rattle.grammar.specs.Check.{namesArgument}
@@ -24,10 +25,10 @@ sort-no-class b w x l = rw (lt-leb classBase x (omega (arith, w .framed .fewSort
 
 -- the ends of a range are bytes, so the characters of a class are
 pub class-character : (b : List ℕ) → ((k : ℕ) → getD b k 0 < characters) → (k c : ℕ) → classHas b k c ≡ true → c < characters
-unfolding classHas inRange high
+unfolding classHas low high
 class-character b bytes k c e =
-    let (r, l, h) = any-found (λ r. inRange (low b k r) (high b k r) c) (rangeCount b k) e in
-    omega (arith, leb-true c (high b k r) (and-second-true (leb (low b k r) c) (leb c (high b k r)) h), bytes (rangeAt b k r + 1))
+    let (r, l, h) = any-found (λ r. spans (low b k r) (high b k r) c) (rangeCount b k) e in
+    spans-below (low b k r) (high b k r) c characters (bytes (rangeAt b k r)) (bytes (rangeAt b k r + 1)) h
 
 -- a byte that names a sort or a class is below the bytes past the last class
 named-below : (b : List ℕ) (x : ℕ) → Framed b → namesArgument b x ≡ true → x < classBase + classes b

@@ -13,7 +13,7 @@ use Rattle.common.proofs.BelowLaws.{any-never}
 use Rattle.common.proofs.BoolLaws.{or-first-false, or-second-false}
 use Rattle.grammar.proofs.LayoutLaws.{production-first, class-first, declaration-first, production-within, production-after, class-within, class-after-productions, declaration-within, declaration-after-classes, needed-is-end}
 use Rattle.grammar.proofs.VerdictLaws.{refuse-accepted, accepted-last, and-first, and-second, first-all}
-use Rattle.grammar.specs.Check.{outside, shortHeader, headerLines, headerBytes, badHeader, shortContents, badArgumentCount, badRangeCount, badLength, namesArgument, badArgument, badArguments, badProduction, badRange, badClass, isGroup, declarationLines, declarationBytes, badDeclaration, sameProduction, repeatedProduction, frameLines, frameCheck, bodiesLines, bodiesCheck}
+use Rattle.grammar.specs.Check.{outside, shortHeader, headerLines, headerBytes, badHeader, shortContents, badArgumentCount, badRangeCount, badLength, namesArgument, badArgument, badArguments, badProduction, isGroup, declarationLines, declarationBytes, badDeclaration, sameProduction, repeatedProduction, frameLines, frameCheck, bodiesLines, bodiesCheck}
 use Rattle.grammar.specs.Formed.{Framed, WellFormed}
 use Rattle.grammar.specs.Layout.{byteAt, sorts, productions, classes, declarations, startSort, argumentCount, rangeCount, bodiesAt, productionAt, result, argument, classAt, low, high, declarationAt, kind, first, second, neededLength}
 use Rattle.grammar.specs.Limits.{sortLimit, productionLimit, classLimit, argumentLimit, rangeLimit, kindLimit, pairKindLimit, headerLength}
@@ -35,9 +35,12 @@ module _ (b : List ℕ) (f : Framed b) where
   production-in p h =
       omega (arith, end, production-within b p h, class-after-productions b (classes b), declaration-first b, declaration-after-classes b (declarations b))
 
+  pub declarations-in : declarationAt b 0 ≤ length b
+  declarations-in = omega (arith, end, declaration-after-classes b (declarations b))
+
   pub bodies-in : bodiesAt b ≤ length b
   bodies-in =
-      omega (arith, end, production-first b, production-after b (productions b), class-first b, class-after-productions b (classes b), declaration-first b, declaration-after-classes b (declarations b))
+      omega (arith, declarations-in, production-first b, production-after b (productions b), class-first b, class-after-productions b (classes b), declaration-first b)
 
 -- ---- what the checks that accept say
 
@@ -107,11 +110,6 @@ module _ (b : List ℕ) (p : ℕ) (e : badProduction b p ≡ Accepted) where
       not-false (namesArgument b (argument b p i))
       (refuse-accepted _ 5 _ (first-all (badArgument b p) (argumentCount b p) (and-second (refuseIf (leb (sorts b) (result b p)) 5 (productionAt b p)) _ e) i l))
 
--- a class that passes
-pub range-rises : (b : List ℕ) (k : ℕ) → badClass b k ≡ Accepted → (r : ℕ) → r < rangeCount b k → low b k r ≤ high b k r
-unfolding badRange
-range-rises b k e r l = ltb-false (high b k r) (low b k r) (refuse-accepted _ 6 _ (first-all (badRange b k) (rangeCount b k) e r l))
-
 -- a declaration that passes
 module _ (b : List ℕ) (d : ℕ) (e : badDeclaration b d ≡ Accepted) where
   parts : EachAccepted (declarationLines (declarationAt b d) (productions b) (kind b d) (first b d) (second b d))
@@ -155,16 +153,15 @@ unfolding bodiesCheck repeatedProduction
 well-formed b e f =
     let a = each-accepted (bodiesLines b) f in
     let production = first-all (badProduction b) (productions b) (a .0) in
-    let declaration = first-all (badDeclaration b) (declarations b) (a .1 .1 .0) in
+    let declaration = first-all (badDeclaration b) (declarations b) (a .1 .0) in
     record {
       framed = framed b e;
       resultNamed = λ p l. result-named b p (production p l);
       argumentNamed = λ p i l m. argument-named b p (production p l) i m;
-      rangesRise = λ k r l m. range-rises b k (first-all (badClass b) (classes b) (a .1 .0) k l) r m;
       someKind = λ d l. inside-low 1 kindLimit (kind b d) (kind-inside b d (declaration d l));
       fewKinds = λ d l. inside-high 1 kindLimit (kind b d) (kind-inside b d (declaration d l));
       firstThere = λ d l. first-there b d (declaration d l);
       secondThere = λ d l. second-there b d (declaration d l);
       groupsRise = λ d l. group-rises b d (declaration d l);
-      different = λ p q l m. any-never (sameProduction b p) p (refuse-accepted _ 8 _ (first-all (repeatedProduction b) (productions b) (a .1 .1 .1 .0) p l)) q m;
+      different = λ p q l m. any-never (sameProduction b p) p (refuse-accepted _ 8 _ (first-all (repeatedProduction b) (productions b) (a .1 .1 .0) p l)) q m;
     }

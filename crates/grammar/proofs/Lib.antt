@@ -4,3 +4,5 @@ pub mod VerdictLaws
 pub mod FormedLaws
 pub mod ClassesLaws
 pub mod SameFrontLaws
+pub mod TurnedLaws
+pub mod RisenLaws

@@ -1,13 +1,16 @@
--- Grammars that differ only in their declarations: all else is the same, and stands in the same place.
+-- Grammars that differ only in their declarations and in which end of a range stands first: all else is the same, and stands in the same place.
 use Prim.Native.Nat.{ℕ, _+_, _-_, _*_, _≤_, _<_}
-use mathlib.Core.Path.{_≡_, sym, _∙_, ap, ap₂}
+use mathlib.Core.Path.{_≡_, sym, _∙_, ap, ap₂, subst}
 use mathlib.Core.Bool.{Bool, true, _&&_, _||_}
 use mathlib.Core.List.{List}
+use mathlib.Core.Logic.{inl, inr, ⊎-elim}
 use native.Mathlib.Omega.{arith}
+use native.Mathlib.Nat.{add-zero}
 use lib.Dec.{leb, ltb, eqb}
 use lib.ListN.{length}
 use borrow.Author.Tests.{ltb-true, leb-true, eqb-true}
-use Rattle.charset.specs.Set.{inRange}
+use Rattle.charset.proofs.SpansLaws.{spans-turned}
+use Rattle.charset.specs.Set.{spans}
 use Rattle.common.proofs.BelowLaws.{sum-same, any-same, all-same}
 use Rattle.common.proofs.BoolLaws.{and-first-true, and-second-true, and-same}
 use Rattle.common.specs.Below.{allBelow}
@@ -17,15 +20,50 @@ use Rattle.grammar.specs.Classes.{isClass, classHas}
 use Rattle.grammar.specs.Formed.{Framed, WellFormed}
 use Rattle.grammar.specs.Layout.{byteAt, sorts, productions, classes, declarations, startSort, argumentCountAt, rangeCountAt, argumentCount, rangeCount, bodiesAt, productionAt, argumentAt, result, argument, classAt, rangeAt, low, high, declarationAt, kind, first, second, neededLength}
 use Rattle.grammar.specs.Limits.{kindLimit, classBase, headerLength}
+use Rattle.grammar.specs.Turned.{SameEnds, SameRanges}
 
--- The numbers before the declarations are the same, but for the count of declarations.
-abbrev pub SameFront : List ℕ → List ℕ → Type 0
-SameFront b c = (k : ℕ) → k < declarationAt b 0 → (k ≡ 3 → ⊥) → byteAt c k ≡ byteAt b k
+-- The numbers before the classes are the same, but for the count of declarations, and each range has the same ends.
+pub record SameFront (b c : List ℕ) : Type 0 where
+  pub before : (at : ℕ) → at < classAt b 0 → (at ≡ 3 → ⊥) → byteAt c at ≡ byteAt b at
+  pub ranges : SameRanges b c
 
--- the declarations begin behind the bodies
+-- the classes begin behind the contents
+pub front-classes : (b : List ℕ) → bodiesAt b ≤ classAt b 0
+front-classes b = omega (arith, production-first b, production-after b (productions b), class-first b)
+
+-- and so do the declarations
 pub front-bodies : (b : List ℕ) → bodiesAt b ≤ declarationAt b 0
-front-bodies b =
-    omega (arith, production-first b, production-after b (productions b), class-first b, class-after-productions b (classes b), declaration-first b)
+front-bodies b = omega (arith, front-classes b, class-after-productions b (classes b), declaration-first b)
+
+-- a byte of a range stands among those of the classes
+range-bounds : (b : List ℕ) (k i : ℕ) → k < classes b → i < 2 * rangeCount b k → (classAt b 0 ≤ classAt b k + i) × (classAt b k + i < declarationAt b 0)
+range-bounds b k i l m =
+    let within = class-within b k l in
+    let after = class-after-productions b k in
+    (omega arith, omega arith)
+
+-- grammars with the same numbers before the declarations, but for their count
+pub bytes-front : (b c : List ℕ) → ((at : ℕ) → at < declarationAt b 0 → (at ≡ 3 → ⊥) → byteAt c at ≡ byteAt b at) → SameFront b c
+unfolding low high
+bytes-front b c same =
+    record {
+      before = λ at l h. same at (omega (arith, class-after-productions b (classes b), declaration-first b)) h;
+      ranges = λ k r l m.
+          let (from, first) = range-bounds b k (2 * r) l (omega arith) in
+          let (next, second) = range-bounds b k (2 * r + 1) l (omega arith) in
+          inl (same (rangeAt b k r) first (λ e. omega (arith, front-classes b)), same (rangeAt b k r + 1) (omega arith) (λ e. omega (arith, front-classes b)));
+    }
+
+-- ---- the ends of a range
+
+-- each pair of ends is the other so
+ends-back : (low high low′ high′ : ℕ) → SameEnds low high low′ high′ → SameEnds low′ high′ low high
+ends-back low high low′ high′ = ⊎-elim (λ (e, f). inl (sym e, sym f)) (λ (e, f). inr (sym f, sym e))
+
+-- the same ends have the same characters between them
+ends-span : (low high low′ high′ x : ℕ) → SameEnds low high low′ high′ → spans low′ high′ x ≡ spans low high x
+ends-span low high low′ high′ x =
+    ⊎-elim (λ (e, f). ap₂ (λ (s t : ℕ). spans s t x) e f) (λ (e, f). ap₂ (λ (s t : ℕ). spans s t x) e f ∙ spans-turned high low x)
 
 -- an argument byte that is a class is one of those there
 pub class-there : (b : List ℕ) (x : ℕ) → isClass b x ≡ true → x - classBase < classes b
@@ -39,7 +77,7 @@ module _ (b c : List ℕ) (same : SameFront b c) where
 
   -- a number of the header or of the counts, but for the count of declarations
   same-early : (k : ℕ) → k < bodiesAt b → (k ≡ 3 → ⊥) → byteAt c k ≡ byteAt b k
-  same-early k l h = same k (omega (arith, front-bodies b)) h
+  same-early k l h = same .before k (omega (arith, front-classes b)) h
 
   -- how many sorts
   pub same-sorts : sorts c ≡ sorts b
@@ -97,57 +135,33 @@ module _ (b c : List ℕ) (same : SameFront b c) where
 
   -- ---- the bodies
 
-  -- a number of the bodies before the declarations
-  same-body : (k j : ℕ) → j ≡ k → bodiesAt b ≤ k → k < declarationAt b 0 → byteAt c j ≡ byteAt b k
-  same-body k j e l m = ap (byteAt c) e ∙ same k m (λ o. omega arith)
-
-  -- a production's numbers are among those of the bodies
-  production-bounds : (p i : ℕ) → p < productions b → i ≤ argumentCount b p → (bodiesAt b ≤ productionAt b p + i) × (productionAt b p + i < declarationAt b 0)
-  production-bounds p i l m =
+  -- a number of a production
+  same-body : (p i j : ℕ) → p < productions b → i ≤ argumentCount b p → j ≡ productionAt b p + i → byteAt c j ≡ byteAt b (productionAt b p + i)
+  same-body p i j l m e =
       let after = production-after b p in
       let start = production-first b in
-      let within = production-within b p l in
-      let behind = class-after-productions b (classes b) in
-      let last = declaration-first b in
-      (omega arith, omega arith)
-
-  -- so are those of a class
-  class-bounds : (k i : ℕ) → k < classes b → i < 2 * rangeCount b k → (bodiesAt b ≤ classAt b k + i) × (classAt b k + i < declarationAt b 0)
-  class-bounds k i l m =
-      let within = class-within b k l in
-      let after = class-after-productions b k in
-      let start = class-first b in
-      let behind = production-after b (productions b) in
-      let bodies = production-first b in
-      (omega arith, omega arith)
+      ap (byteAt c) e ∙ same .before (productionAt b p + i) (omega (arith, production-within b p l)) (λ o. omega arith)
 
   -- a production's result
   pub same-result : (p : ℕ) → p < productions b → result c p ≡ result b p
   unfolding result
-  same-result p l =
-      let (above, below) = production-bounds p 0 l (omega arith) in
-      same-body (productionAt b p) (productionAt c p) (same-production-at p (omega arith)) (omega arith) (omega arith)
+  same-result p l = rw add-zero at (same-body p 0 (productionAt c p) l (omega arith) (omega (arith, same-production-at p (omega arith))))
 
   -- a production's argument
   pub same-argument : (p i : ℕ) → p < productions b → i < argumentCount b p → argument c p i ≡ argument b p i
   unfolding argument
   same-argument p i l m =
-      let (above, below) = production-bounds p (1 + i) l (omega arith) in
-      same-body (argumentAt b p i) (argumentAt c p i) (ap (λ (n : ℕ). n + 1 + i) (same-production-at p (omega arith))) (omega arith) (omega arith)
+      let e : productionAt b p + (1 + i) ≡ argumentAt b p i = omega arith in
+      same-body p (1 + i) (argumentAt c p i) l (omega arith) (omega (arith, same-production-at p (omega arith))) ∙ ap (byteAt b) e
 
-  -- the low end of a range
-  pub same-low : (k r : ℕ) → k < classes b → r < rangeCount b k → low c k r ≡ low b k r
-  unfolding low
-  same-low k r l m =
-      let (above, below) = class-bounds k (2 * r) l (omega arith) in
-      same-body (rangeAt b k r) (rangeAt c k r) (ap (λ (n : ℕ). n + 2 * r) (same-class-at k (omega arith))) above below
+  -- where a range stands
+  pub same-range-at : (k r : ℕ) → k < classes b → rangeAt c k r ≡ rangeAt b k r
+  same-range-at k r l = ap (λ (n : ℕ). n + 2 * r) (same-class-at k (omega arith))
 
-  -- and the high one
-  pub same-high : (k r : ℕ) → k < classes b → r < rangeCount b k → high c k r ≡ high b k r
-  unfolding high
-  same-high k r l m =
-      let (above, below) = class-bounds k (2 * r + 1) l (omega arith) in
-      same-body (rangeAt b k r + 1) (rangeAt c k r + 1) (ap (λ (n : ℕ). n + 2 * r + 1) (same-class-at k (omega arith))) (omega arith) (omega arith)
+  -- the ends of a range
+  pub same-ends : (k r : ℕ) → k < classes b → r < rangeCount b k → SameEnds (low b k r) (high b k r) (low c k r) (high c k r)
+  unfolding low high
+  same-ends k r l m = subst (λ (at : ℕ). SameEnds (low b k r) (high b k r) (byteAt c at) (byteAt c (at + 1))) (sym (same-range-at k r l)) (same .ranges k r l m)
 
   -- ---- what is said of them
 
@@ -161,8 +175,8 @@ module _ (b c : List ℕ) (same : SameFront b c) where
   unfolding classHas
   same-class-has k x l =
       rw (same-range-count k l)
-      (any-same (λ r. inRange (low c k r) (high c k r) x) (λ r. inRange (low b k r) (high b k r) x) (rangeCount b k)
-      (λ r m. ap₂ (λ (s t : ℕ). inRange s t x) (same-low k r l m) (same-high k r l m)))
+      (any-same (λ r. spans (low c k r) (high c k r) x) (λ r. spans (low b k r) (high b k r) x) (rangeCount b k)
+      (λ r m. ends-span (low b k r) (high b k r) (low c k r) (high c k r) x (same-ends k r l m)))
 
   -- which bytes name something
   pub same-names : (x : ℕ) → namesArgument c x ≡ namesArgument b x
@@ -187,7 +201,15 @@ module _ (b c : List ℕ) (same : SameFront b c) where
 
   -- each differs from the other so
   pub front-back : SameFront c b
-  front-back k l h = sym (same k (omega (arith, same-declaration-at 0)) h)
+  unfolding low high
+  front-back =
+      record {
+        before = λ at l h. sym (same .before at (omega (arith, same-class-at 0 (omega arith))) h);
+        ranges = λ k r l m.
+            let n : k < classes b = omega (arith, same-classes) in
+            let o : r < rangeCount b k = omega (arith, same-range-count k n) in
+            subst (λ (at : ℕ). SameEnds (low c k r) (high c k r) (byteAt b at) (byteAt b (at + 1))) (sym (same-range-at k r n)) (ends-back (low b k r) (high b k r) (low c k r) (high c k r) (same-ends k r n o));
+      }
 
   -- the frame, if the length is the one called for
   pub front-framed : Framed b → length c ≡ neededLength c → Framed c
@@ -226,10 +248,6 @@ front-formed b c same w e declares =
           let m = there p l in
           let n : i < argumentCount b p = omega (arith, same-count b c same p m) in
           same-names b c same (argument c p i) ∙ ap (namesArgument b) (same-argument b c same p i m n) ∙ w .argumentNamed p i m n;
-      rangesRise = λ k r l o.
-          let m : k < classes b = omega (arith, same-classes b c same) in
-          let n : r < rangeCount b k = omega (arith, same-range-count b c same k m) in
-          omega (arith, same-low b c same k r m n, same-high b c same k r m n, w .rangesRise k r m n);
       someKind = λ d l. declares d l .someKind;
       fewKinds = λ d l. declares d l .fewKinds;
       firstThere = λ d l. omega (arith, declares d l .firstThere, same-productions b c same);

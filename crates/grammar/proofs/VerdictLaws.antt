@@ -74,6 +74,11 @@ first-all check (suc n) e i l =
     (λ m. first-all check n (and-first (firstRefusal n check) (check n) e) i m)
     (λ m. let q : n ≡ i = omega arith in subst (λ (j : ℕ). check j ≡ Accepted) q (and-second (firstRefusal n check) (check n) e))
 
+pub first-pass : (check : ℕ → Verdict) (n : ℕ) → ((i : ℕ) → i < n → check i ≡ Accepted) → firstRefusal n check ≡ Accepted
+unfolding firstRefusal
+first-pass check zero h = refl
+first-pass check (suc n) h = rw (first-pass check n (λ i l. h i (omega arith))) (h n (omega arith))
+
 pub first-same : (f g : ℕ → Verdict) (n : ℕ) → ((i : ℕ) → i < n → f i ≡ g i) → firstRefusal n f ≡ firstRefusal n g
 unfolding firstRefusal
 first-same f g zero h = refl

@@ -1,4 +1,4 @@
--- The refusals 1 to 8 of a grammar, a definition to a line of the table (01, "Refused because of the input").
+-- The refusals 1 to 8 of a grammar, a definition to a line of the table (01, "Refused because of the input"). There is no refusal 6 (02, [3]).
 use Prim.Native.Nat.{ℕ, _+_, min}
 use mathlib.Core.Bool.{Bool, not, _&&_, _||_}
 use mathlib.Core.List.{List, [], _∷_}
@@ -6,7 +6,7 @@ use lib.Dec.{leb, ltb, eqb}
 use lib.ListN.{length}
 use Rattle.common.specs.Below.{allBelow, anyBelow}
 use Rattle.grammar.specs.Classes.{isClass}
-use Rattle.grammar.specs.Layout.{byteAt, sorts, productions, classes, declarations, startSort, argumentCountAt, rangeCountAt, argumentCount, rangeCount, bodiesAt, productionAt, argumentAt, result, argument, rangeAt, low, high, declarationAt, kind, first, second, neededLength}
+use Rattle.grammar.specs.Layout.{byteAt, sorts, productions, classes, declarations, startSort, argumentCountAt, rangeCountAt, argumentCount, rangeCount, bodiesAt, productionAt, argumentAt, result, argument, declarationAt, kind, first, second, neededLength}
 use Rattle.grammar.specs.Limits.{sortLimit, productionLimit, classLimit, argumentLimit, rangeLimit, kindLimit, pairKindLimit, headerLength}
 use Rattle.grammar.specs.Verdict.{refuseIf, andThen, firstRefusal, inOrder}
 use Rattle.grammar.specs.declared.Verdict.{Verdict}
@@ -73,16 +73,6 @@ badProduction b p = andThen (refuseIf (leb (sorts b) (result b p)) 5 (production
 abbrev pub badProductions : List ℕ → Verdict
 badProductions b = firstRefusal (productions b) (badProduction b)
 
--- 6: a range with low above high; the place is the low byte
-unfoldable pub badRange : List ℕ → ℕ → ℕ → Verdict
-badRange b k r = refuseIf (ltb (high b k r) (low b k r)) 6 (rangeAt b k r)
-
-abbrev pub badClass : List ℕ → ℕ → Verdict
-badClass b k = firstRefusal (rangeCount b k) (badRange b k)
-
-abbrev pub badClasses : List ℕ → Verdict
-badClasses b = firstRefusal (classes b) (badClass b)
-
 -- a declaration of this kind is of a whole group: the productions from the first that it names to the second (02, [2])
 unfoldable pub isGroup : ℕ → Bool
 isGroup kind = ltb pairKindLimit kind && leb kind kindLimit
@@ -130,7 +120,7 @@ frameCheck b = inOrder (frameLines b)
 
 -- 5 to 8: what stands in the frame
 abbrev pub bodiesLines : List ℕ → List Verdict
-bodiesLines b = badProductions b ∷ badClasses b ∷ badDeclarations b ∷ repeatedProductions b ∷ []
+bodiesLines b = badProductions b ∷ badDeclarations b ∷ repeatedProductions b ∷ []
 
 unfoldable pub bodiesCheck : List ℕ → Verdict
 bodiesCheck b = inOrder (bodiesLines b)

@@ -3,7 +3,7 @@ use Prim.Native.Nat.{ℕ, _+_}
 use mathlib.Core.Bool.{Bool, _&&_}
 use mathlib.Core.List.{List}
 use lib.Dec.{leb, ltb}
-use Rattle.charset.specs.Set.{inRange}
+use Rattle.charset.specs.Set.{spans}
 use Rattle.common.specs.Below.{anyBelow}
 use Rattle.grammar.specs.Layout.{classes, rangeCount, low, high}
 use Rattle.grammar.specs.Limits.{classBase}
@@ -12,6 +12,6 @@ use Rattle.grammar.specs.Limits.{classBase}
 unfoldable pub isClass : List ℕ → ℕ → Bool
 isClass b x = leb classBase x && ltb x (classBase + classes b)
 
--- Character c is in class k: in one of its ranges.
+-- Character c is in class k: in one of its ranges, whichever way round that is written.
 unfoldable pub classHas : List ℕ → ℕ → ℕ → Bool
-classHas b k c = anyBelow (rangeCount b k) (λ r. inRange (low b k r) (high b k r) c)
+classHas b k c = anyBelow (rangeCount b k) (λ r. spans (low b k r) (high b k r) c)

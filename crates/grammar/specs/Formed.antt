@@ -5,7 +5,7 @@ use mathlib.Core.Bool.{false, true}
 use mathlib.Core.List.{List}
 use lib.ListN.{length}
 use Rattle.grammar.specs.Check.{namesArgument, isGroup, sameProduction}
-use Rattle.grammar.specs.Layout.{byteAt, sorts, productions, classes, declarations, startSort, argumentCount, rangeCount, result, argument, low, high, kind, first, second, neededLength}
+use Rattle.grammar.specs.Layout.{byteAt, sorts, productions, classes, declarations, startSort, argumentCount, rangeCount, result, argument, kind, first, second, neededLength}
 use Rattle.grammar.specs.Limits.{sortLimit, productionLimit, classLimit, argumentLimit, rangeLimit, kindLimit, headerLength}
 
 -- The frame stands: refusals 1 to 4 do not hold.
@@ -27,7 +27,6 @@ pub record WellFormed (b : List ℕ) : Type 0 where
   pub framed : Framed b
   pub resultNamed : (p : ℕ) → p < productions b → result b p < sorts b
   pub argumentNamed : (p i : ℕ) → p < productions b → i < argumentCount b p → namesArgument b (argument b p i) ≡ true
-  pub rangesRise : (k r : ℕ) → k < classes b → r < rangeCount b k → low b k r ≤ high b k r
   pub someKind : (d : ℕ) → d < declarations b → 1 ≤ kind b d
   pub fewKinds : (d : ℕ) → d < declarations b → kind b d ≤ kindLimit
   pub firstThere : (d : ℕ) → d < declarations b → first b d < productions b

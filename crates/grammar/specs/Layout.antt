@@ -63,7 +63,7 @@ result b p = byteAt b (productionAt b p)
 unfoldable pub argument : List ℕ → ℕ → ℕ → ℕ
 argument b p i = byteAt b (argumentAt b p i)
 
--- class k: for each range its low and its high character
+-- class k: for each range the two characters at its ends, which 01 calls low and high; either may be the lower one (02, [3])
 unfoldable pub classAt : List ℕ → ℕ → ℕ
 classAt b k = productionAt b (productions b) + sumBelow k (λ j. 2 * rangeCount b j)
 

@@ -5,3 +5,4 @@ pub mod Classes
 pub mod Verdict
 pub mod Check
 pub mod Formed
+pub mod Turned

@@ -1,9 +1,8 @@
-// Refusals 1 to 8, in the order of 01: the frame of the bytes, then what stands in it.
+// Refusals 1 to 8, in the order of 01: the frame of the bytes, then what stands in it. There is no refusal 6: the ends of a range may stand either way round.
 use crate::Verdict;
 use crate::layout::argument_count;
 use crate::layout::bodies_at;
 use crate::layout::byte_at;
-use crate::layout::class_at;
 use crate::layout::class_count;
 use crate::layout::declaration_at;
 use crate::layout::declaration_count;
@@ -26,8 +25,8 @@ ghost use Prim.Native.Nat.{_+_, _<_, _≤_};
 ghost use lib.ListN.{length, getD};
 ghost use Rattle.common.specs.Below.{anyBelow, allBelow};
 ghost use Rattle.grammar.specs.Limits.{headerLength};
-ghost use Rattle.grammar.specs.Layout.{sorts, productions, classes, declarations, bodiesAt, productionAt, classAt, declarationAt};
-ghost use Rattle.grammar.specs.Check.{badHeader, headerBytes, badArgumentCounts, badRangeCounts, badLength, frameCheck, badProductions, badProduction, badArguments, namesArgument, badClasses, badClass, badDeclarations, badDeclaration, isGroup, declarationBytes, repeatedProductions, sameProduction, sameArgument, bodiesCheck};
+ghost use Rattle.grammar.specs.Layout.{sorts, productions, classes, declarations, bodiesAt, productionAt, declarationAt};
+ghost use Rattle.grammar.specs.Check.{badHeader, headerBytes, badArgumentCounts, badRangeCounts, badLength, frameCheck, badProductions, badProduction, badArguments, namesArgument, badDeclarations, badDeclaration, isGroup, declarationBytes, repeatedProductions, sameProduction, sameArgument, bodiesCheck};
 ghost use Rattle.grammar.specs.Formed.{Framed};
 
 // Refusals 1 to 4.
@@ -158,10 +157,6 @@ pub fn check_bodies(book: &[u8]) -> Verdict
     let Verdict::Accepted = productions else {
         return productions;
     };
-    let classes = check_classes(book);
-    let Verdict::Accepted = classes else {
-        return classes;
-    };
     let declarations = check_declarations(book);
     let Verdict::Accepted = declarations else {
         return declarations;
@@ -230,43 +225,6 @@ fn names_argument(book: &[u8], x: usize) -> bool
         return false;
     }
     x < CLASS_BASE + class_count(book)
-}
-
-// 6: low above high.
-fn check_classes(book: &[u8]) -> Verdict
-    requires { ⌜ Framed (now book) ⌝ }
-    ensures { λ r. ⌜ r ≡ badClasses (now (book .entry)) ⌝ }
-{
-    let count = class_count(book);
-    let mut at = class_at(book, 0);
-    let mut k = 0;
-    while k < count {
-        let found = check_class(book, k, at);
-        let Verdict::Accepted = found else {
-            return found;
-        };
-        at += 2 * range_count(book, k);
-        k += 1;
-    }
-    Verdict::Accepted
-}
-
-// 6 in class k, which stands at `at`.
-fn check_class(book: &[u8], k: usize, at: usize) -> Verdict
-    requires { ⌜ Framed (now book) ⌝ }
-    requires { ⌜ k < classes (now book) ⌝ }
-    requires { ⌜ at ≡ classAt (now book) k ⌝ }
-    ensures { λ r. ⌜ r ≡ badClass (now (book .entry)) k ⌝ }
-{
-    let count = range_count(book, k);
-    let mut r = 0;
-    while r < count {
-        if byte_at(book, at + 2 * r + 1) < byte_at(book, at + 2 * r) {
-            return Verdict::Refused(6, at + 2 * r);
-        }
-        r += 1;
-    }
-    Verdict::Accepted
 }
 
 // 7: a kind or a production that isn't there, or a group whose first production is above its second.

@@ -4,3 +4,4 @@ pub mod OutcomeLaws
 pub mod RefusalLaws
 pub mod NumberLaws
 pub mod AnswerLaws
+pub mod TurnedLaws

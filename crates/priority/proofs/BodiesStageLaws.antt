@@ -1,4 +1,4 @@
--- The stage of refusals 5, 6 and 7: the first bad byte of the bodies.
+-- The stage of refusals 5 and 7: the first bad byte of the bodies.
 use Prim.Native.Nat.{ℕ, _+_, _*_, _≤_, _<_}
 use mathlib.Core.Path.{_≡_, sym, ap, subst}
 use mathlib.Core.Bool.{false, true, not, _&&_}
@@ -6,28 +6,25 @@ use mathlib.Core.List.{List}
 use mathlib.Core.Logic.{⊎-elim}
 use native.Mathlib.Omega.{arith}
 use lib.Dec.{leb, ltb}
-use borrow.Author.Tests.{ltb-true, ltb-false, leb-true, leb-false, not-true, not-false}
+use borrow.Author.Tests.{ltb-true, leb-true, leb-false, not-true, not-false}
 use Rattle.common.proofs.BoolLaws.{and-first-true, and-second-true, not-both}
-use Rattle.grammar.proofs.FormedLaws.{result-named, argument-named, range-rises, kind-inside, first-there, second-there, group-rises}
-use Rattle.grammar.proofs.LayoutLaws.{production-before, production-within, class-before, class-within, class-after-productions, declaration-before, declaration-after-classes}
+use Rattle.grammar.proofs.FormedLaws.{result-named, argument-named, kind-inside, first-there, second-there, group-rises}
+use Rattle.grammar.proofs.LayoutLaws.{production-before, production-within, class-after-productions, declaration-before, declaration-after-classes}
 use Rattle.grammar.proofs.VerdictLaws.{refuse-accepted, first-all, refuse-case, and-refused, and-first, and-second, FirstIn, here, there, order-first, first-of}
-use Rattle.grammar.specs.Check.{outside, namesArgument, badArgument, badArguments, badProduction, badProductions, badRange, badClass, badClasses, isGroup, declarationLines, declarationBytes, badDeclaration, badDeclarations}
-use Rattle.grammar.specs.Layout.{sorts, productions, classes, declarations, argumentCount, rangeCount, productionAt, argumentAt, result, argument, rangeAt, low, high, classAt, declarationAt, kind, first, second}
+use Rattle.grammar.specs.Check.{outside, namesArgument, badArgument, badArguments, badProduction, badProductions, isGroup, declarationLines, declarationBytes, badDeclaration, badDeclarations}
+use Rattle.grammar.specs.Layout.{sorts, productions, classes, declarations, argumentCount, productionAt, argumentAt, result, argument, classAt, declarationAt, kind, first, second}
 use Rattle.grammar.specs.Limits.{kindLimit}
-use Rattle.grammar.specs.Verdict.{refuseIf, andThen}
+use Rattle.grammar.specs.Verdict.{refuseIf}
 use Rattle.grammar.specs.declared.Verdict.the-variants.{Refused, Accepted}
 use Rattle.priority.proofs.StageLaws.{in-order, stage, Line, Given}
-use Rattle.priority.specs.Refusals.{NamesNothing, noResult, noArgument, FallingRange, falling, BadDeclarationByte, badKind, badFirst, badSecond, badGroup, refusal5, refusal6, refusal7}
+use Rattle.priority.specs.Refusals.{NamesNothing, noResult, noArgument, BadDeclarationByte, badKind, badFirst, badSecond, badGroup, refusal5, refusal7}
 
 module _ (b : List ℕ) where
-  -- ---- 5, 6 and 7: where their bytes stand
+  -- ---- 5 and 7: where their bytes stand
 
   pub names-in : {j : ℕ} → NamesNothing b j → j < classAt b 0
   names-in (noResult p l t) = omega (arith, production-within b p l)
   names-in (noArgument p i l m t) = omega (arith, production-within b p l)
-
-  pub range-in : {j : ℕ} → FallingRange b j → (classAt b 0 ≤ j) × (j < declarationAt b 0)
-  range-in (falling k r l m t) = (omega (arith, class-after-productions b k), omega (arith, class-within b k l))
 
   pub declaration-in : {j : ℕ} → BadDeclarationByte b j → declarationAt b 0 ≤ j
   declaration-in (badKind d l t) = declaration-after-classes b d
@@ -67,7 +64,7 @@ module _ (b : List ℕ) where
   -- below a byte of a production stand only bytes of productions
   lower5 : (k : ℕ) → k < classAt b 0 → ((j : ℕ) → j < k → NamesNothing b j → ⊥) → (m j : ℕ) → j < k → Line b 5 m j → ⊥
   lower5 k h below m j l =
-      ⊎-elim (λ x. below j l (x .1)) (⊎-elim (λ x. omega (arith, range-in (x .1) .0)) (λ x. omega (arith, declaration-in (x .1), classes-in)))
+      ⊎-elim (λ x. below j l (x .1)) (λ x. omega (arith, declaration-in (x .1), classes-in))
 
   by-argument : (p : ℕ) → p < productions b → ((q : ℕ) → q < p → badProduction b q ≡ Accepted) → result b p < sorts b → {n k : ℕ} → badArguments b p ≡ Refused n k → Given b 5 n k
   unfolding badArgument
@@ -98,110 +95,73 @@ module _ (b : List ℕ) where
       (λ a. by-argument p (f .below) (f .before) (leb-false (sorts b) (result b p) (refuse-accepted own 5 (productionAt b p) (a .0))) (a .1))
       (and-refused (refuseIf own 5 (productionAt b p)) (badArguments b p) (f .refused))
 
-  -- ---- 6
-
-  -- no range below k falls, if k stands in class c, those before c pass, and so do the ranges of c before k
-  ranges-lower : (c k : ℕ) → ((q : ℕ) → q < c → badClass b q ≡ Accepted) → k < classAt b c + 2 * rangeCount b c
-      → ((r : ℕ) → r < rangeCount b c → rangeAt b c r < k → low b c r ≤ high b c r) → {j : ℕ} → j < k → FallingRange b j → ⊥
-  ranges-lower c k pass within own h (falling q r l m t) =
-      ⊎-elim
-      (λ o. omega (arith, range-rises b q (pass q o) r m))
-      (⊎-elim
-      (λ o. omega (arith, ap (λ (x : ℕ). low b x r) o, ap (λ (x : ℕ). high b x r) o, own r (omega (arith, ap (rangeCount b) o)) (omega (arith, ap (classAt b) o))))
-      (λ o. omega (arith, class-before b c q o)))
-      (in-order q c)
-
-  ranges-none : ((q : ℕ) → q < classes b → badClass b q ≡ Accepted) → {j : ℕ} → FallingRange b j → ⊥
-  ranges-none pass (falling q r l m t) = omega (arith, range-rises b q (pass q l) r m)
+  -- ---- 7
 
   module _ (productions-pass : badProductions b ≡ Accepted) where
     no-names : {j : ℕ} → NamesNothing b j → ⊥
     no-names = names-none (first-all (badProduction b) (productions b) productions-pass)
 
-    bad-class : {n k : ℕ} → badClasses b ≡ Refused n k → Given b 5 n k
-    unfolding badRange
-    bad-class e =
-        let f = first-of (badClass b) (classes b) e in
-        let c = f .index in
-        let g = first-of (badRange b c) (rangeCount b c) (f .refused) in
-        let r = g .index in
-        refuse-case (Given b 5) (ltb (high b c r) (low b c r)) 6 (rangeAt b c r) (g .refused)
+    -- no byte below k of a declaration is bad, if k stands in declaration d, those before d pass, and the bytes of d before k do
+    declarations-lower : (d k : ℕ) → ((q : ℕ) → q < d → badDeclaration b q ≡ Accepted) → k < declarationAt b d + 3 → (declarationAt b d < k → outside 1 kindLimit (kind b d) ≡ false)
+        → (declarationAt b d + 1 < k → (first b d < productions b) × (first b d ≤ second b d)) → (j : ℕ) → j < k → BadDeclarationByte b j → ⊥
+    declarations-lower d k pass within own own′ j h (badKind q l t) =
+        ⊎-elim
+        (λ o. not-both (outside 1 kindLimit (kind b q)) t (kind-inside b q (pass q o)))
+        (⊎-elim
+        (λ o. not-both (outside 1 kindLimit (kind b q)) t (subst (λ (x : ℕ). outside 1 kindLimit (kind b x) ≡ false) (sym o) (own (omega (arith, ap (declarationAt b) o)))))
+        (λ o. omega (arith, declaration-before b d q o)))
+        (in-order q d)
+    declarations-lower d k pass within own own′ j h (badFirst q l t) =
+        ⊎-elim
+        (λ o. omega (arith, first-there b q (pass q o)))
+        (⊎-elim (λ o. omega (arith, ap (first b) o, own′ (omega (arith, ap (declarationAt b) o)) .0)) (λ o. omega (arith, declaration-before b d q o)))
+        (in-order q d)
+    declarations-lower d k pass within own own′ j h (badSecond q l t) =
+        ⊎-elim
+        (λ o. omega (arith, second-there b q (pass q o)))
+        (⊎-elim (λ o. omega (arith, ap (declarationAt b) o)) (λ o. omega (arith, declaration-before b d q o)))
+        (in-order q d)
+    declarations-lower d k pass within own own′ j h (badGroup q l g t) =
+        ⊎-elim
+        (λ o. omega (arith, group-rises b q (pass q o) g))
+        (⊎-elim
+        (λ o. omega (arith, ap (first b) o, ap (second b) o, own′ (omega (arith, ap (declarationAt b) o)) .1))
+        (λ o. omega (arith, declaration-before b d q o)))
+        (in-order q d)
+
+    lower7 : (k : ℕ) → ((j : ℕ) → j < k → BadDeclarationByte b j → ⊥) → (m j : ℕ) → j < k → Line b 5 m j → ⊥
+    lower7 k below m j l = ⊎-elim (λ x. no-names (x .1)) (λ x. below j l (x .1))
+
+    by-declaration : (d : ℕ) → d < declarations b → ((q : ℕ) → q < d → badDeclaration b q ≡ Accepted) → {n k : ℕ}
+        → FirstIn (declarationLines (declarationAt b d) (productions b) (kind b d) (first b d) (second b d)) n k → Given b 5 n k
+    by-declaration d l pass (here e) =
+        refuse-case (Given b 5) (outside 1 kindLimit (kind b d)) 7 (declarationAt b d) e
+        (λ t. (refusal7 (badKind d l t), lower7 (declarationAt b d) (declarations-lower d (declarationAt b d) pass (omega arith) (λ h. absurd (omega arith)) (λ h. absurd (omega arith)))))
+    by-declaration d l pass (there a (here e)) =
+        refuse-case (Given b 5) (leb (productions b) (first b d)) 7 (declarationAt b d + 1) e
         (λ t. (
-          refusal6 (falling c r (f .below) (g .below) (ltb-true (high b c r) (low b c r) t)),
-          λ m j l. ⊎-elim
-              (λ x. no-names (x .1))
-              (⊎-elim
-              (λ x. ranges-lower c (rangeAt b c r) (f .before) (omega (arith, g .below)) (λ y z h. ltb-false (high b c y) (low b c y) (refuse-accepted _ 6 (rangeAt b c y) (g .before y (omega arith)))) l (x .1))
-              (λ x. omega (arith, declaration-in (x .1), class-within b c (f .below), g .below))),
+          refusal7 (badFirst d l (leb-true (productions b) (first b d) t)),
+          lower7 (declarationAt b d + 1) (declarations-lower d (declarationAt b d + 1) pass (omega arith) (λ h. refuse-accepted _ 7 (declarationAt b d) a) (λ h. absurd (omega arith))),
+        ))
+    by-declaration d l pass (there a (there c (here e))) =
+        refuse-case (Given b 5) (leb (productions b) (second b d)) 7 (declarationAt b d + 2) e
+        (λ t. (
+          refusal7 (badSecond d l (leb-true (productions b) (second b d) t)),
+          lower7 (declarationAt b d + 2) (declarations-lower d (declarationAt b d + 2) pass (omega arith) (λ h. refuse-accepted _ 7 (declarationAt b d) a) (λ h. let f = leb-false (productions b) (first b d) (refuse-accepted _ 7 (declarationAt b d + 1) c) in (f, omega (arith, leb-true (productions b) (second b d) t)))),
+        ))
+    by-declaration d l pass (there a (there c (there s (here e)))) =
+        refuse-case (Given b 5) (isGroup (kind b d) && ltb (second b d) (first b d)) 7 (declarationAt b d + 1) e
+        (λ t. (
+          refusal7 (badGroup d l (and-first-true (isGroup (kind b d)) (ltb (second b d) (first b d)) t) (ltb-true (second b d) (first b d) (and-second-true (isGroup (kind b d)) (ltb (second b d) (first b d)) t))),
+          lower7 (declarationAt b d + 1) (declarations-lower d (declarationAt b d + 1) pass (omega arith) (λ h. refuse-accepted _ 7 (declarationAt b d) a) (λ h. absurd (omega arith))),
         ))
 
-    -- ---- 7
-
-    module _ (classes-pass : badClasses b ≡ Accepted) where
-      no-ranges : {j : ℕ} → FallingRange b j → ⊥
-      no-ranges = ranges-none (first-all (badClass b) (classes b) classes-pass)
-
-      -- no byte below k of a declaration is bad, if k stands in declaration d, those before d pass, and the bytes of d before k do
-      declarations-lower : (d k : ℕ) → ((q : ℕ) → q < d → badDeclaration b q ≡ Accepted) → k < declarationAt b d + 3 → (declarationAt b d < k → outside 1 kindLimit (kind b d) ≡ false)
-          → (declarationAt b d + 1 < k → (first b d < productions b) × (first b d ≤ second b d)) → (j : ℕ) → j < k → BadDeclarationByte b j → ⊥
-      declarations-lower d k pass within own own′ j h (badKind q l t) =
-          ⊎-elim
-          (λ o. not-both (outside 1 kindLimit (kind b q)) t (kind-inside b q (pass q o)))
-          (⊎-elim
-          (λ o. not-both (outside 1 kindLimit (kind b q)) t (subst (λ (x : ℕ). outside 1 kindLimit (kind b x) ≡ false) (sym o) (own (omega (arith, ap (declarationAt b) o)))))
-          (λ o. omega (arith, declaration-before b d q o)))
-          (in-order q d)
-      declarations-lower d k pass within own own′ j h (badFirst q l t) =
-          ⊎-elim
-          (λ o. omega (arith, first-there b q (pass q o)))
-          (⊎-elim (λ o. omega (arith, ap (first b) o, own′ (omega (arith, ap (declarationAt b) o)) .0)) (λ o. omega (arith, declaration-before b d q o)))
-          (in-order q d)
-      declarations-lower d k pass within own own′ j h (badSecond q l t) =
-          ⊎-elim
-          (λ o. omega (arith, second-there b q (pass q o)))
-          (⊎-elim (λ o. omega (arith, ap (declarationAt b) o)) (λ o. omega (arith, declaration-before b d q o)))
-          (in-order q d)
-      declarations-lower d k pass within own own′ j h (badGroup q l g t) =
-          ⊎-elim
-          (λ o. omega (arith, group-rises b q (pass q o) g))
-          (⊎-elim
-          (λ o. omega (arith, ap (first b) o, ap (second b) o, own′ (omega (arith, ap (declarationAt b) o)) .1))
-          (λ o. omega (arith, declaration-before b d q o)))
-          (in-order q d)
-
-      lower7 : (k : ℕ) → ((j : ℕ) → j < k → BadDeclarationByte b j → ⊥) → (m j : ℕ) → j < k → Line b 5 m j → ⊥
-      lower7 k below m j l = ⊎-elim (λ x. no-names (x .1)) (⊎-elim (λ x. no-ranges (x .1)) (λ x. below j l (x .1)))
-
-      by-declaration : (d : ℕ) → d < declarations b → ((q : ℕ) → q < d → badDeclaration b q ≡ Accepted) → {n k : ℕ}
-          → FirstIn (declarationLines (declarationAt b d) (productions b) (kind b d) (first b d) (second b d)) n k → Given b 5 n k
-      by-declaration d l pass (here e) =
-          refuse-case (Given b 5) (outside 1 kindLimit (kind b d)) 7 (declarationAt b d) e
-          (λ t. (refusal7 (badKind d l t), lower7 (declarationAt b d) (declarations-lower d (declarationAt b d) pass (omega arith) (λ h. absurd (omega arith)) (λ h. absurd (omega arith)))))
-      by-declaration d l pass (there a (here e)) =
-          refuse-case (Given b 5) (leb (productions b) (first b d)) 7 (declarationAt b d + 1) e
-          (λ t. (
-            refusal7 (badFirst d l (leb-true (productions b) (first b d) t)),
-            lower7 (declarationAt b d + 1) (declarations-lower d (declarationAt b d + 1) pass (omega arith) (λ h. refuse-accepted _ 7 (declarationAt b d) a) (λ h. absurd (omega arith))),
-          ))
-      by-declaration d l pass (there a (there c (here e))) =
-          refuse-case (Given b 5) (leb (productions b) (second b d)) 7 (declarationAt b d + 2) e
-          (λ t. (
-            refusal7 (badSecond d l (leb-true (productions b) (second b d) t)),
-            lower7 (declarationAt b d + 2) (declarations-lower d (declarationAt b d + 2) pass (omega arith) (λ h. refuse-accepted _ 7 (declarationAt b d) a) (λ h. let f = leb-false (productions b) (first b d) (refuse-accepted _ 7 (declarationAt b d + 1) c) in (f, omega (arith, leb-true (productions b) (second b d) t)))),
-          ))
-      by-declaration d l pass (there a (there c (there s (here e)))) =
-          refuse-case (Given b 5) (isGroup (kind b d) && ltb (second b d) (first b d)) 7 (declarationAt b d + 1) e
-          (λ t. (
-            refusal7 (badGroup d l (and-first-true (isGroup (kind b d)) (ltb (second b d) (first b d)) t) (ltb-true (second b d) (first b d) (and-second-true (isGroup (kind b d)) (ltb (second b d) (first b d)) t))),
-            lower7 (declarationAt b d + 1) (declarations-lower d (declarationAt b d + 1) pass (omega arith) (λ h. refuse-accepted _ 7 (declarationAt b d) a) (λ h. absurd (omega arith))),
-          ))
-
-      bad-declaration : {n k : ℕ} → badDeclarations b ≡ Refused n k → Given b 5 n k
-      unfolding badDeclaration declarationBytes
-      bad-declaration e =
-          let f = first-of (badDeclaration b) (declarations b) e in
-          let d = f .index in
-          by-declaration d (f .below) (f .before) (order-first (declarationLines (declarationAt b d) (productions b) (kind b d) (first b d) (second b d)) (f .refused))
+    bad-declaration : {n k : ℕ} → badDeclarations b ≡ Refused n k → Given b 5 n k
+    unfolding badDeclaration declarationBytes
+    bad-declaration e =
+        let f = first-of (badDeclaration b) (declarations b) e in
+        let d = f .index in
+        by-declaration d (f .below) (f .before) (order-first (declarationLines (declarationAt b d) (productions b) (kind b d) (first b d) (second b d)) (f .refused))
 
   declarations-none : ((q : ℕ) → q < declarations b → badDeclaration b q ≡ Accepted) → {j : ℕ} → BadDeclarationByte b j → ⊥
   declarations-none pass (badKind q l t) = not-both (outside 1 kindLimit (kind b q)) t (kind-inside b q (pass q l))
@@ -211,16 +171,10 @@ module _ (b : List ℕ) where
 
   pub given5 : {n k : ℕ} → stage b 5 ≡ Refused n k → Given b 5 n k
   given5 e =
-      ⊎-elim
-      (λ a. bad-production a)
-      (λ a. ⊎-elim (λ c. bad-class (a .0) c) (λ c. bad-declaration (a .0) (c .0) (c .1)) (and-refused (badClasses b) (badDeclarations b) (a .1)))
-      (and-refused (badProductions b) (andThen (badClasses b) (badDeclarations b)) e)
+      ⊎-elim (λ a. bad-production a) (λ a. bad-declaration (a .0) (a .1)) (and-refused (badProductions b) (badDeclarations b) e)
 
   pub none5 : stage b 5 ≡ Accepted → {n k : ℕ} → Line b 5 n k → ⊥
   none5 e =
-      let rest = and-second (badProductions b) (andThen (badClasses b) (badDeclarations b)) e in
       ⊎-elim
-      (λ x. no-names (and-first (badProductions b) (andThen (badClasses b) (badDeclarations b)) e) (x .1))
-      (⊎-elim
-      (λ x. ranges-none (first-all (badClass b) (classes b) (and-first (badClasses b) (badDeclarations b) rest)) (x .1))
-      (λ x. declarations-none (first-all (badDeclaration b) (declarations b) (and-second (badClasses b) (badDeclarations b) rest)) (x .1)))
+      (λ x. no-names (and-first (badProductions b) (badDeclarations b) e) (x .1))
+      (λ x. declarations-none (first-all (badDeclaration b) (declarations b) (and-second (badProductions b) (badDeclarations b) e)) (x .1))

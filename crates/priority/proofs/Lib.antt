@@ -10,4 +10,6 @@ pub mod StageLaws
 pub mod BodiesStageLaws
 pub mod RefusalLaws
 pub mod DeclarationLaws
+pub mod SameFrontLaws
 pub mod SpelledGrammarLaws
+pub mod TurnedLaws

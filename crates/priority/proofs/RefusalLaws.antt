@@ -2,7 +2,7 @@
 use Prim.Native.Nat.{ℕ, zero, suc, _≤_, _<_}
 use mathlib.Core.Path.{_≡_, refl, sym, _∙_, ap, ap₂, subst}
 use mathlib.Core.List.{List}
-use mathlib.Core.Logic.{⊎-elim}
+use mathlib.Core.Logic.{_≢_, ⊎-elim}
 use native.Mathlib.Omega.{arith}
 use Rattle.common.proofs.BelowLaws.{any-never, any-found}
 use Rattle.common.proofs.BoolLaws.{not-both}
@@ -10,19 +10,18 @@ use Rattle.common.specs.Below.{anyBelow}
 use Rattle.grammar.proofs.FormedLaws.{bodies-in, inside, order-accepted, well-formed}
 use Rattle.grammar.proofs.LayoutLaws.{production-first, production-after, production-before, class-first}
 use Rattle.grammar.proofs.VerdictLaws.{refused-not-accepted, refuse-accepted, first-all, refuse-case, and-first, and-second, first-of}
-use Rattle.grammar.specs.Check.{outside, badArgumentCounts, badRangeCounts, namesArgument, badProductions, badClasses, badDeclarations, sameProduction, repeatedProduction, frameLines, frameCheck, bodiesLines, bodiesCheck}
+use Rattle.grammar.specs.Check.{outside, badArgumentCounts, badRangeCounts, namesArgument, badProductions, badDeclarations, sameProduction, repeatedProduction, frameLines, frameCheck, bodiesLines, bodiesCheck}
 use Rattle.grammar.specs.Formed.{WellFormed}
 use Rattle.grammar.specs.Layout.{sorts, productions, productionAt, argument, kind}
 use Rattle.grammar.specs.Limits.{sortLimit, productionLimit, kindLimit, headerLength}
-use Rattle.grammar.specs.Verdict.{andThen}
 use Rattle.grammar.specs.declared.Verdict.{Verdict}
 use Rattle.grammar.specs.declared.Verdict.the-variants.{Refused, Accepted}
 use Rattle.priority.proofs.PriorityLaws.{higher-chain}
-use Rattle.priority.proofs.BodiesStageLaws.{names-in, range-in, declaration-in, classes-in, given5, none5}
+use Rattle.priority.proofs.BodiesStageLaws.{names-in, declaration-in, classes-in, given5, none5}
 use Rattle.priority.proofs.StageLaws.{in-order, stage, checked-stages, Line, line, Given, given1, none1, given1′, none1′, given2, none2, given3, none3, given4, none4}
 use Rattle.priority.specs.Check.{circle, checked}
 use Rattle.priority.specs.Priorities.{declarationsOf, Higher, isHigher}
-use Rattle.priority.specs.Refusals.{BadHeaderByte, badSorts, badProductionCount, badClassCount, badStart, badLast, LargeCount, manyArguments, manyRanges, NamesNothing, noResult, noArgument, FallingRange, falling, BadDeclarationByte, badKind, badFirst, badSecond, badGroup, EqualsEarlier, OnCircle, Holds, refusal1, refusal1′, refusal2, refusal3, refusal4, refusal5, refusal6, refusal7, refusal8, refusal9, First}
+use Rattle.priority.specs.Refusals.{BadHeaderByte, badSorts, badProductionCount, badClassCount, badStart, badLast, LargeCount, manyArguments, manyRanges, NamesNothing, noResult, noArgument, BadDeclarationByte, badKind, badFirst, badSecond, badGroup, EqualsEarlier, OnCircle, Holds, refusal1, refusal1′, refusal2, refusal3, refusal4, refusal5, refusal7, refusal8, refusal9, First}
 
 module _ (b : List ℕ) where
   -- ---- 8
@@ -76,10 +75,9 @@ module _ (b : List ℕ) where
   formed pass =
       let counts = pass 3 (omega arith) in
       let bodies = pass 5 (omega arith) in
-      let rest = and-second (badProductions b) (andThen (badClasses b) (badDeclarations b)) bodies in
       well-formed b
       (order-accepted (frameLines b) (pass 0 (omega arith), (pass 1 (omega arith), (pass 2 (omega arith), (and-first (badArgumentCounts b) (badRangeCounts b) counts, (and-second (badArgumentCounts b) (badRangeCounts b) counts, (pass 4 (omega arith), tt)))))))
-      (order-accepted (bodiesLines b) (and-first (badProductions b) (andThen (badClasses b) (badDeclarations b)) bodies, (and-first (badClasses b) (badDeclarations b) rest, (and-second (badClasses b) (badDeclarations b) rest, (pass 6 (omega arith), tt)))))
+      (order-accepted (bodiesLines b) (and-first (badProductions b) (badDeclarations b) bodies, (and-second (badProductions b) (badDeclarations b) bodies, (pass 6 (omega arith), tt))))
 
   given : (s : ℕ) → ((r : ℕ) → r < s → stage b r ≡ Accepted) → {n k : ℕ} → stage b s ≡ Refused n k → Given b s n k
   given zero pass e = given1 b e
@@ -112,27 +110,24 @@ module _ (b : List ℕ) where
   number-same (suc (suc (suc (suc zero)))) n m k a c = omega (arith, a .0, c .0)
   number-same (suc (suc (suc (suc (suc zero))))) n m k a c =
       ⊎-elim
-      (λ x. ⊎-elim (λ y. omega (arith, x .0, y .0)) (⊎-elim (λ y. absurd (omega (arith, names-in b (x .1), range-in b (y .1) .0))) (λ y. absurd (omega (arith, names-in b (x .1), declaration-in b (y .1), classes-in b)))) c)
-      (⊎-elim
-      (λ x. ⊎-elim (λ y. absurd (omega (arith, range-in b (x .1) .0, names-in b (y .1)))) (⊎-elim (λ y. omega (arith, x .0, y .0)) (λ y. absurd (omega (arith, range-in b (x .1) .1, declaration-in b (y .1))))) c)
-      (λ x. ⊎-elim (λ y. absurd (omega (arith, declaration-in b (x .1), names-in b (y .1), classes-in b))) (⊎-elim (λ y. absurd (omega (arith, declaration-in b (x .1), range-in b (y .1) .1))) (λ y. omega (arith, x .0, y .0))) c))
+      (λ x. ⊎-elim (λ y. omega (arith, x .0, y .0)) (λ y. absurd (omega (arith, names-in b (x .1), declaration-in b (y .1), classes-in b))) c)
+      (λ x. ⊎-elim (λ y. absurd (omega (arith, declaration-in b (x .1), names-in b (y .1), classes-in b))) (λ y. omega (arith, x .0, y .0)) c)
       a
   number-same (suc (suc (suc (suc (suc (suc zero)))))) n m k a c = omega (arith, a .0, c .0)
   number-same (suc (suc (suc (suc (suc (suc (suc zero))))))) n m k a c = omega (arith, a .0, c .0)
   number-same (suc (suc (suc (suc (suc (suc (suc (suc s)))))))) n m k a c = absurd a
 
-  -- there are eight stages, and numbers up to 9
-  holds-small : {s n k : ℕ} → Holds b s n k → (s < 8) × (n ≤ 9)
-  holds-small (refusal1 h) = (omega arith, omega arith)
-  holds-small (refusal2 h) = (omega arith, omega arith)
-  holds-small (refusal1′ h) = (omega arith, omega arith)
-  holds-small (refusal3 h) = (omega arith, omega arith)
-  holds-small (refusal4 h) = (omega arith, omega arith)
-  holds-small (refusal5 h) = (omega arith, omega arith)
-  holds-small (refusal6 h) = (omega arith, omega arith)
-  holds-small (refusal7 h) = (omega arith, omega arith)
-  holds-small (refusal8 h) = (omega arith, omega arith)
-  holds-small (refusal9 h) = (omega arith, omega arith)
+  -- there are eight stages, and numbers up to 9 without 6
+  holds-small : {s n k : ℕ} → Holds b s n k → (s < 8) × (n ≤ 9) × (n ≢ 6)
+  holds-small (refusal1 h) = (omega arith, omega arith, λ e. omega arith)
+  holds-small (refusal2 h) = (omega arith, omega arith, λ e. omega arith)
+  holds-small (refusal1′ h) = (omega arith, omega arith, λ e. omega arith)
+  holds-small (refusal3 h) = (omega arith, omega arith, λ e. omega arith)
+  holds-small (refusal4 h) = (omega arith, omega arith, λ e. omega arith)
+  holds-small (refusal5 h) = (omega arith, omega arith, λ e. omega arith)
+  holds-small (refusal7 h) = (omega arith, omega arith, λ e. omega arith)
+  holds-small (refusal8 h) = (omega arith, omega arith, λ e. omega arith)
+  holds-small (refusal9 h) = (omega arith, omega arith, λ e. omega arith)
 
   -- ---- the table, both ways
 
@@ -151,6 +146,10 @@ module _ (b : List ℕ) where
   -- Its number is one of 1 to 9.
   pub checked-number : {n k : ℕ} → checked b ≡ Refused n k → n ≤ 9
   checked-number e = holds-small (refused-first e .holds) .1
+
+  -- It is never 6.
+  pub checked-not-six : {k : ℕ} → checked b ≡ Refused 6 k → ⊥
+  checked-not-six e = holds-small (refused-first e .holds) .2 refl
 
   -- Of an accepted grammar no condition holds.
   pub accepted-free : checked b ≡ Accepted → (s n k : ℕ) → Holds b s n k → ⊥
@@ -197,7 +196,6 @@ module _ (b : List ℕ) where
       by-stage (refusal3 h) o = absurd (omega arith)
       by-stage (refusal4 h) o = absurd (omega arith)
       by-stage (refusal5 h) o = absurd (omega arith)
-      by-stage (refusal6 h) o = absurd (omega arith)
       by-stage (refusal7 h) o = omega (arith, declaration-in b h, classes-in b, class-first b, production-first b, production-after b (productions b))
       by-stage (refusal8 h) o = absurd (omega arith)
       by-stage (refusal9 h) o = absurd (omega arith)
@@ -224,10 +222,6 @@ module _ (b : List ℕ) (w : WellFormed b) where
   all-named (noResult p l h) = omega (arith, w .resultNamed p l)
   all-named (noArgument p i l m h) = not-both (namesArgument b (argument b p i)) (w .argumentNamed p i l m) h
 
-  -- ranges rise
-  none-falling : {k : ℕ} → FallingRange b k → ⊥
-  none-falling (falling k r l m h) = omega (arith, w .rangesRise k r l m)
-
   -- declarations are as they should be
   no-bad-declaration : {k : ℕ} → BadDeclarationByte b k → ⊥
   no-bad-declaration (badKind d l h) = not-both (outside 1 kindLimit (kind b d)) h (inside 1 kindLimit (kind b d) (w .someKind d l) (w .fewKinds d l))
@@ -246,7 +240,6 @@ module _ (b : List ℕ) (w : WellFormed b) where
       by-stage s n k (refusal3 h) = no-large-count h
       by-stage s n k (refusal4 h) = h (w .framed .lengthIs)
       by-stage s n k (refusal5 h) = all-named h
-      by-stage s n k (refusal6 h) = none-falling h
       by-stage s n k (refusal7 h) = no-bad-declaration h
       by-stage s n k (refusal8 {p} h) = not-both (sameProduction b p (h .earlier)) (h .same) (w .different p (h .earlier) (h .there) (h .isEarlier))
       by-stage s n k (refusal9 {p} h) = acyclic p (h .there) (h .circle)

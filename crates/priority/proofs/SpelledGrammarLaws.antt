@@ -1,19 +1,19 @@
 -- The grammar with its groups spelled out (02, [2]): its declarations are the spelled-out ones, it is accepted if the grammar is, and it has the same conflicts.
 use Prim.Native.Nat.{ℕ, zero, suc, _+_, _-_, _*_, _≤_, _<_}
 use mathlib.Core.Path.{_≡_, refl, sym, _∙_, ap, subst}
-use mathlib.Core.Bool.{false, _&&_}
+use mathlib.Core.Bool.{false}
 use mathlib.Core.List.{List, [], _∷_, _++_}
 use mathlib.Core.Logic.{_↔_, by-cases}
 use native.Mathlib.Omega.{arith}
 use native.Mathlib.Decide.{ℕ-discrete, decLt}
-use lib.Dec.{leb, eqb}
 use lib.ListN.{length, getD, take, length-append, List·getD-append, List·getD-eq-default}
 use lib.Seq.{length-take-le, getD-append-add, getD-at, getD-take, getD-drop, slice, length-slice}
 use Rattle.common.proofs.AllLaws.{all-at, all-tabulate, all-joined}
 use Rattle.common.proofs.ListLaws.{tabulate-members}
 use Rattle.common.specs.Lists.{tabulate, joined, All}
-use Rattle.grammar.proofs.LayoutLaws.{declaration-from, declaration-after-classes, needed-is-end}
-use Rattle.grammar.proofs.SameFrontLaws.{SameFront, Declares, front-bodies, front-back, front-formed, same-sorts, same-productions, same-count, same-result, same-argument, same-declaration-at}
+use Rattle.grammar.proofs.FormedLaws.{declarations-in}
+use Rattle.grammar.proofs.LayoutLaws.{declaration-from, needed-is-end}
+use Rattle.grammar.proofs.SameFrontLaws.{SameFront, Declares, bytes-front, front-bodies, front-back, front-formed, same-productions, same-count, same-declaration-at}
 use Rattle.grammar.specs.Check.{isGroup}
 use Rattle.grammar.specs.Formed.{Framed, WellFormed}
 use Rattle.grammar.specs.Layout.{byteAt, productions, declarations, argumentCount, declarationAt, kind, first, second, neededLength}
@@ -22,42 +22,14 @@ use Rattle.grammar.specs.declared.Verdict.the-variants.{Accepted}
 use Rattle.priority.proofs.CheckLaws.{accepted-formed}
 use Rattle.priority.proofs.PriorityLaws.{kind-is, first-is, second-is}
 use Rattle.priority.proofs.RefusalLaws.{accepted-free, formed-accepted}
+use Rattle.priority.proofs.SameFrontLaws.{front-conflict}
 use Rattle.priority.proofs.SpelledLaws.{said-bounds, spelled-all, spelled-none, spelled-declared, higher-alike, conflict-carried}
 use Rattle.priority.specs.Check.{checked}
-use Rattle.priority.specs.Conflict.{isSort, fits, isFirst, isLast, ConflictIn, Conflict, anywhere, atFirst, atLast, barred, conflictsIn}
+use Rattle.priority.specs.Conflict.{Conflict}
 use Rattle.priority.specs.Priorities.{Kind, declaredIn, declarationOf, declarationsOf, declared}
 use Rattle.priority.specs.declared.Declaration.{Declaration}
 use Rattle.priority.specs.Refusals.{refusal9}
 use Rattle.priority.specs.Spelled.{IsOfTwo, spelled, spelledOut, declarationNumbers, spelledGrammar}
-
--- ---- grammars that differ only in their declarations have the same conflicts by a list of declarations
-
-module _ (b c : List ℕ) (same : SameFront b c) (p i q : ℕ) (lp : p < productions b) (li : i < argumentCount b p) (lq : q < productions b) where
-  -- what fits as an argument
-  pub front-fits : fits c p i q ≡ fits b p i q
-  unfolding fits isSort
-  front-fits = rw (same-argument b c same p i lp li, same-result b c same q lq, same-sorts b c same) refl
-
-  -- which argument is the first of several
-  front-first : isFirst c p i ≡ isFirst b p i
-  unfolding isFirst
-  front-first = ap (λ (n : ℕ). eqb i 0 && leb 2 n) (same-count b c same p lp)
-
-  -- which is the last
-  front-last : isLast c p i ≡ isLast b p i
-  unfolding isLast
-  front-last = ap (λ (n : ℕ). eqb (i + 1) n && leb 2 n) (same-count b c same p lp)
-
-  -- a conflict by the one grammar is one by the other
-  pub front-conflict : {ls : List Declaration} → ConflictIn b ls p i q → ConflictIn c ls p i q
-  front-conflict (anywhere fit h) = anywhere (front-fits ∙ fit) h
-  front-conflict (atFirst fit f h) = atFirst (front-fits ∙ fit) (front-first ∙ f) h
-  front-conflict (atLast fit f h) = atLast (front-fits ∙ fit) (front-last ∙ f) h
-
-  -- and by the test
-  pub front-conflicts : (ls : List Declaration) → conflictsIn c ls p i q ≡ conflictsIn b ls p i q
-  unfolding conflictsIn barred
-  front-conflicts ls = rw (front-fits, front-first, front-last, same-productions b c same) refl
 
 -- ---- the numbers of a list of declarations
 
@@ -135,11 +107,7 @@ module _ (b : List ℕ) (f : Framed b) where
 
   -- the declarations begin behind the header, and within the grammar's numbers
   front-in : (headerLength ≤ declarationAt b 0) × (declarationAt b 0 ≤ length b)
-  front-in =
-      let behind = front-bodies b in
-      let last = declaration-after-classes b (declarations b) in
-      let end = needed-is-end b in
-      (omega arith, omega (arith, f .lengthIs))
+  front-in = (omega (arith, front-bodies b), declarations-in b f)
 
   -- how many numbers come up to the count of declarations
   start-length : length start ≡ 4
@@ -161,8 +129,8 @@ module _ (b : List ℕ) (f : Framed b) where
       ap (λ (n : ℕ). getD (start ++ middle ++ joined declarationNumbers out) (n + k) 0) (sym front-length) ∙ getD-append-add (start ++ middle) (joined declarationNumbers out) k 0
 
   -- Before the declarations only their count differs.
-  pub spelled-front : SameFront b (spelledGrammar b)
-  spelled-front k l h =
+  spelled-before : (k : ℕ) → k < declarationAt b 0 → (k ≡ 3 → ⊥) → byteAt (spelledGrammar b) k ≡ byteAt b k
+  spelled-before k l h =
       spelled-early k l
       ∙ by-cases (decLt k 3)
       (λ m. List·getD-append start middle 0 k (omega (arith, start-length))
@@ -174,6 +142,9 @@ module _ (b : List ℕ) (f : Framed b) where
       ∙ getD-drop 4 (take (declarationAt b 0) b) (k - 4) 0
       ∙ ap (λ (n : ℕ). getD (take (declarationAt b 0) b) n 0) (sym e)
       ∙ getD-take (declarationAt b 0) b k 0 l)
+
+  pub spelled-front : SameFront b (spelledGrammar b)
+  spelled-front = bytes-front b (spelledGrammar b) spelled-before
 
   -- the count is that of the declarations spelled out
   spelled-count : declarations (spelledGrammar b) ≡ length out
@@ -241,7 +212,7 @@ module _ (b : List ℕ) (w : WellFormed b) where
       by-cases (decLt k at)
       (λ l. elim (ℕ-discrete k 3) [
         | yes e ↦ rw e (omega (arith, spelled-count b (w .framed)))
-        | no e ↦ omega (arith, spelled-front b (w .framed) k l e, small k)
+        | no e ↦ omega (arith, spelled-before b (w .framed) k l e, small k)
       ])
       (λ l. let e : at + (k - at) ≡ k = omega arith in
       let late = ap (byteAt (spelledGrammar b)) (sym e) ∙ spelled-late b (w .framed) (k - at) in

@@ -12,14 +12,14 @@ use borrow.Author.Tests.{ltb-true, ltb-false, leb-true, leb-false, eqb-true, eqb
 use Rattle.common.proofs.BoolLaws.{not-both}
 use Rattle.grammar.proofs.FormedLaws.{each-accepted}
 use Rattle.grammar.proofs.VerdictLaws.{refuse-accepted, and-assoc, first-all, refuse-case, and-refused, and-first, and-second, FirstIn, here, there, order-first, first-of}
-use Rattle.grammar.specs.Check.{outside, shortHeader, headerLines, headerBytes, badHeader, shortContents, badArgumentCount, badRangeCount, badArgumentCounts, badRangeCounts, badLength, badProductions, badClasses, badDeclarations, repeatedProductions}
+use Rattle.grammar.specs.Check.{outside, shortHeader, headerLines, headerBytes, badHeader, shortContents, badArgumentCount, badRangeCount, badArgumentCounts, badRangeCounts, badLength, badProductions, badDeclarations, repeatedProductions}
 use Rattle.grammar.specs.Layout.{byteAt, sorts, productions, classes, startSort, argumentCountAt, rangeCountAt, argumentCount, rangeCount, bodiesAt, productionAt, neededLength}
 use Rattle.grammar.specs.Limits.{sortLimit, productionLimit, classLimit, argumentLimit, rangeLimit, headerLength}
 use Rattle.grammar.specs.Verdict.{andThen, firstRefusal}
 use Rattle.grammar.specs.declared.Verdict.{Verdict}
 use Rattle.grammar.specs.declared.Verdict.the-variants.{Refused, Accepted}
 use Rattle.priority.specs.Check.{circles, checked}
-use Rattle.priority.specs.Refusals.{BadHeaderByte, badSorts, badProductionCount, badClassCount, badStart, badLast, LargeCount, manyArguments, manyRanges, NamesNothing, FallingRange, BadDeclarationByte, EqualsEarlier, OnCircle, Holds, refusal1, refusal1′, refusal2, refusal3, refusal4, refusal5, refusal6, refusal7, refusal8, refusal9}
+use Rattle.priority.specs.Refusals.{BadHeaderByte, badSorts, badProductionCount, badClassCount, badStart, badLast, LargeCount, manyArguments, manyRanges, NamesNothing, BadDeclarationByte, EqualsEarlier, OnCircle, Holds, refusal1, refusal1′, refusal2, refusal3, refusal4, refusal5, refusal7, refusal8, refusal9}
 
 -- two numbers in order, or the same
 pub in-order : (p q : ℕ) → (p < q) ⊎ ((p ≡ q) ⊎ (q < p))
@@ -34,7 +34,7 @@ module _ (b : List ℕ) where
   stage (suc (suc zero)) = shortContents b
   stage (suc (suc (suc zero))) = andThen (badArgumentCounts b) (badRangeCounts b)
   stage (suc (suc (suc (suc zero)))) = badLength b
-  stage (suc (suc (suc (suc (suc zero))))) = andThen (badProductions b) (andThen (badClasses b) (badDeclarations b))
+  stage (suc (suc (suc (suc (suc zero))))) = andThen (badProductions b) (badDeclarations b)
   stage (suc (suc (suc (suc (suc (suc zero)))))) = repeatedProductions b
   stage (suc (suc (suc (suc (suc (suc (suc zero))))))) = circles b
   stage (suc (suc (suc (suc (suc (suc (suc (suc s)))))))) = Accepted
@@ -50,7 +50,7 @@ module _ (b : List ℕ) where
   Line (suc (suc zero)) n k = (n ≡ 1) × (k ≡ length b) × (length b < bodiesAt b)
   Line (suc (suc (suc zero))) n k = (n ≡ 3) × LargeCount b k
   Line (suc (suc (suc (suc zero)))) n k = (n ≡ 4) × (k ≡ min (length b) (neededLength b)) × (length b ≡ neededLength b → ⊥)
-  Line (suc (suc (suc (suc (suc zero))))) n k = ((n ≡ 5) × NamesNothing b k) ⊎ (((n ≡ 6) × FallingRange b k) ⊎ ((n ≡ 7) × BadDeclarationByte b k))
+  Line (suc (suc (suc (suc (suc zero))))) n k = ((n ≡ 5) × NamesNothing b k) ⊎ ((n ≡ 7) × BadDeclarationByte b k)
   Line (suc (suc (suc (suc (suc (suc zero)))))) n k = (n ≡ 8) × (p : ℕ) × (k ≡ productionAt b p) × EqualsEarlier b p
   Line (suc (suc (suc (suc (suc (suc (suc zero))))))) n k = (n ≡ 9) × OnCircle b k
   Line (suc (suc (suc (suc (suc (suc (suc (suc s)))))))) n k = ⊥
@@ -62,8 +62,7 @@ module _ (b : List ℕ) where
   line (refusal3 h) = (refl, h)
   line (refusal4 h) = (refl, refl, h)
   line (refusal5 h) = inl (refl, h)
-  line (refusal6 h) = inr (inl (refl, h))
-  line (refusal7 h) = inr (inr (refl, h))
+  line (refusal7 h) = inr (refl, h)
   line (refusal8 {p} h) = (refl, p, refl, h)
   line (refusal9 h) = (refl, h)
 

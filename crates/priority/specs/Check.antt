@@ -2,7 +2,7 @@
 use Prim.Native.Nat.{ℕ}
 use mathlib.Core.Bool.{Bool}
 use mathlib.Core.List.{List, [], _∷_}
-use Rattle.grammar.specs.Check.{shortHeader, badHeader, shortContents, badArgumentCounts, badRangeCounts, badLength, badProductions, badClasses, badDeclarations, repeatedProductions}
+use Rattle.grammar.specs.Check.{shortHeader, badHeader, shortContents, badArgumentCounts, badRangeCounts, badLength, badProductions, badDeclarations, repeatedProductions}
 use Rattle.grammar.specs.Layout.{productions}
 use Rattle.grammar.specs.Verdict.{refuseIf, firstRefusal, inOrder}
 use Rattle.grammar.specs.declared.Verdict.{Verdict}
@@ -25,7 +25,7 @@ circlesIn b ls = firstRefusal (productions b) (circle (productions b) ls)
 abbrev pub circles : List ℕ → Verdict
 circles b = circlesIn b (declarationsOf b)
 
--- The table of refusals, a line each: 1 (first half), 2, 1 (second half), 3, 4, then 5, 6 and 7 as the bytes come, 8, 9.
+-- The table of refusals, a line each: 1 (first half), 2, 1 (second half), 3, 4, then 5 and 7 as the bytes come, 8, 9. There is no refusal 6 (02, [3]).
 abbrev pub grammarLines : List ℕ → List Verdict
 grammarLines b =
     shortHeader b
@@ -35,7 +35,6 @@ grammarLines b =
     ∷ badRangeCounts b
     ∷ badLength b
     ∷ badProductions b
-    ∷ badClasses b
     ∷ badDeclarations b
     ∷ repeatedProductions b
     ∷ circles b

@@ -5,7 +5,7 @@ use mathlib.Core.List.{List}
 use mathlib.Core.Path.{_≡_}
 use lib.ListN.{length}
 use Rattle.grammar.specs.Check.{outside, namesArgument, isGroup, sameProduction}
-use Rattle.grammar.specs.Layout.{byteAt, sorts, productions, classes, declarations, startSort, argumentCountAt, rangeCountAt, argumentCount, rangeCount, bodiesAt, productionAt, argumentAt, result, argument, rangeAt, low, high, declarationAt, kind, first, second, neededLength}
+use Rattle.grammar.specs.Layout.{byteAt, sorts, productions, classes, declarations, startSort, argumentCountAt, rangeCountAt, argumentCount, rangeCount, bodiesAt, productionAt, argumentAt, result, argument, declarationAt, kind, first, second, neededLength}
 use Rattle.grammar.specs.Limits.{sortLimit, productionLimit, classLimit, argumentLimit, rangeLimit, kindLimit, headerLength}
 use Rattle.priority.specs.Priorities.{Higher}
 
@@ -27,10 +27,6 @@ pub data NamesNothing (b : List ℕ) : ℕ → Type 0 where
   noResult : (p : ℕ) → p < productions b → sorts b ≤ result b p → NamesNothing b (productionAt b p)
   noArgument : (p i : ℕ) → p < productions b → i < argumentCount b p → namesArgument b (argument b p i) ≡ false → NamesNothing b (argumentAt b p i)
 
--- Byte k is the low byte of a range with low above high.
-pub data FallingRange (b : List ℕ) : ℕ → Type 0 where
-  falling : (k r : ℕ) → k < classes b → r < rangeCount b k → high b k r < low b k r → FallingRange b (rangeAt b k r)
-
 -- Byte k is a kind that is not 1 to 7, or names a production that isn't there, or the first of a group that is above its second.
 pub data BadDeclarationByte (b : List ℕ) : ℕ → Type 0 where
   badKind : (d : ℕ) → d < declarations b → outside 1 kindLimit (kind b d) ≡ true → BadDeclarationByte b (declarationAt b d)
@@ -51,7 +47,7 @@ pub record OnCircle (b : List ℕ) (p : ℕ) : Type 0 where
   pub circle : Higher b p p
 
 -- A line each: the refusal with this number and this place may be given at this stage of the check.
--- The stages are in 01's order: 1 (first half), 2, 1 (second half), 3, 4, then 5, 6 and 7 as the bytes come, 8, 9.
+-- The stages are in 01's order: 1 (first half), 2, 1 (second half), 3, 4, then 5 and 7 as the bytes come, 8, 9. There is no refusal 6 (02, [3]).
 pub data Holds (b : List ℕ) : (stage number place : ℕ) → Type 0 where
   refusal1 : length b < headerLength → Holds b 0 1 (length b)
   refusal2 : {k : ℕ} → BadHeaderByte b k → Holds b 1 2 k
@@ -59,7 +55,6 @@ pub data Holds (b : List ℕ) : (stage number place : ℕ) → Type 0 where
   refusal3 : {k : ℕ} → LargeCount b k → Holds b 3 3 k
   refusal4 : (length b ≡ neededLength b → ⊥) → Holds b 4 4 (min (length b) (neededLength b))
   refusal5 : {k : ℕ} → NamesNothing b k → Holds b 5 5 k
-  refusal6 : {k : ℕ} → FallingRange b k → Holds b 5 6 k
   refusal7 : {k : ℕ} → BadDeclarationByte b k → Holds b 5 7 k
   refusal8 : {p : ℕ} → EqualsEarlier b p → Holds b 6 8 (productionAt b p)
   refusal9 : {p : ℕ} → OnCircle b p → Holds b 7 9 p

@@ -11,14 +11,11 @@ use Rattle.charset.proofs.range_mask.Tie as tie
 returns : tie.Need-returns
 returns c b h = mask-none _ _ _ b h (λ l m. omega arith)
 
+add-if2 : tie.Need-add-if2
+add-if2 c = search needs
+
 returns-2 : tie.Need-returns-2
 returns-2 c b h = mask-none _ _ _ b h (λ l m. omega arith)
-
-add-if3 : tie.Need-add-if3
-add-if3 c = search needs
-
-returns-3 : tie.Need-returns-3
-returns-3 c b h = mask-none _ _ _ b h (λ l m. omega arith)
 
 above-requires : tie.Need-above-requires
 above-requires c κs = search needs
@@ -44,9 +41,9 @@ cast-result-2 c = search needs
 shl-result : tie.Need-shl-result
 shl-result c = search needs
 
-returns-4 : tie.Need-returns-4
-returns-4 c b h =
-    let s = c .before .before .before .before .before .args in
+returns-3 : tie.Need-returns-3
+returns-3 c b h =
+    let s = c .before .before .before .before .args in
     let from : c .before .above .result ≡ s .low - s .base = c .before .above .ensures in
     let to : c .at-most-63 .result ≡ min (s .high - s .base) (wordBits - 1) = c .at-most-63 .ensures in
     rw (from, to) (mask-block (s .low) (s .high) (s .base) (omega arith) (omega arith) (omega arith) b h)
@@ -56,9 +53,8 @@ range-mask-spec =
     tie.close
     (tie.spec
     returns
+    add-if2
     returns-2
-    add-if3
-    returns-3
     above-requires
     at-most-63-requires
     sub-result
@@ -67,4 +63,4 @@ range-mask-spec =
     shr-result
     cast-result-2
     shl-result
-    returns-4)
+    returns-3)

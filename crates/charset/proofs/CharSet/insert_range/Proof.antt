@@ -1,48 +1,28 @@
--- `insert_range` meets its contract: each word is joined with its mask.
+-- `insert_range` meets its contract: a range that falls is inserted turned round.
+use mathlib.Core.Path.{sym, _∙_, ap}
+use mathlib.Core.Bool.{Bool, _||_}
+use native.Mathlib.Omega.{arith}
 use borrow.Author.Needs.{needs}
-use Rattle.charset.proofs.BitLaws.{has-or}
+use Rattle.charset.proofs.SpansLaws.{spans-rising, spans-falling}
+use Rattle.charset.specs.Set.{has}
 use Rattle.charset.proofs.CharSet.insert_range.Statement.{statement}
 use Rattle.charset.proofs.CharSet.insert_range.Tie as tie
 
-array-read-t7 : tie.Need-array-read-t7
-array-read-t7 c = search needs
-
-range-mask-requires : tie.Need-range-mask-requires
-range-mask-requires c κs = search needs
-
-array-read-t12 : tie.Need-array-read-t12
-array-read-t12 c = search needs
-
-range-mask-requires-2 : tie.Need-range-mask-requires-2
-range-mask-requires-2 c κs = search needs
-
-array-read-t17 : tie.Need-array-read-t17
-array-read-t17 c = search needs
-
-range-mask-requires-3 : tie.Need-range-mask-requires-3
-range-mask-requires-3 c κs = search needs
-
-array-read-t22 : tie.Need-array-read-t22
-array-read-t22 c = search needs
-
-range-mask-requires-4 : tie.Need-range-mask-requires-4
-range-mask-requires-4 c κs = search needs
+insert-rising-requires : tie.Need-insert-rising-requires
+insert-rising-requires c κs = search needs
 
 returns : tie.Need-returns
-returns c =
-    let s = c .before .before .before .before .before .args in
-    has-or (s .self .words) (s .low) (s .high) _ _ _ _ (c .before .before .before .range-mask .ensures) (c .before .before .range-mask2 .ensures) (c .before .range-mask3 .ensures) (c .range-mask4 .ensures)
+returns c b h =
+    let s = c .before .before .args in
+    c .insert-rising .ensures b h ∙ ap (λ (v : Bool). has (s .self .words) b || v) (sym (spans-falling (s .low) (s .high) b (omega arith)))
+
+insert-rising-requires-2 : tie.Need-insert-rising-requires-2
+insert-rising-requires-2 c κs = search needs
+
+returns-2 : tie.Need-returns-2
+returns-2 c b h =
+    let s = c .before .before .args in
+    c .insert-rising2 .ensures b h ∙ ap (λ (v : Bool). has (s .self .words) b || v) (sym (spans-rising (s .low) (s .high) b (omega arith)))
 
 pub insert-range-spec : {M : Type 1} → statement M
-insert-range-spec =
-    tie.close
-    (tie.spec
-    array-read-t7
-    range-mask-requires
-    array-read-t12
-    range-mask-requires-2
-    array-read-t17
-    range-mask-requires-3
-    array-read-t22
-    range-mask-requires-4
-    returns)
+insert-range-spec = tie.close (tie.spec insert-rising-requires returns insert-rising-requires-2 returns-2)

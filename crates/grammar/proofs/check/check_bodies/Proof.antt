@@ -18,8 +18,8 @@ returns : tie.Need-returns
 unfolding bodiesCheck
 returns c = rw (← (c .before .before .check-productions .ensures), c .enum-told2 .given .1) refl
 
-check-classes-requires : tie.Need-check-classes-requires
-check-classes-requires c κs = search needs
+check-declarations-requires : tie.Need-check-declarations-requires
+check-declarations-requires c κs = search needs
 
 enum-told-3 : tie.Need-enum-told-3
 enum-told-3 c = search needs
@@ -29,27 +29,14 @@ enum-told-4 c = search needs
 
 returns-2 : tie.Need-returns-2
 unfolding bodiesCheck
-returns-2 c = rw (← (c .before .before .before .before .before .check-productions .ensures), c .before .before .before .enum-told .given .1, ← (c .before .before .check-classes .ensures), c .enum-told4 .given .1) refl
-
-check-declarations-requires : tie.Need-check-declarations-requires
-check-declarations-requires c κs = search needs
-
-enum-told-5 : tie.Need-enum-told-5
-enum-told-5 c = search needs
-
-enum-told-6 : tie.Need-enum-told-6
-enum-told-6 c = search needs
-
-returns-3 : tie.Need-returns-3
-unfolding bodiesCheck
-returns-3 c = rw (← (c .before .before .before .before .before .before .before .before .check-productions .ensures), c .before .before .before .before .before .before .enum-told .given .1, ← (c .before .before .before .before .before .check-classes .ensures), c .before .before .before .enum-told3 .given .1, ← (c .before .before .check-declarations .ensures), c .enum-told6 .given .1) refl
+returns-2 c = rw (← (c .before .before .before .before .before .check-productions .ensures), c .before .before .before .enum-told .given .1, ← (c .before .before .check-declarations .ensures), c .enum-told4 .given .1) refl
 
 check-repeated-requires : tie.Need-check-repeated-requires
 check-repeated-requires c κs = search needs
 
-returns-4 : tie.Need-returns-4
+returns-3 : tie.Need-returns-3
 unfolding bodiesCheck
-returns-4 c = rw (← (c .before .before .before .before .before .before .before .before .before .check-productions .ensures), c .before .before .before .before .before .before .before .enum-told .given .1, ← (c .before .before .before .before .before .before .check-classes .ensures), c .before .before .before .before .enum-told3 .given .1, ← (c .before .before .before .check-declarations .ensures), c .before .enum-told5 .given .1) (c .check-repeated .ensures)
+returns-3 c = rw (← (c .before .before .before .before .before .before .check-productions .ensures), c .before .before .before .before .enum-told .given .1, ← (c .before .before .before .check-declarations .ensures), c .before .enum-told3 .given .1) (c .check-repeated .ensures)
 
 pub check-bodies-spec : {M : Type 1} → statement M
 check-bodies-spec =
@@ -59,13 +46,9 @@ check-bodies-spec =
     enum-told
     enum-told-2
     returns
-    check-classes-requires
+    check-declarations-requires
     enum-told-3
     enum-told-4
     returns-2
-    check-declarations-requires
-    enum-told-5
-    enum-told-6
-    returns-3
     check-repeated-requires
-    returns-4)
+    returns-3)

@@ -4,7 +4,7 @@ use mathlib.Core.Path.{_≡_, sym, _∙_, ap}
 use mathlib.Core.Bool.{Bool, _||_}
 use mathlib.Core.List.{List}
 use native.Mathlib.Omega.{arith}
-use Rattle.charset.specs.Set.{characters, has, inRange}
+use Rattle.charset.specs.Set.{characters, has, spans}
 use Rattle.common.proofs.BelowLaws.{any-none, any-next}
 use Rattle.common.specs.Below.{anyBelow}
 use Rattle.grammar.proofs.FormedLaws.{class-in, bodies-in}
@@ -16,12 +16,12 @@ use Rattle.grammar.proofs.classes.class_set.Tie as tie
 
 -- the characters of the ranges below r
 inRanges : List ℕ → ℕ → ℕ → ℕ → Bool
-inRanges b k r c = anyBelow r (λ j. inRange (low b k j) (high b k j) c)
+inRanges b k r c = anyBelow r (λ j. spans (low b k j) (high b k j) c)
 
 -- one range more
-next-range : (b : List ℕ) (k r c : ℕ) → inRanges b k (r + 1) c ≡ (inRanges b k r c || inRange (low b k r) (high b k r) c)
+next-range : (b : List ℕ) (k r c : ℕ) → inRanges b k (r + 1) c ≡ (inRanges b k r c || spans (low b k r) (high b k r) c)
 unfolding inRanges
-next-range b k r c = any-next (λ j. inRange (low b k j) (high b k j) c) r
+next-range b k r c = any-next (λ j. spans (low b k j) (high b k j) c) r
 
 abbrev Inv-loop : tie.InvT-loop
 Inv-loop book k set₀ count at r₀ set r = (r ≤ count) × ((c : ℕ) → c < characters → has (set .words) c ≡ inRanges book k r c)
@@ -40,7 +40,7 @@ class-at-requires c κs = (bodies-in (c .before .before .before .args .book .now
 
 loop-holds : tie.Need-loop-holds Inv-loop μ-loop
 unfolding inRanges
-loop-holds c = (omega arith, λ x l. c .before .before .empty .ensures x l ∙ sym (any-none (λ j. inRange (low (c .before .before .before .before .args .book .now) (c .before .before .before .before .args .k) j) (high (c .before .before .before .before .args .book .now) (c .before .before .before .before .args .k) j) x)))
+loop-holds c = (omega arith, λ x l. c .before .before .empty .ensures x l ∙ sym (any-none (λ j. spans (low (c .before .before .before .before .args .book .now) (c .before .before .before .before .args .k) j) (high (c .before .before .before .before .args .book .now) (c .before .before .before .before .args .k) j) x)))
 
 mul-insert-range : tie.Need-mul-insert-range Inv-loop μ-loop
 mul-insert-range c = omega (arith, c .before .before .before .range-count .ensures, c .before .before .class-at .ensures, class-in (c .before .before .before .before .before .before .args .book .now) (c .before .before .before .before .before .before .pre .0 .framed) (c .before .before .before .before .before .before .args .k) (c .before .before .before .before .before .before .pre .1))
