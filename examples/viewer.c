@@ -102,7 +102,6 @@ static const char *const words_for[] = {
     [3] = "byte %llu of the book, a count of arguments or ranges, is too large",
     [4] = "the book's length is not the one that its counts call for; the smaller of the two is %llu",
     [5] = "byte %llu of the book, a result or an argument, names nothing",
-    [6] = "byte %llu of the book, the low end of a range, is above the high end",
     [7] = "byte %llu of the book, in a declaration, is no kind, names no rule, or is above the last rule of its group",
     [8] = "the rule at byte %llu of the book is equal to an earlier one",
     [9] = "rule %llu, counted from 0, is higher than itself, by a circle of declarations",

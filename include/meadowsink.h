@@ -22,14 +22,14 @@ extern "C" {
  * in `_place`, takes the same areas, does the same to them, and gives the place of the refusal; it is 0 if nothing is refused, but 0 may also be a place.
  * meadowsink_text_under refuses nothing, so it has no second call, and its result is not of this form.
  *
- * Refusals, with their places. Bytes and rules are counted from 0. The book's refusals, 1 to 9, come before the others.
+ * Refusals, with their places. Bytes and rules are counted from 0. The book's refusals, 1 to 9, come before the others. No refusal
+ * has the number 6: a range has the characters between its two ends, whichever of them stands first.
  *
  *   1    the book is too short for its header or for its counts. Place: the book's length.
  *   2    a byte of its header is out of range. Place: which byte of the book.
  *   3    a rule has more than 8 arguments or a class more than 16 ranges. Place: the byte of the count.
  *   4    the book's length is not the one its counts call for. Place: the smaller of the two.
  *   5    a result or argument names nothing. Place: its byte.
- *   6    a range has its low end above its high end. Place: the byte of the low end.
  *   7    a declaration has no such kind or names no rule, or a group's first rule is above its last. Place: its byte; for the group that of the first rule.
  *        For the conflict question also: there is no such rule or no such argument. Place: 0.
  *   8    two rules are equal. Place: the byte at which the later one starts.

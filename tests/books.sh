@@ -91,7 +91,10 @@ transcript() {
     try "start b" "a = 'x' b" "b = a"
     try "start s" "left: s = 'a'" "start: s = 'b'" "left left start, start left" "not-together left left" "higher left start" "right start start"
     try "start s" "s = 'a' 'b'" "class late 'b'"
+
+    echo '# ranges written downwards'
     try "start s" "s = 'b' c" "class c 'z'-'a'"
+    try "start s" "class digit '9'-'0'" "class both '0'-'9' '9'-'0' 57 - 48 'a'-'a' 255-0" "s = digit both"
 
     echo '# groups'
     try "start s" "a: s = 'a'" "s = s 'b' s" "c: s = 'c'" "left a..c" "right a .. c" "not-together a.. c" "left a ..a"
@@ -172,6 +175,7 @@ transcript() {
     try_many 1 "left $(repeat 255 'a..a, ') a..a"
 
     echo '# groups shown'
+    show 1 1 2 0 0 0 2 2 1 0 64 65 57 48 57 57 255 0
     show 1 2 0 5 0 0 0 1 0 0 0 5 0 1 6 1 1 7 1 0 2 0 1 4 1 0
 
     echo '# books that cannot be shown'

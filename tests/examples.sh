@@ -36,14 +36,18 @@ answer() {
     "$examples/viewer" "$here/books/$1.book" "$2" 2>&1 | head -n 1
 }
 
+# What stands at a byte of a book.
+explain() {
+    echo "$ book --explain $*"
+    "$tool" --explain "$@" 2>&1
+}
+
 # The viewer on a book of these bytes, and what stands at the byte that it names.
 refused() {
     bytes "$@" > b
     run viewer b 8
     place=$("$examples/viewer" b 8 2>&1 | sed -n 's/^refused [1-8] \([0-9]*\):.*/\1/p')
-    [ -z "$place" ] && return
-    echo "$ book --explain b $place"
-    "$tool" --explain b "$place" 2>&1
+    [ -z "$place" ] || explain b "$place"
 }
 
 trees() {
@@ -82,6 +86,16 @@ groups() {
     done
     "$tool" --names going.names "$here/books/going.txt" going.book
     run viewer --names going.names going.book '9:8-6/7^2'
+}
+
+# T with its digits written downwards.
+downwards() {
+    echo '# ranges written downwards'
+    bytes 1 3 3 3 0 0 1 3 3 1 1 1 0 64 0 0 65 0 0 0 66 0 57 48 42 42 47 47 2 1 1 2 2 2 2 1 2 > down.book
+    run viewer --flat down.book
+    run viewer --names T.names down.book '8/4*2'
+    explain down.book 22
+    explain down.book 23
 }
 
 # One, none and several; empty parts in the middle; bytes from 32 to 126 and others; 54 bytes of a text and more; what has too many numbers.
@@ -141,7 +155,6 @@ refusals() {
     refused 1 3 3 3 0 0 1 3 3 1 1 1 0 64 9 0 65 0 0 0 66 0 48 57 42 42 47 47 2 1 1 2 2 2 2 1 2
     refused 1 3 3 3 0 0 1 3 3 1 1 1 0 64 0 0 65 5 0 0 66 0 48 57 42 42 47 47 2 1 1 2 2 2 2 1 2
     refused 1 3 3 3 0 0 1 3 3 1 1 1 0 64 0 0 67 0 0 0 66 0 48 57 42 42 47 47 2 1 1 2 2 2 2 1 2
-    refused 1 3 3 3 0 0 1 3 3 1 1 1 0 64 0 0 65 0 0 0 66 0 48 57 42 42 48 47 2 1 1 2 2 2 2 1 2
     refused 1 3 3 3 0 0 1 3 3 1 1 1 0 64 0 0 65 0 0 0 66 0 48 57 42 42 47 47 8 1 1 2 2 2 2 1 2
     refused 1 3 3 3 0 0 1 3 3 1 1 1 0 64 0 0 65 0 0 0 66 0 48 57 42 42 47 47 2 1 1 2 3 2 2 1 2
     refused 1 3 3 3 0 0 1 3 3 1 1 1 0 64 0 0 65 0 0 0 66 0 48 57 42 42 47 47 2 1 1 2 2 2 2 1 255
@@ -215,6 +228,7 @@ everything() {
     "$tool" --names T.names "$here/books/T.txt" T.book
     trees
     groups
+    downwards
     pages
     lengths
     refusals

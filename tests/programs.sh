@@ -108,6 +108,8 @@ flat_books() {
     # touching and overlapping ranges, no range, two ranges apart, every byte, a sort without a rule
     given 2 1 4 0 0 0 5 3 0 2 1 0 64 65 66 67 1 51 60 48 50 51 52 67 67 65 65 0 255
     flat 'classes' '[\48-\60] [] [\65\67] [\0-\255] [] -> [\258]'
+    given 2 1 4 0 0 0 5 3 0 2 1 0 64 65 66 67 1 60 51 50 48 52 51 67 67 65 65 255 0
+    flat 'classes, their ranges written downwards' '[\48-\60] [] [\65\67] [\0-\255] [] -> [\258]'
     # one argument: only the first line of the clashes bars, and it bars all
     given 1 2 1 4 0 0 1 1 1 0 64 0 0 56 56 2 1 1 3 1 1 4 1 1 4 0 1
     flat 'a rule with one argument, declared in every way but higher' '[\56] -> [\258]' '[\258-\259] -> [\259]'
@@ -133,8 +135,8 @@ flat_refusals() {
     flat 'a book of 70,037 bytes' 'refused 4 37'
     given 1 1 0 0 0 0 1 0 64
     flat 'a class that is not there' 'refused 5 8'
-    given 1 1 1 0 0 0 1 2 0 64 48 57 42 41
-    flat 'low above high' 'refused 6 12'
+    given 1 1 1 1 0 0 1 2 0 64 48 57 42 41 0 0 0
+    flat 'a range written downwards, and no kind' 'refused 7 14'
     given $(book_t 2 1 3)
     flat 'a rule that is not there' 'refused 7 30'
     given $(book_t 8 1 2)

@@ -303,6 +303,33 @@ static void empty_areas(void) {
     expect(meadowsink_text_under(empty_rule, sizeof empty_rule, NULL, 0, its_listing, 2, 0) == 0, "no part of no text");
 }
 
+/* T with its digits written downwards: each call gives what it gives with T, and writes the same bytes. */
+static void downward_ranges(void) {
+    static uint8_t other[70000];
+    uint8_t down[sizeof book_t], bytes[20];
+    memcpy(down, book_t, sizeof down);
+    down[22] = 57;
+    down[23] = 48;
+    list(bytes);
+    expect(meadowsink_check(down, sizeof down) == 0, "9-0 is accepted");
+    expect(meadowsink_conflict(down, sizeof down, 1, 2, 2) == 1, "9-0: a conflict");
+    memset(page, 0x5a, sizeof page);
+    memset(other, 0x5a, sizeof other);
+    expect(meadowsink_flat(down, sizeof down, page, sizeof page) == meadowsink_flat(book_t, sizeof book_t, other, sizeof page), "9-0: the flat book's length");
+    expect(memcmp(page, other, sizeof page) == 0, "9-0: the flat book");
+    expect(call("8/4*2", sizeof chart, sizeof listing) == 4 * 10 + 1, "0-9: one");
+    memcpy(other, chart, sizeof chart);
+    fill();
+    expect(meadowsink_read(down, sizeof down, (const uint8_t *)"8/4*2", 5, chart, sizeof chart, listing, sizeof listing) == 4 * 10 + 1, "9-0: one");
+    expect(memcmp(chart, other, sizeof chart) == 0, "9-0: the chart");
+    expect(memcmp(listing, bytes, sizeof bytes) == 0 && untouched(listing, sizeof bytes, sizeof listing, 0x5a), "9-0: the listing");
+    expect(meadowsink_check_listing(down, sizeof down, (const uint8_t *)"8/4*2", 5, bytes, sizeof bytes) == 0, "9-0: its listing is right");
+    expect(meadowsink_page(down, sizeof down, (const uint8_t *)"8/4*2", 5, bytes, sizeof bytes, page, sizeof page) == 4 * 730 + 1, "9-0: its page");
+    expect(meadowsink_text_under(down, sizeof down, (const uint8_t *)"8/4*2", 5, bytes, sizeof bytes, 1) == 256 * 0 + 3, "9-0: the text under a number");
+    down[28] = 9;
+    expect(meadowsink_check(down, sizeof down) == 4 * 7 + 3 && meadowsink_check_place(down, sizeof down) == 28, "9-0 and kind 9: 7, where 6 was");
+}
+
 /* Areas that are only read may overlap. */
 static void shared_areas(void) {
     memset(listing, 0x5a, sizeof listing);
@@ -324,6 +351,7 @@ int main(void) {
     text_under();
     refuse_page();
     empty_areas();
+    downward_ranges();
     shared_areas();
     if (failures == 0) printf("viewer call: all as it should be\n");
     return failures != 0;

@@ -1,8 +1,9 @@
-//! Reading a book's bytes by document 01 and request [2] of 02, with the number and place of the first refusal in 01's
-//! order.
+//! Reading a book's bytes by document 01 and requests [2] and [3] of 02, with the number and place of the first refusal in
+//! 01's order. No refusal has the number 6 any more.
 
 use crate::ranks::Ranks;
 use std::collections::HashSet;
+use std::ops::Range;
 
 /// Rule r has the number 258 + r.
 pub const FIRST_RULE: u16 = 258;
@@ -135,16 +136,30 @@ fn rule(bytes: &[u8], at: usize, count: usize, head: &Header) -> Result<Rule, Re
     Ok(Rule { result, arguments })
 }
 
-fn class(bytes: &[u8], at: usize, count: usize) -> Result<[bool; 256], Refusal> {
+/// The characters of some ranges, two bytes to a range: its ends, in either order.
+fn class(ranges: &[u8]) -> [bool; 256] {
     let mut set = [false; 256];
-    for place in (at..at + 2 * count).step_by(2) {
-        let (low, high) = (bytes[place] as usize, bytes[place + 1] as usize);
-        if low > high {
-            return refuse(6, place);
-        }
-        set[low..=high].fill(true);
+    for ends in ranges.chunks(2) {
+        let (low, high) = (ends[0].min(ends[1]), ends[0].max(ends[1]));
+        set[low as usize..=high as usize].fill(true);
     }
-    Ok(set)
+    set
+}
+
+/// Where the ranges of each class stand, if the counts can be followed (none of refusals 1 to 4); else of no class.
+pub fn class_places(bytes: &[u8]) -> Vec<Range<usize>> {
+    let counts = header(bytes).and_then(|head| contents(bytes, &head));
+    let Ok((argument_counts, range_counts)) = counts else {
+        return vec![];
+    };
+    let rule_bytes: usize = argument_counts.iter().map(|&c| 1 + c as usize).sum();
+    let mut at = 6 + argument_counts.len() + range_counts.len() + rule_bytes;
+    let mut places = vec![];
+    for &count in range_counts {
+        places.push(at..at + 2 * count as usize);
+        at += 2 * count as usize;
+    }
+    places
 }
 
 /// Kind, first and second rule as they come; the two rules of a group are compared when both are rules.
@@ -187,7 +202,7 @@ pub fn read_book(bytes: &[u8]) -> Result<Book, Refusal> {
         at += 1 + count as usize;
     }
     for &count in range_counts {
-        classes.push(class(bytes, at, count as usize)?);
+        classes.push(class(&bytes[at..at + 2 * count as usize]));
         at += 2 * count as usize;
     }
     for _ in 0..head.declarations {

@@ -1,7 +1,7 @@
 //! One random case from one seed: a book (often good, sometimes damaged), a text, and sizes for the lent buffers.
 
 use crate::book::{read_book, Book};
-use crate::plans::some_plan;
+use crate::plans::{some_plan, Plan};
 use crate::prng::Dice;
 use crate::reading::Study;
 use crate::texts::{some_text, Grown};
@@ -91,6 +91,16 @@ fn damage(dice: &mut Dice, book: &mut Vec<u8>) {
     }
 }
 
+/// Now and then a rule twice, or one above itself: refusals 8 and 9 for plans of every style.
+fn perhaps_refused(dice: &mut Dice, plan: &mut Plan) {
+    let rule = dice.below(plan.rules.len());
+    match dice.below(150) {
+        0 if plan.rules.len() < 64 => plan.rules.push(plan.rules[rule].clone()),
+        1 if plan.declarations.len() < 255 => plan.declarations.push([1, rule as u8, rule as u8]),
+        _ => {}
+    }
+}
+
 /// Mostly short; now and then long, if the book is small enough for that to end soon.
 fn longest(dice: &mut Dice, book: &Book) -> usize {
     let rows: usize = book.rules.iter().map(|r| r.arguments.len() + 1).sum();
@@ -122,7 +132,9 @@ fn text_for(dice: &mut Dice, book: &Book) -> Grown {
 }
 
 pub fn make(dice: &mut Dice) -> Case {
-    let mut book = some_plan(dice).bytes();
+    let mut plan = some_plan(dice);
+    perhaps_refused(dice, &mut plan);
+    let mut book = plan.bytes();
     // Two or three defects at once show whether the checks go in 01's order.
     let defects = if dice.chance(14) { dice.pick(&[1, 1, 1, 2, 2, 3]) } else { 0 };
     for _ in 0..defects {

@@ -4,13 +4,12 @@
 use crate::book::Refusal;
 use crate::cases::Case;
 use crate::compare::{read_with, Mismatch};
-use crate::groups::same_answers;
-use crate::others;
 use crate::plans::{tower, Plan};
 use crate::prng::Dice;
 use crate::reading::{Answer, Study};
 use crate::tally::Tally;
 use crate::tries::listings;
+use crate::{groups, others, turned};
 
 /// Book T of document 01 with these declarations.
 pub fn book_t(declarations: &[[u8; 3]]) -> Vec<u8> {
@@ -21,6 +20,10 @@ pub fn book_t(declarations: &[[u8; 3]]) -> Vec<u8> {
 }
 
 pub const T: [[u8; 3]; 3] = [[2, 1, 1], [2, 2, 2], [2, 1, 2]];
+
+/// The flat text of T in 01.
+pub const FLAT_T: &str =
+    "[\\48-\\57] -> [\\258]\n[\\258-\\260] [\\42] [\\258] -> [\\259]\n[\\258-\\260] [\\47] [\\258] -> [\\260]\n";
 
 /// A book, a text, and the answer by hand: a verdict, the only listing, or a refusal.
 pub enum Hand {
@@ -131,7 +134,8 @@ fn whole_case(book: &[u8], text: &[u8], dice: &mut Dice, tally: &mut Tally) -> R
     let case = Case { book: book.to_vec(), text: text.to_vec(), listing: vec![258] };
     let study = Study::new(book, text);
     crate::all_calls(&case, &study, dice, tally)?;
-    same_answers(book, &study, "fixed, spelled", dice, tally)
+    groups::same_answers(&case, &study, "fixed, spelled", dice, tally)?;
+    turned::same_answers(&case, &study, "fixed, turned", dice, tally)
 }
 
 /// (k), and listing buffers of every small size.
@@ -244,17 +248,16 @@ fn bad_book(book: &[u8], dice: &mut Dice, tally: &mut Tally) -> Result<(), Misma
 
 /// The flat texts that the papers give: T's, and one of 75,904 bytes.
 fn flat_texts(dice: &mut Dice, tally: &mut Tally) -> Result<(), Mismatch> {
-    let of_t = "[\\48-\\57] -> [\\258]\n[\\258-\\260] [\\42] [\\258] -> [\\259]\n[\\258-\\260] [\\47] [\\258] -> [\\260]\n";
     let ranges: Vec<(u8, u8)> = (0..16).map(|k| (100 + 3 * k, 101 + 3 * k)).collect();
     let rules = (0..64).map(|r| (0, vec![64 + r, 64, 64, 64, 64, 64, 64, 64])).collect();
     let wide = Plan { sorts: 1, start: 0, rules, classes: vec![ranges; 64], declarations: vec![] }.bytes();
     let text_of = |book: &[u8]| crate::book::read_book(book).map(|b| crate::flat::text(&b)).unwrap_or_default();
-    if text_of(&book_t(&T)) != of_t.as_bytes() || text_of(&wide).len() != 75_904 {
+    if text_of(&book_t(&T)) != FLAT_T.as_bytes() || text_of(&wide).len() != 75_904 {
         let found = String::from_utf8_lossy(&text_of(&book_t(&T))).into();
-        return Err(Mismatch { call: "worked flat text".into(), expected: of_t.into(), found, lent: vec![] });
+        return Err(Mismatch { call: "worked flat text".into(), expected: FLAT_T.into(), found, lent: vec![] });
     }
     tally.add("fixed", "worked by hand");
-    for (book, length) in [(book_t(&T), of_t.len()), (wide, 75_904)] {
+    for (book, length) in [(book_t(&T), FLAT_T.len()), (wide, 75_904)] {
         for room in [0, 1, length - 1, length, length + 1, 80_000] {
             others::flat_with(&book, Ok(&text_of(&book)), &dice.garbage(room), dice, tally)?;
         }
@@ -273,6 +276,8 @@ pub fn run(tally: &mut Tally) -> Result<(), Mismatch> {
     crate::fixed_pages::run(&mut dice, tally)?;
     crate::fixed_groups::run(&mut dice, tally)?;
     crate::fixed_clashes::run(&mut dice, tally)?;
+    crate::fixed_ranges::run(&mut dice, tally)?;
+    crate::fixed_turned::run(&mut dice, tally)?;
     damaged(&book_t(&[[2, 1, 1], [1, 1, 2]]), &mut dice, tally)?;
     damaged(&book_t(&[[5, 1, 2], [7, 2, 2]]), &mut dice, tally)
 }

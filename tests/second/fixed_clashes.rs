@@ -2,7 +2,7 @@
 
 use crate::book::{read_book, Refusal};
 use crate::compare::Mismatch;
-use crate::fixed::{book_t, T};
+use crate::fixed::{book_t, FLAT_T, T};
 use crate::fixed_groups::{four_signs, many_signs};
 use crate::prng::Dice;
 use crate::tally::Tally;
@@ -80,11 +80,11 @@ fn all_questions(case: &Clashes, dice: &mut Dice, tally: &mut Tally) -> Result<(
     Ok(())
 }
 
-/// A book with groups, the same spelled out by hand, if it can be, and the flat text of both.
-struct Flat {
-    book: Vec<u8>,
-    spelled: Option<Vec<u8>>,
-    text: String,
+/// A book, the same written another way by hand (with groups, spelled out, if it can be), and the flat text of both.
+pub struct Flat {
+    pub book: Vec<u8>,
+    pub other: Option<Vec<u8>>,
+    pub text: String,
 }
 
 /// The single declarations of a group, the later rule first.
@@ -100,8 +100,7 @@ fn lines(count: u16, before: &str, behind: &str) -> String {
 
 /// Books with few rules.
 fn small_flats() -> Vec<Flat> {
-    let flat = |book, spelled, text: &str| Flat { book, spelled: Some(spelled), text: text.into() };
-    let of_t = "[\\48-\\57] -> [\\258]\n[\\258-\\260] [\\42] [\\258] -> [\\259]\n[\\258-\\260] [\\47] [\\258] -> [\\260]\n";
+    let flat = |book, spelled, text: &str| Flat { book, other: Some(spelled), text: text.into() };
     let with_digit = "[\\48-\\57] -> [\\258]\n[\\258-\\260] [\\42] [] -> [\\259]\n[\\258-\\260] [\\47] [] -> [\\260]\n";
     let two_of_four = "[\\48-\\57] -> [\\258]\n\
         [\\258-\\262] [\\101] [\\258-\\262] -> [\\259]\n\
@@ -114,7 +113,7 @@ fn small_flats() -> Vec<Flat> {
         [\\258-\\262] [\\103] [\\258-\\262] -> [\\261]\n\
         [\\258\\260-\\261] [\\104] [\\258\\260-\\261] -> [\\262]\n";
     vec![
-        flat(book_t(&[[5, 1, 2]]), book_t(&T), of_t),
+        flat(book_t(&[[5, 1, 2]]), book_t(&T), FLAT_T),
         flat(book_t(&[[5, 0, 2]]), book_t(&each_pair(2, 0, 2)), with_digit),
         flat(four_signs(&[[5, 2, 3]]), four_signs(&[[2, 2, 2], [2, 2, 3], [2, 3, 3]]), two_of_four),
         flat(four_signs(&[[6, 1, 4]]), four_signs(&each_pair(3, 1, 4)), &lines(4, "\\258", "\\258-\\262")),
@@ -129,7 +128,7 @@ fn large_flats() -> Vec<Flat> {
         assert!(pairs.len() == count, "{rules} rules have {count} pairs");
         (count <= 255).then(|| many_signs(rules, &pairs))
     };
-    let flat = |book, spelled, text: String| Flat { book, spelled, text };
+    let flat = |book, other, text: String| Flat { book, other, text };
     // Left of rule 1 alone, 254 times, and at last right of all signs.
     let mut last_of_255 = [[5, 1, 1]; 255];
     last_of_255[254] = [6, 1, 63];
@@ -145,13 +144,13 @@ fn large_flats() -> Vec<Flat> {
     ]
 }
 
-/// The flat text by hand, of the book with groups and of the one spelled out; in buffers that are just long enough or not.
-fn same_flat(case: &Flat, dice: &mut Dice, tally: &mut Tally) -> Result<(), Mismatch> {
+/// The flat text by hand, of the book written either way; in buffers that are just long enough or not.
+pub fn same_flat(case: &Flat, dice: &mut Dice, tally: &mut Tally) -> Result<(), Mismatch> {
     let length = case.text.len();
-    for bytes in [Some(&case.book), case.spelled.as_ref()].into_iter().flatten() {
+    for bytes in [Some(&case.book), case.other.as_ref()].into_iter().flatten() {
         let own = read_book(bytes).map(|b| String::from_utf8_lossy(&flat::text(&b)).into_owned());
         if own.as_ref() != Ok(&case.text) {
-            let call = "worked flat text of a book with groups (this program against the hand)".into();
+            let call = "worked flat text (this program against the hand)".into();
             let lent = vec![("book", bytes.clone())];
             return Err(Mismatch { call, expected: case.text.clone(), found: format!("{own:?}"), lent });
         }

@@ -193,8 +193,8 @@ fn other_refusals() -> Vec<Worked> {
         worked("a circle beside groups", circle, b"8", Hand::Refused(9, 1)),
         // A group of three rules is one declaration, not six.
         worked("six announced", six_announced, b"8", Hand::Refused(4, 31)),
-        // The range 9 to 8 is at byte 12, the group's first rule at byte 15.
-        worked("6 and falling", vec![1, 2, 1, 1, 0, 0, 0, 1, 1, 0, 0, 64, 9, 8, 5, 1, 0], b"", Hand::Refused(6, 12)),
+        // The range 9 to 8 is at byte 12 and no fault any more; the group's first rule is at byte 15.
+        worked("9-8 and falling", vec![1, 2, 1, 1, 0, 0, 0, 1, 1, 0, 0, 64, 9, 8, 5, 1, 0], b"", Hand::Refused(7, 15)),
         // Rules 0 and 1, at bytes 8 and 9, are equal.
         worked("8 and falling", vec![1, 2, 0, 1, 0, 0, 0, 0, 0, 0, 5, 1, 0], b"", Hand::Refused(7, 11)),
         worked("8 and a good group", vec![1, 2, 0, 1, 0, 0, 0, 0, 0, 0, 5, 0, 1], b"", Hand::Refused(8, 9)),

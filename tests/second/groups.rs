@@ -1,17 +1,18 @@
 //! What request [2] of 02 says of groups: a book with groups has the same clashes as the book with each pair spelled out.
 //! Where that list has at most 255 declarations its book is given to the library too, and must be answered alike.
 
+use crate::alike::{self, Pair};
 use crate::book::{read_book, Book, Declaration, Refusal};
-use crate::cases::{chart_length, listing_length};
-use crate::compare::{read_with, Mismatch};
+use crate::cases::Case;
+use crate::compare::Mismatch;
 use crate::flat;
-use crate::others::{self, Outcome};
+use crate::others::Outcome;
 use crate::prng::Dice;
 use crate::ranks::spelled_out;
 use crate::reading::Study;
 use crate::tally::Tally;
 
-/// Of a book with more clash questions than this, only about so many are asked, to save time.
+/// Of the clash questions about two books, to save time.
 const MOST_QUESTIONS: usize = 1000;
 
 /// The same book with another list of declarations, if it is not too long for a book.
@@ -34,48 +35,15 @@ fn spelled_book(bytes: &[u8], book: &Book, dice: &mut Dice) -> Option<Vec<u8>> {
     with_declarations(bytes, &list)
 }
 
-/// All clash questions of a book that name something, or about `MOST_QUESTIONS` of them.
-fn questions(book: &Book, dice: &mut Dice) -> Vec<(u64, u64, u64)> {
-    let rules = book.rules.len();
-    let arguments = (0..rules).flat_map(|p| (0..book.count(p)).map(move |i| (p as u64, i as u64)));
-    let all: Vec<_> = arguments.flat_map(|(p, i)| (0..rules as u64).map(move |q| (p, i, q))).collect();
-    let step = 1 + all.len() / MOST_QUESTIONS;
-    all.into_iter().skip(dice.below(step)).step_by(step).collect()
-}
-
-/// Both books, with the same questions, buffers and text, against what this program says of the one with groups. They are
-/// counted under `name`.
-fn alike(books: [&[u8]; 2], study: &Study, book: &Book, name: &'static str, dice: &mut Dice, tally: &mut Tally) -> Outcome {
-    let asks = questions(book, dice);
-    let text = flat::text(book);
-    let out = dice.garbage(text.len() + 9);
-    let (chart_size, listing_size) = (chart_length(dice, study), listing_length(dice, study));
-    let (chart, listing) = (dice.garbage(chart_size), dice.garbage(listing_size));
-    for bytes in books {
-        for &ask in &asks {
-            others::conflict(bytes, &study.book, ask, dice, tally)?;
-        }
-        others::flat_with(bytes, Ok(&text), &out, dice, tally)?;
-        read_with(bytes, study, &chart, &listing, dice, tally)?;
-    }
-    for (p, i, q) in asks {
-        let clash = book.clashes(p as usize, i as usize, q as usize);
-        tally.add(name, if clash { "clash yes" } else { "clash no" });
-    }
-    tally.add(name, "flat");
-    tally.add(name, format!("read {}", study.outcome(&chart, &listing).answer.name()));
-    Ok(())
-}
-
 /// If the book has groups, and can be spelled out: the library's answers for both.
-pub fn same_answers(bytes: &[u8], study: &Study, name: &'static str, dice: &mut Dice, tally: &mut Tally) -> Outcome {
+pub fn same_answers(case: &Case, study: &Study, name: &'static str, dice: &mut Dice, tally: &mut Tally) -> Outcome {
     let Ok(book) = &study.book else {
         return Ok(());
     };
     if !book.declarations.iter().any(Declaration::is_group) {
         return Ok(());
     }
-    let Some(spelled) = spelled_book(bytes, book, dice) else {
+    let Some(spelled) = spelled_book(&case.book, book, dice) else {
         tally.add(name, "past 255");
         return Ok(());
     };
@@ -85,7 +53,8 @@ pub fn same_answers(bytes: &[u8], study: &Study, name: &'static str, dice: &mut 
         let call = "spelling out (this program against itself)".into();
         return Err(Mismatch { call, expected, found: format!("{found:?}"), lent: vec![] });
     }
-    alike([bytes, &spelled], study, book, name, dice, tally).map_err(|mut wrong| {
+    let pair = Pair { case, other: &spelled, most_questions: MOST_QUESTIONS, name };
+    alike::both(&pair, study, dice, tally).map_err(|mut wrong| {
         wrong.call = format!("a book with groups and the one spelled out: {}", wrong.call);
         wrong.lent.push(("spelled out", spelled.clone()));
         wrong

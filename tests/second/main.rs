@@ -5,7 +5,8 @@
 //! around every lent area are untouched; and so for the book check, clash questions, the flat
 //! book with its buffer, and right, cut, changed and random listings: their check, their page for the binder with its
 //! buffer, and the part of the text under a number. A book with groups is also compared with the book that has each pair
-//! spelled out, if that has no more than 255 declarations.
+//! spelled out, if that has no more than 255 declarations. A book with ranges of two characters or more, accepted or refused,
+//! is also compared with the same book with some of its ranges turned round, or all of them.
 //!
 //! The proved parser fills a chart by columns with counts that stop at 2. This program has neither a column nor a chart
 //! that is filled in order. It has two other methods, checked against each other on all small cases:
@@ -25,6 +26,7 @@
 //! Build: rustc -O --edition 2021 main.rs -o second -L DIRECTORY -l static=meadowsink
 #![allow(unexpected_cfgs)]
 
+mod alike;
 mod book;
 mod cases;
 mod compare;
@@ -34,6 +36,8 @@ mod fixed;
 mod fixed_clashes;
 mod fixed_groups;
 mod fixed_pages;
+mod fixed_ranges;
+mod fixed_turned;
 mod flat;
 mod group_plans;
 mod groups;
@@ -45,12 +49,15 @@ mod page_calls;
 mod pages;
 mod plans;
 mod prng;
+mod range_plans;
+mod ranges;
 mod ranks;
 mod reading;
 mod tally;
 mod texts;
 mod trees;
 mod tries;
+mod turned;
 mod unfold;
 
 use cases::Case;
@@ -71,13 +78,15 @@ pub fn all_calls(case: &Case, study: &Study, dice: &mut Dice, tally: &mut Tally)
     tries::listings(case, study, dice, tally)
 }
 
-/// One random case, and its book with the groups spelled out. Groups are counted here alone, so that random books must have
-/// them whatever the fixed ones have.
+/// One random case, its book with the groups spelled out, and with ranges turned round. Groups and downward ranges are
+/// counted here alone, so that random books must have them whatever the fixed ones have.
 fn random_case(case: &Case, dice: &mut Dice, tally: &mut Tally) -> Result<(), Mismatch> {
     let study = Study::new(&case.book, &case.text);
     groups::note(&case.book, &study.book, tally);
+    ranges::note(case, &study, tally);
     all_calls(case, &study, dice, tally)?;
-    groups::same_answers(&case.book, &study, "spelled out", dice, tally)
+    groups::same_answers(case, &study, "spelled out", dice, tally)?;
+    turned::same_answers(case, &study, "turned", dice, tally)
 }
 
 fn decimals(bytes: &[u8]) -> String {

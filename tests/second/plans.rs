@@ -1,8 +1,9 @@
-//! Random books, biased to trouble: loops, rules that vanish, unit chains, all kinds of ranks on one pair, groups, and each
-//! limit from both sides.
+//! Random books, biased to trouble: loops, rules that vanish, unit chains, all kinds of ranks on one pair, groups, ranges
+//! written downwards, and each limit from both sides.
 
 use crate::group_plans::{only_groups, perhaps_groups};
 use crate::prng::Dice;
+use crate::range_plans::perhaps_downward;
 
 /// A book before it is bytes. Nothing here is checked: plans may break every limit.
 pub struct Plan {
@@ -265,8 +266,8 @@ fn limits(dice: &mut Dice) -> Plan {
     plan
 }
 
-/// A plan of any style.
-pub fn some_plan(dice: &mut Dice) -> Plan {
+/// A plan of any style, with its ranges upwards.
+fn upward_plan(dice: &mut Dice) -> Plan {
     match dice.below(100) {
         0..=25 => tangle(dice, Taste { sorts: 3, rules: 6, classes: 3, counts: &[0, 1, 1, 2, 2, 3], sort_percent: 55 }),
         26..=50 => operators(dice),
@@ -282,4 +283,10 @@ pub fn some_plan(dice: &mut Dice) -> Plan {
         }
         _ => limits(dice),
     }
+}
+
+pub fn some_plan(dice: &mut Dice) -> Plan {
+    let mut plan = upward_plan(dice);
+    plan.classes = perhaps_downward(dice, plan.classes);
+    plan
 }

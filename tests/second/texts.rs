@@ -119,7 +119,7 @@ impl<'a> Choice<'a> {
     }
 
     fn add_character(&self, dice: &mut Dice, class: usize, out: &mut Grown) -> bool {
-        let members: Vec<u8> = (0..=255).filter(|&c| self.book.classes[class][c as usize]).collect();
+        let members = members(&self.book.classes[class]);
         if members.is_empty() {
             return false;
         }
@@ -152,11 +152,29 @@ pub fn spelled(dice: &mut Dice, book: &Book, wish: Wish) -> Option<Grown> {
     best
 }
 
-/// Letters that the book's classes know, and one that it may not know.
-fn letters(book: &Book) -> Vec<u8> {
+fn members(class: &[bool; 256]) -> Vec<u8> {
+    (0..=255).filter(|&c| class[c as usize]).collect()
+}
+
+/// The characters next to those of a class.
+fn neighbours(class: &[bool; 256]) -> Vec<u8> {
+    let has = |c: Option<u8>| c.is_some_and(|c| class[c as usize]);
+    (0..=255u8).filter(|&c| !has(Some(c)) && (has(c.checked_sub(1)) || has(c.checked_add(1)))).collect()
+}
+
+/// Letters that the book's classes know: of each class the lowest three, the highest and any one; its neighbours, now and
+/// then; and one letter that the book may not know.
+fn letters(dice: &mut Dice, book: &Book) -> Vec<u8> {
     let mut out = vec![b'z'];
     for class in &book.classes {
-        out.extend((0..=255u8).filter(|&c| class[c as usize]).take(3));
+        let members = members(class);
+        out.extend(members.iter().take(3));
+        if members.len() > 3 {
+            out.extend([dice.pick(&members), members[members.len() - 1]]);
+        }
+        if dice.chance(20) {
+            out.extend(neighbours(class));
+        }
     }
     out
 }
@@ -178,7 +196,7 @@ fn near_miss(dice: &mut Dice, text: &mut Vec<u8>, letters: &[u8]) {
 
 /// A text of at most about `longest` bytes.
 pub fn some_text(dice: &mut Dice, book: &Book, longest: usize) -> Grown {
-    let letters = letters(book);
+    let letters = letters(dice, book);
     let style = dice.below(10);
     let random = |dice: &mut Dice| {
         let length = dice.below(longest + 1);

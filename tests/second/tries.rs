@@ -2,15 +2,19 @@
 //! something after it, against a text with more or less in it, random numbers, lengths at the limits, and now and then one
 //! of a long or deep tree. The page for the binder is asked for with all of them but most of the wrong ones.
 
-use crate::book::{Book, FIRST_RULE};
+use crate::book::{Book, Refusal, FIRST_RULE};
 use crate::cases::Case;
-use crate::compare::{Given, Mismatch};
+use crate::compare::Given;
 use crate::listing::to_bytes;
+use crate::others::{self, Outcome};
+use crate::page_calls;
 use crate::prng::Dice;
 use crate::reading::Study;
 use crate::tally::Tally;
 use crate::texts::{spelled, Shape, Wish};
-use crate::{others, page_calls};
+
+/// A text, and the bytes of a listing for it.
+pub type Try = (Vec<u8>, Vec<u8>);
 
 /// A number that might be taken for the right one.
 fn other_number(dice: &mut Dice, rules: usize, old: u16) -> u16 {
@@ -69,20 +73,21 @@ fn other_text(dice: &mut Dice, text: &[u8]) -> Vec<u8> {
 
 /// A text of its own with a right listing. It is not read, only its listing is checked and printed, so it may be long
 /// without taking long.
-fn another(dice: &mut Dice, book: &Book) -> Option<(Vec<u8>, Vec<u8>)> {
+fn another(dice: &mut Dice, book: &Book) -> Option<Try> {
     let shape = dice.pick(&[Shape::Any, Shape::Wide, Shape::Deep]);
     let wish = Wish { careful: true, longest: dice.pick(&[12, 60, 120, 200]), shape };
     let grown = spelled(dice, book, wish)?;
     Some((grown.text, to_bytes(&grown.listing)))
 }
 
-pub fn listings(case: &Case, study: &Study, dice: &mut Dice, tally: &mut Tally) -> Result<(), Mismatch> {
+/// The listings for a case.
+pub fn some_tries(case: &Case, study: &Study, dice: &mut Dice) -> Vec<Try> {
     let rules = study.book.as_ref().map_or(3, |b| b.rules.len());
     let base = match &study.listing {
         Some(only) => only.numbers.clone(),
         None => case.listing.clone(),
     };
-    let mut tries: Vec<(Vec<u8>, Vec<u8>)> = vec![];
+    let mut tries: Vec<Try> = vec![];
     if let Ok(book) = &study.book {
         for numbers in variants(dice, &base, rules) {
             tries.push((case.text.clone(), to_bytes(&numbers)));
@@ -104,10 +109,20 @@ pub fn listings(case: &Case, study: &Study, dice: &mut Dice, tally: &mut Tally) 
         let extra = dice.below(2);
         tries.push((vec![b'8'; length], vec![2; 2 + extra]));
     }
-    for (text, numbers) in tries {
-        let given = Given { book: &case.book, text: &text, listing: &numbers };
-        others::listing(given, &study.book, dice, tally)?;
-        page_calls::all(given, &study.book, dice, tally)?;
+    tries
+}
+
+/// The check of these listings with the book in `bytes`, and the page of most of them.
+pub fn ask(bytes: &[u8], tries: &[Try], book: &Result<Book, Refusal>, dice: &mut Dice, tally: &mut Tally) -> Outcome {
+    for (text, listing) in tries {
+        let given = Given { book: bytes, text, listing };
+        others::listing(given, book, dice, tally)?;
+        page_calls::all(given, book, dice, tally)?;
     }
     Ok(())
+}
+
+pub fn listings(case: &Case, study: &Study, dice: &mut Dice, tally: &mut Tally) -> Outcome {
+    let tries = some_tries(case, study, dice);
+    ask(&case.book, &tries, &study.book, dice, tally)
 }

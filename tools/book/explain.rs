@@ -21,8 +21,8 @@ enum Part {
     RangeCount(usize),
     RuleResult(usize),
     Argument(usize, usize),
-    Low(usize, usize),
-    High(usize, usize),
+    FirstEnd(usize, usize),
+    SecondEnd(usize, usize),
     Kind(usize),
     First(usize),
     Second(usize),
@@ -30,7 +30,7 @@ enum Part {
     GroupLast(usize),
 }
 
-use Part::{Argument, ArgumentCount, First, GroupFirst, GroupLast, Header, High, Kind, Low, RangeCount, RuleResult, Second};
+use Part::{Argument, ArgumentCount, First, FirstEnd, GroupFirst, GroupLast, Header, Kind, RangeCount, RuleResult, Second, SecondEnd};
 
 // The parts of a book in order, as its counts call for them; as far as there are counts.
 fn parts(bytes: &[u8]) -> Vec<Part> {
@@ -49,7 +49,7 @@ fn parts(bytes: &[u8]) -> Vec<Part> {
         parts.extend((0..*count as usize).map(|index| Argument(rule, index)));
     }
     for (class, count) in of_classes.iter().enumerate() {
-        parts.extend((0..*count as usize).flat_map(|index| [Low(class, index), High(class, index)]));
+        parts.extend((0..*count as usize).flat_map(|index| [FirstEnd(class, index), SecondEnd(class, index)]));
     }
     for d in 0..declarations as usize {
         parts.extend(declaration(d, bytes.get(parts.len())));
@@ -81,8 +81,8 @@ impl Part {
             RangeCount(class) => format!("the range count of class {class}, at most 16"),
             RuleResult(rule) => format!("the result of rule {rule}"),
             Argument(rule, index) => format!("argument {index} of rule {rule}"),
-            Low(class, index) => format!("the low end of range {index} of class {class}"),
-            High(class, index) => format!("the high end of range {index} of class {class}"),
+            FirstEnd(class, index) => format!("the first end of range {index} of class {class}"),
+            SecondEnd(class, index) => format!("the second end of range {index} of class {class}"),
             Kind(d) => format!("the kind of declaration {d}"),
             First(d) => format!("the first rule of declaration {d}"),
             Second(d) => format!("the second rule of declaration {d}"),
@@ -105,8 +105,8 @@ impl Part {
             Header(4) | RuleResult(_) => Some(named("sort", value, bytes[0])),
             Argument(..) if value >= FIRST_CLASS => Some(named("class", value - FIRST_CLASS, bytes[2])),
             Argument(..) => Some(named("sort", value, bytes[0])),
-            Low(..) if falls => Some(format!("{}, above its high end", end())),
-            Low(..) | High(..) => Some(end()),
+            FirstEnd(..) if falls => Some(format!("{}, written downwards", end())),
+            FirstEnd(..) | SecondEnd(..) => Some(end()),
             Kind(_) => Some(kind_words(value as u8)),
             GroupFirst(_) if falls && value < bytes[1] as usize => Some(format!("{}, above the last", rule())),
             First(_) | Second(_) | GroupFirst(_) | GroupLast(_) => Some(rule()),

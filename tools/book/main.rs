@@ -10,7 +10,7 @@
 //
 //     start SORT                     the sort of a whole line
 //     sorts SORT ...                 the sorts, in the order of their numbers
-//     class NAME CHARACTERS ...      a class: characters, or ranges FIRST-LAST; none for the empty class
+//     class NAME CHARACTERS ...      a class: characters, or ranges FIRST-LAST, upwards or downwards; none for the empty class
 //     NAME: SORT = ARGUMENT ...      a rule; nothing after = for the empty rule; a rule that no declaration names may do without `NAME:`
 //     higher A B, C D, ...           declarations: rule A is higher than rule B, and C than D
 //     left A B, C..D, ...            left holds of rules A and B, and of every two rules of the group C..D
@@ -18,6 +18,8 @@
 //
 // A group C..D is all rules from C to D in the order of their lines, C and D included; those between need no name. What is said of it holds of every two of
 // them and of each with itself. It is one declaration. If D stands before C, the library refuses it.
+//
+// A range '9'-'0' has the same characters as '0'-'9'. It is kept as it is written: the bytes differ, and --show prints what they say.
 //
 // A character is 'c', where \' \" \\ and \n stand for quotes, backslash and line feed, or its code, 0 to 255.
 // An argument is a sort, a class, a character, or a "text", which is a row of characters.

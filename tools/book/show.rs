@@ -4,11 +4,12 @@ use crate::grammar::{Grammar, Range, Reach, DECLARATION, FIRST_CLASS, FIRST_RULE
 use crate::tokens::{character, DOTS};
 use std::fmt::Write as _;
 
-fn show_range((low, high): &Range) -> String {
-    if low == high {
-        return character(*low);
+// Its ends as they stand: a range written downwards is shown so.
+fn show_range((first, last): &Range) -> String {
+    if first == last {
+        return character(*first);
     }
-    format!("{}-{}", character(*low), character(*high))
+    format!("{}-{}", character(*first), character(*last))
 }
 
 // A class of one character is shown as that character, unless an earlier class is the same.
@@ -17,7 +18,7 @@ fn show_argument(grammar: &Grammar, argument: u8) -> String {
         return format!("s{argument}");
     };
     match grammar.classes[class][..] {
-        [(low, high)] if low == high && grammar.class_of(low) == Some(class) => character(low),
+        [(first, last)] if first == last && grammar.class_of(first) == Some(class) => character(first),
         _ => format!("c{class}"),
     }
 }

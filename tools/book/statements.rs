@@ -172,8 +172,8 @@ fn ranges(words: &[Token]) -> Result<Vec<Range>, String> {
     let (mut rest, mut out) = (words, Vec::new());
     while !rest.is_empty() {
         match rest {
-            [Character(low), Mark(DASH), Character(high), behind @ ..] => {
-                out.push((*low, *high));
+            [Character(first), Mark(DASH), Character(last), behind @ ..] => {
+                out.push((*first, *last));
                 rest = behind;
             }
             [Character(only), behind @ ..] => {

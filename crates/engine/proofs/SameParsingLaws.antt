@@ -1,11 +1,10 @@
 -- Parsings that say the same promise the same: the same answers, the same chart, the same listing.
 use Prim.Native.Nat.{ℕ, _+_, _*_, _≤_, _<_}
-use mathlib.Core.Path.{_≡_, sym, _∙_, ap, subst}
+use mathlib.Core.Path.{_≡_, _∙_, ap, subst}
 use mathlib.Core.Bool.{true≢false}
 use mathlib.Core.List.{List}
 use mathlib.Core.Logic.{_↔_}
 use native.Mathlib.Omega.{arith}
-use lib.ListN.{length}
 use Rattle.chart.specs.Counted.{entryOf}
 use Rattle.chart.specs.Layout.{rowOf, spanCount, cellAt, chartBytes, entryAt}
 use Rattle.common.proofs.BelowLaws.{sum-same}

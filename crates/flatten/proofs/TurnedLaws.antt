@@ -5,7 +5,7 @@ use mathlib.Core.List.{List}
 use mathlib.Core.Logic.{_↔_}
 use native.Mathlib.Omega.{arith}
 use lib.ListN.{length}
-use Rattle.ccg.specs.Ccg.{Class, Line}
+use Rattle.ccg.specs.Ccg.{Line}
 use Rattle.ccg.specs.Text.{grammarText}
 use Rattle.flatten.proofs.SameFrontLaws.{front-plain, front-flat, front-reading, front-entry}
 use Rattle.flatten.specs.Answer.{flatAnswer}
@@ -18,7 +18,6 @@ use Rattle.grammar.specs.Turned.{TurnedRound}
 use Rattle.grammar.specs.Verdict.{unlessRefused}
 use Rattle.grammar.specs.declared.Verdict.{Verdict}
 use Rattle.priority.proofs.TurnedLaws.{turned-list, turned-checked}
-use Rattle.priority.specs.Check.{checked}
 use Rattle.priority.specs.Priorities.{declarationsOf}
 use Rattle.priority.specs.declared.Declaration.{Declaration}
 use Rattle.theory.specs.Tree.{Tree, Forest}

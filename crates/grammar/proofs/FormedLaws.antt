@@ -15,7 +15,7 @@ use Rattle.grammar.proofs.LayoutLaws.{production-first, class-first, de
 use Rattle.grammar.proofs.VerdictLaws.{refuse-accepted, accepted-last, and-first, and-second, first-all}
 use Rattle.grammar.specs.Check.{outside, shortHeader, headerLines, headerBytes, badHeader, shortContents, badArgumentCount, badRangeCount, badLength, namesArgument, badArgument, badArguments, badProduction, isGroup, declarationLines, declarationBytes, badDeclaration, sameProduction, repeatedProduction, frameLines, frameCheck, bodiesLines, bodiesCheck}
 use Rattle.grammar.specs.Formed.{Framed, WellFormed}
-use Rattle.grammar.specs.Layout.{byteAt, sorts, productions, classes, declarations, startSort, argumentCount, rangeCount, bodiesAt, productionAt, result, argument, classAt, low, high, declarationAt, kind, first, second, neededLength}
+use Rattle.grammar.specs.Layout.{byteAt, sorts, productions, classes, declarations, startSort, argumentCount, rangeCount, bodiesAt, productionAt, result, argument, classAt, declarationAt, kind, first, second, neededLength}
 use Rattle.grammar.specs.Limits.{sortLimit, productionLimit, classLimit, argumentLimit, rangeLimit, kindLimit, pairKindLimit, headerLength}
 use Rattle.grammar.specs.Verdict.{refuseIf, andThen, inOrder}
 use Rattle.grammar.specs.declared.Verdict.{Verdict}

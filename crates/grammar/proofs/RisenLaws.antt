@@ -19,7 +19,7 @@ use Rattle.grammar.specs.Turned.{TurnedRound, RangesRise, rising, risen}
 
 -- ---- a list of pairs, the smaller of each first
 
-pub rising-length : (l : List ℕ) → length (rising l) ≡ length l
+rising-length : (l : List ℕ) → length (rising l) ≡ length l
 unfolding rising
 rising-length [] = refl
 rising-length (x ∷ []) = refl
@@ -42,7 +42,7 @@ rising-at (x ∷ y ∷ l) (suc n) h =
     (rising-at l n (omega arith)))
 
 -- numbers below a limit stay below it
-pub rising-small : (m : ℕ) (l : List ℕ) → ((i : ℕ) → getD l i 0 < m) → (i : ℕ) → getD (rising l) i 0 < m
+rising-small : (m : ℕ) (l : List ℕ) → ((i : ℕ) → getD l i 0 < m) → (i : ℕ) → getD (rising l) i 0 < m
 unfolding rising
 rising-small m [] h i = h i
 rising-small m (x ∷ []) h i = h i

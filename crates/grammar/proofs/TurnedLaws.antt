@@ -1,26 +1,24 @@
 -- A grammar with ranges turned round (02, [3]): every check of its bytes gives what it gave. And a grammar whose ranges rise is judged as before, when refusal 6 was there.
-use Prim.Native.Nat.{ℕ, _+_, min, _≤_, _<_}
+use Prim.Native.Nat.{ℕ, _+_, _≤_, _<_}
 use mathlib.Core.Path.{_≡_, refl, sym, _∙_, ap, ap₂}
-use mathlib.Core.Bool.{Bool, not}
+use mathlib.Core.Bool.{Bool, true, not}
 use mathlib.Core.List.{List}
+use mathlib.Core.Logic.{_↔_}
 use native.Mathlib.Omega.{arith}
-use lib.Dec.{leb, ltb, eqb}
-use lib.ListN.{length}
+use lib.Dec.{ltb}
 use borrow.Author.Tests.{le-ltb}
 use Rattle.charset.proofs.SpansLaws.{spans-rising}
 use Rattle.charset.specs.Set.{inRange, spans}
-use Rattle.common.proofs.BelowLaws.{any-same}
-use Rattle.common.specs.Below.{anyBelow}
+use Rattle.common.proofs.BelowLaws.{any-same, any-here, any-found, between-in, between-ends}
 use Rattle.grammar.proofs.LayoutLaws.{declaration-after-classes, needed-is-end}
 use Rattle.grammar.proofs.SameFrontLaws.{SameFront, front-classes, front-back, same-sorts, same-productions, same-classes, same-start, same-last, same-count, same-range-count, same-production-at, same-class-at, same-declaration-at, same-result, same-argument, same-names, same-sameness}
 use Rattle.grammar.proofs.VerdictLaws.{first-same, first-pass}
-use Rattle.grammar.specs.Check.{shortHeader, badHeader, shortContents, badArgumentCount, badRangeCount, badArgumentCounts, badRangeCounts, badLength, namesArgument, badArgument, badArguments, badProduction, badProductions, declarationBytes, badDeclaration, badDeclarations, sameProduction, repeatedProduction, repeatedProductions, frameCheck, bodiesCheck}
+use Rattle.grammar.specs.Check.{shortHeader, badHeader, shortContents, badArgumentCount, badRangeCount, badArgumentCounts, badRangeCounts, badLength, namesArgument, badArgument, badArguments, badProduction, badProductions, badDeclaration, badDeclarations, sameProduction, repeatedProduction, repeatedProductions, frameCheck, bodiesCheck}
 use Rattle.grammar.specs.Classes.{classHas}
-use Rattle.grammar.specs.Layout.{byteAt, productions, classes, declarations, argumentCount, rangeCountAt, rangeCount, productionAt, argumentAt, result, argument, classAt, rangeAt, low, high, declarationAt, kind, first, second, neededLength}
+use Rattle.grammar.specs.Layout.{byteAt, productions, classes, declarations, argumentCount, rangeCount, argument, rangeAt, low, high, declarationAt, kind, first, second, neededLength}
 use Rattle.grammar.specs.Limits.{argumentLimit, rangeLimit, headerLength}
 use Rattle.grammar.specs.Turned.{TurnedRound, RangesRise}
-use Rattle.grammar.specs.Verdict.{refuseIf, andThen, firstRefusal}
-use Rattle.grammar.specs.declared.Verdict.{Verdict}
+use Rattle.grammar.specs.Verdict.{refuseIf, firstRefusal}
 use Rattle.grammar.specs.declared.Verdict.the-variants.{Accepted}
 
 module _ (b c : List ℕ) (t : TurnedRound b c) where
@@ -135,11 +133,15 @@ module _ (b c : List ℕ) (t : TurnedRound b c) where
 
 module _ (b : List ℕ) (rise : RangesRise b) where
   -- A class has the characters that it had.
-  pub rising-class : (k c : ℕ) → k < classes b → classHas b k c ≡ anyBelow (rangeCount b k) (λ r. inRange (low b k r) (high b k r) c)
-  unfolding classHas
-  rising-class k c l =
-      any-same (λ r. spans (low b k r) (high b k r) c) (λ r. inRange (low b k r) (high b k r) c) (rangeCount b k)
-      (λ r m. spans-rising (low b k r) (high b k r) c (rise k r l m))
+  pub rising-characters : (k c : ℕ) → k < classes b → (classHas b k c ≡ true) ↔ ((r : ℕ) × (r < rangeCount b k) × (low b k r ≤ c) × (c ≤ high b k r))
+  unfolding classHas inRange
+  rising-characters k c l =
+      let test : ℕ → Bool = λ r. spans (low b k r) (high b k r) c in
+      let same : (r : ℕ) → r < rangeCount b k → test r ≡ inRange (low b k r) (high b k r) c = λ r m. spans-rising (low b k r) (high b k r) c (rise k r l m) in (
+        (λ e. let (r, m, h) = any-found test (rangeCount b k) e in
+            let (least, most) = between-ends (low b k r) (high b k r) c (sym (same r m) ∙ h) in (r, m, least, most)),
+        (λ (r, m, least, most). any-here test r (rangeCount b k) m (same r m ∙ between-in (low b k r) (high b k r) c least most)),
+      )
 
   -- Refusal 6 would have let it through.
   pub rising-passed : firstRefusal (classes b) (λ k. firstRefusal (rangeCount b k) (λ r. refuseIf (ltb (high b k r) (low b k r)) 6 (rangeAt b k r))) ≡ Accepted

@@ -1,6 +1,6 @@
 -- A grammar with ranges turned round (02, [3]) reads every text with the same outcome: the answer, the chart and the listing.
 use Prim.Native.Nat.{ℕ}
-use mathlib.Core.Path.{_≡_, refl, sym, ap₂, subst}
+use mathlib.Core.Path.{_≡_, refl, ap₂, subst}
 use mathlib.Core.List.{List, [], _∷_}
 use lib.ListN.{length}
 use Rattle.engine.proofs.SameParsingLaws.{SameParsing, bytes-same, unless-same}

@@ -1,5 +1,5 @@
 -- The stage of refusals 5 and 7: the first bad byte of the bodies.
-use Prim.Native.Nat.{ℕ, _+_, _*_, _≤_, _<_}
+use Prim.Native.Nat.{ℕ, _+_, _≤_, _<_}
 use mathlib.Core.Path.{_≡_, sym, ap, subst}
 use mathlib.Core.Bool.{false, true, not, _&&_}
 use mathlib.Core.List.{List}

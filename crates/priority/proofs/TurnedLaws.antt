@@ -1,16 +1,19 @@
 -- A grammar with ranges turned round (02, [3]) is judged as it was, and has the same conflicts.
 use Prim.Native.Nat.{ℕ, _<_}
 use mathlib.Core.Path.{_≡_, refl, sym, _∙_, ap, ap₂, subst}
-use mathlib.Core.List.{List}
+use mathlib.Core.List.{List, [], _∷_}
 use mathlib.Core.Logic.{_↔_}
 use native.Mathlib.Omega.{arith}
 use Rattle.common.proofs.ListLaws.{tabulate-same}
 use Rattle.common.specs.Lists.{tabulate}
 use Rattle.grammar.proofs.SameFrontLaws.{front-back, same-productions, same-count}
 use Rattle.grammar.proofs.TurnedLaws.{turned-front, turned-declarations, turned-kind, turned-first, turned-second, turned-frame, turned-bodies}
+use Rattle.grammar.specs.Check.{shortHeader, badHeader, shortContents, badArgumentCounts, badRangeCounts, badLength, badProductions, badDeclarations, repeatedProductions}
 use Rattle.grammar.specs.Layout.{productions, declarations, argumentCount}
 use Rattle.grammar.specs.Turned.{TurnedRound}
-use Rattle.grammar.specs.Verdict.{firstRefusal}
+use Rattle.grammar.specs.Verdict.{firstRefusal, inOrder}
+use Rattle.grammar.specs.declared.Verdict.{Verdict}
+use Rattle.grammar.specs.declared.Verdict.the-variants.{Accepted}
 use Rattle.priority.proofs.CheckLaws.{checked-parts}
 use Rattle.priority.proofs.SameFrontLaws.{front-conflict, front-conflicts}
 use Rattle.priority.specs.Check.{circle, circles, checked}
@@ -47,3 +50,21 @@ module _ (b c : List ℕ) (t : TurnedRound b c) where
               (subst (λ (ls : List Declaration). ConflictIn c ls p i q) turned-list h)),
           (λ h. subst (λ (ls : List Declaration). ConflictIn c ls p i q) (sym turned-list) (front-conflict b c same p i q lp li lq h)),
         )
+
+-- A check that passes may stand between those of the productions and those of the declarations: a grammar whose ranges rise is judged as it was with refusal 6.
+pub rising-judged : (b : List ℕ) {six : Verdict} → six ≡ Accepted
+    → checked b ≡ inOrder
+    (shortHeader b
+    ∷ badHeader b
+    ∷ shortContents b
+    ∷ badArgumentCounts b
+    ∷ badRangeCounts b
+    ∷ badLength b
+    ∷ badProductions b
+    ∷ six
+    ∷ badDeclarations b
+    ∷ repeatedProductions b
+    ∷ circles b
+    ∷ [])
+unfolding checked
+rising-judged b e = rw e refl

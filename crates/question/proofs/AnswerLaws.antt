@@ -37,11 +37,11 @@ rejected n k m j e = cc
 module _ (b : List ℕ) (p i q : ℕ) where
   -- ---- the test for what is there
 
-  there-test : There b p i q → isThere b p i q ≡ true
+  pub there-test : There b p i q → isThere b p i q ≡ true
   unfolding isThere
   there-test h = rw (lt-ltb p (productions b) (h .0), lt-ltb i (argumentCount b p) (h .1), lt-ltb q (productions b) (h .2)) refl
 
-  test-there : isThere b p i q ≡ true → There b p i q
+  pub test-there : isThere b p i q ≡ true → There b p i q
   unfolding isThere
   test-there e =
       let x = ltb p (productions b) in

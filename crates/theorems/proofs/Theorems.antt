@@ -15,13 +15,16 @@ use Rattle.flatten.proofs.AlikeLaws.{flat-alike, reading-alike, entry-alike}
 use Rattle.ccg.proofs.ListingLaws.{listing-determines}
 use Rattle.ccg.proofs.WrittenLaws.{text-determines}
 use Rattle.flatten.proofs.FlatWrittenLaws.{flat-written}
-use Rattle.charset.specs.Set.{characters}
+use Rattle.charset.proofs.SpansLaws.{spans-rising, spans-turned, spans-falling}
+use Rattle.charset.specs.Set.{characters, inRange}
+use Rattle.common.proofs.BelowLaws.{between-in, between-ends}
 use Rattle.ccg.specs.Ccg.{Class, Line, Generated}
 use Rattle.flatten.specs.Flat.{flatGrammar, plainClass}
 use Rattle.engine.proofs.AnswerLaws.{none-exactly, none-buffer, several-exactly, several-buffer, one-exactly, one-buffer, long-exactly, long-buffer, refused-is-long}
 use Rattle.numbers.specs.Written.{room}
 use Rattle.grammar.specs.Layout.{startSort}
 use Rattle.theorems.proofs.OneRightLaws.{one-right}
+use Rattle.theorems.proofs.TurnedLaws.{turned-question, turned-listing, turned-page, turned-row, turned-part}
 use Rattle.listing.proofs.RefusedLaws.{grammar-exactly as listing-grammar, ten-exactly as listing-ten, eleven-exactly, right-exactly}
 use Rattle.marked.proofs.Marked.{marked-outcomes}
 use Rattle.page.proofs.AnswerLaws.{page-fits, page-too-long, page-wrong, page-refused, page-numbers}
@@ -31,6 +34,7 @@ use Rattle.page.proofs.UniqueLaws.{one-listed, page-one, row-one, part-one}
 use Rattle.page.specs.Answer.{pageLength, PageAfter, PageOutcome}
 use Rattle.parse.proofs.AnswerLaws.{parsed-outcome, refused-unchanged, grammar-exactly, ten-exactly, twenty-exactly}
 use Rattle.parse.proofs.OutcomeLaws.{outcome-unique}
+use Rattle.parse.proofs.TurnedLaws.{turned-outcome}
 use Rattle.flatten.specs.Reading.{Reading}
 use Rattle.priority.proofs.CheckLaws.{accepted-formed}
 use Rattle.question.proofs.AnswerLaws.{conflict-yes, conflict-no, conflict-absent, conflict-refused}
@@ -38,18 +42,22 @@ use Rattle.priority.proofs.DeclarationLaws.{accepted-declares}
 use Rattle.priority.proofs.SpelledLaws.{group-number, single-found, single-written, single-turned, group-found, group-made, group-only, spelled-none, spelled-same, spelled-many, spelled-declared, higher-alike, circles-alike, conflict-carried}
 use Rattle.priority.proofs.SpelledGrammarLaws.{spelled-no-groups, spelled-small, spelled-conflict, spelled-accepted}
 use Rattle.flatten.proofs.SpelledGrammarLaws.{spelled-flat, spelled-reading}
+use Rattle.flatten.proofs.TurnedLaws.{turned-flat, turned-flat-answer, turned-reading}
 use Rattle.grammar.proofs.FormedLaws.{pair-judged}
+use Rattle.grammar.proofs.RisenLaws.{risen-turned, risen-rises, risen-small}
+use Rattle.grammar.proofs.TurnedLaws.{turned-back, rising-characters, rising-passed}
 use Rattle.grammar.specs.Limits.{groupStep}
 use Rattle.priority.specs.Priorities.{Kind, left, right, nonassoc, kindNumber, eitherWay, declarationOf, declarationsOf}
 use Rattle.priority.specs.declared.Declaration.{Declaration}
 use Rattle.priority.specs.Spelled.{spelledOut}
-use Rattle.priority.proofs.RefusalLaws.{refused-first, first-refused, accepted-free, free-accepted}
+use Rattle.priority.proofs.RefusalLaws.{refused-first, first-refused, accepted-free, free-accepted, checked-not-six}
+use Rattle.priority.proofs.TurnedLaws.{turned-checked, turned-conflict, rising-judged}
 use Rattle.rows.proofs.RowsLaws.{row-number}
 use Rattle.rows.proofs.UnderLaws.{row-stands}
 use Rattle.rows.specs.declared.Row.{Row}
 use Rattle.writing.specs.declared.WriteAnswer.{WriteAnswer}
 use Rattle.writing.specs.declared.WriteAnswer.the-variants.{Written, Refused as NotWritten}
-use Rattle.theorems.specs.Theorems.{Bytes, AcceptedExactly, RefusedExactly, ConflictExactly, FlatExactly, Refuses, OneOutcome, ListingExactly, OneIsRight, Declares, FlatIsVisser, FlatIsCompleted, FlatTrees, FlatArguments, ReadingsAreFlat, Read, TextDetermines, Archived, FlatIsWritten, ListingDetermines, OneListed, PageExactly, PageSays, Pages, Parts, SaysOfGroup, GroupsSay, Spells, GroupsAreTheirPairs, SpelledBooks, PairsAsBefore, MarkedCases}
+use Rattle.theorems.specs.Theorems.{Bytes, AcceptedExactly, RefusedExactly, ConflictExactly, FlatExactly, Refuses, OneOutcome, ListingExactly, OneIsRight, Declares, FlatIsVisser, FlatIsCompleted, FlatTrees, FlatArguments, ReadingsAreFlat, Read, TextDetermines, Archived, FlatIsWritten, ListingDetermines, OneListed, PageExactly, PageSays, Pages, Parts, SaysOfGroup, GroupsSay, Spells, GroupsAreTheirPairs, SpelledBooks, PairsAsBefore, RangesSay, TurnedRangesSame, RangesCanRise, RisingRangesAsBefore, NeverSix, MarkedCases}
 
 -- ---- demand 1
 
@@ -261,6 +269,55 @@ pairs-as-before b d g =
     record {
       covered = λ k x y. (single-found l g k x y, λ (e, ends). ⊎-elim (λ (f, s). single-written l g k x y e f s) (λ (way, f, s). single-turned l g k x y e way f s) ends);
       seven = pair-judged b d g;
+    }
+
+-- ---- request 3
+
+pub ranges-say : (low high c : ℕ) → RangesSay low high c
+unfolding inRange
+ranges-say low high c =
+    record {
+      rising = λ h. let e = spans-rising low high c h in ((λ s. between-ends low high c (sym e ∙ s)), (λ (l, m). e ∙ between-in low high c l m));
+      falling = λ h. let e = spans-falling low high c h in ((λ s. between-ends high low c (sym e ∙ s)), (λ (l, m). e ∙ between-in high low c l m));
+      turned = spans-turned low high c;
+    }
+
+pub turned-ranges-same : TurnedRangesSame
+turned-ranges-same b c t =
+    let back = turned-back b c t in
+    record {
+      check = turned-checked b c t;
+      conflict = λ p i q (lp, li, lq). turned-conflict b c t p i q lp li lq;
+      question = turned-question b c t;
+      flat = turned-flat b c t;
+      written = turned-flat-answer b c t;
+      reading = turned-reading b c t;
+      outcome = λ w chart₀ l₀ r chart l. (turned-outcome b c t w chart₀ l₀ r chart l, turned-outcome c b back w chart₀ l₀ r chart l);
+      listing = turned-listing b c t;
+      page = λ w l page₀ r page. (turned-page b c t w l page₀ r page, turned-page c b back w l page₀ r page);
+      row = λ w l index r. (turned-row b c t w l index r, turned-row c b back w l index r);
+      part = λ w l index part. (turned-part b c t w l index part, turned-part c b back w l index part);
+    }
+
+pub ranges-can-rise : RangesCanRise
+ranges-can-rise b e =
+    let f = accepted-formed b e .framed in
+    record { turned = risen-turned b f; rise = risen-rises b f; bytes = risen-small b f characters }
+
+pub rising-ranges-as-before : RisingRangesAsBefore
+rising-ranges-as-before b rise =
+    record { class = rising-characters b rise; judged = rising-judged b (rising-passed b rise) }
+
+pub never-six : (b : List ℕ) (k : ℕ) → NeverSix b k
+never-six b k =
+    let none = checked-not-six b in
+    record {
+      check = none;
+      question = λ p i q e. ⊎-elim none (λ (_, _, n, _). omega arith) (conflict-refused b p i q 6 k .0 e);
+      flat = λ room e. none (flat-grammar b room 6 k (omega arith) .0 e);
+      reading = λ w chart₀ l₀ r chart l o e. none (grammar-exactly b w chart₀ l₀ r chart l o 6 k (omega arith) .0 e);
+      listing = λ w l e. none (listing-grammar b w l 6 k (omega arith) .0 e);
+      page = λ w l room e. none (listing-grammar b w l 6 k (omega arith) .0 (page-refused b w l room 6 k (omega arith) .0 e));
     }
 
 -- ---- the marked cases

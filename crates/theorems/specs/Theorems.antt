@@ -23,7 +23,7 @@ use mathlib.Core.Path.{_≡_}
 use mathlib.Core.Bool.{false, true}
 use mathlib.Core.List.{List, [], _∷_, _++_}
 use mathlib.Core.Logic.{_↔_, _⊎_}
-use lib.Dec.{leb}
+use lib.Dec.{leb, ltb}
 use lib.ListN.{length, getD, take, drop}
 use lib.Seq.{slice}
 use Rattle.ccg.specs.Ccg.{Class, Line, OwnNumbers, Generated}
@@ -34,17 +34,20 @@ use Rattle.flatten.specs.Trees.{Built, ConflictFree, Apart}
 use Rattle.flatten.specs.Visser.{visserGrammar, completedGrammar, SingleHigher}
 use Rattle.ccg.specs.Written.{WrittenForm}
 use Rattle.writing.specs.declared.WriteAnswer.the-variants.{Written, Refused as NotWritten}
-use Rattle.charset.specs.Set.{characters}
+use Rattle.charset.specs.Set.{characters, spans}
 use Rattle.chart.specs.Counted.{entryOf}
 use Rattle.chart.specs.Layout.{textLimit, chartBytes}
 use Rattle.common.specs.Lists.{All}
 use Rattle.engine.specs.declared.Answer.{Answer}
 use Rattle.engine.specs.declared.Answer.the-variants.{None, One, Several, Refused as NotRead}
 use Rattle.numbers.specs.Written.{bytesOf}
-use Rattle.grammar.specs.Layout.{productions, declarations, startSort, argumentCount, result, argument, declarationAt, kind, first, second}
-use Rattle.grammar.specs.Check.{outside, isGroup, badDeclaration}
+use Rattle.grammar.specs.Layout.{productions, classes, declarations, startSort, argumentCount, rangeCount, result, argument, rangeAt, low, high, declarationAt, kind, first, second}
+use Rattle.grammar.specs.Check.{outside, shortHeader, badHeader, shortContents, badArgumentCounts, badRangeCounts, badLength, badProductions, isGroup, badDeclaration, badDeclarations, repeatedProductions}
+use Rattle.grammar.specs.Classes.{classHas}
 use Rattle.grammar.specs.Limits.{pairKindLimit}
-use Rattle.grammar.specs.Verdict.{refuseIf, inOrder}
+use Rattle.grammar.specs.Turned.{TurnedRound, RangesRise, risen}
+use Rattle.grammar.specs.Verdict.{refuseIf, firstRefusal, inOrder}
+use Rattle.grammar.specs.declared.Verdict.{Verdict}
 use Rattle.grammar.specs.declared.Verdict.the-variants.{Accepted, Refused}
 use Rattle.listing.specs.Answer.{byteLimit, listingAnswer}
 use Rattle.numbers.specs.Numbers.{numbersOf}
@@ -318,6 +321,76 @@ pub record AsBefore (b : List ℕ) (d : ℕ) : Type 0 where
 
 abbrev pub PairsAsBefore : Type 0
 PairsAsBefore = (b : List ℕ) (d : ℕ) → isGroup (kind b d) ≡ false → AsBefore b d
+
+-- ---- Request 3. "A range with low above high now means the same characters as the range turned round. Whoever builds a class must hold to that: checks, normal forms,
+-- flat books, readings. (Refusal 6 no longer occurs.)"
+
+-- `spans low high` (charset/specs/Set) says which characters a range has, and nothing else does: those between its ends, whichever of them is the lower.
+pub record RangesSay (low high c : ℕ) : Type 0 where
+  pub rising : low ≤ high → (spans low high c ≡ true) ↔ ((low ≤ c) × (c ≤ high))
+  pub falling : high ≤ low → (spans low high c ≡ true) ↔ ((high ≤ c) × (c ≤ low))
+  pub turned : spans low high c ≡ spans high low c
+
+-- Whatever b and c hold, if c is b with any of its ranges turned round (`TurnedRound`, grammar/specs/Turned), then with c every operation does what it does with b: the
+-- same verdict with its place, conflicts, flat grammar and so its text byte for byte, readings, answers, charts, listings and pages.
+pub record TurnedSame (b c : List ℕ) : Type 0 where
+  pub check : checked c ≡ checked b
+  pub conflict : (p i q : ℕ) → There b p i q → Conflict c p i q ↔ Conflict b p i q
+  pub question : (p i q : ℕ) → conflictAnswer c p i q ≡ conflictAnswer b p i q
+  pub flat : flatGrammar c ≡ flatGrammar b
+  pub written : (room : ℕ) → flatAnswer c room ≡ flatAnswer b room
+  pub reading : (w : List ℕ) (t : Tree) → Reading c w t ↔ Reading b w t
+  pub outcome : (w chart₀ l₀ : List ℕ) (r : Answer) (chart l : List ℕ) → Outcome c w chart₀ l₀ r chart l ↔ Outcome b w chart₀ l₀ r chart l
+  pub listing : (w l : List ℕ) → listingAnswer c w l ≡ listingAnswer b w l
+  pub page : (w l page₀ : List ℕ) (r : WriteAnswer) (page : List ℕ) → PageOutcome c w l page₀ r page ↔ PageOutcome b w l page₀ r page
+  pub row : (w l : List ℕ) (index : ℕ) (r : Row) → RowUnder c w l index r ↔ RowUnder b w l index r
+  pub part : (w l : List ℕ) (index : ℕ) (part : List ℕ) → TextUnder c w l index part ↔ TextUnder b w l index part
+
+abbrev pub TurnedRangesSame : Type 0
+TurnedRangesSame = (b c : List ℕ) → TurnedRound b c → TurnedSame b c
+
+-- An accepted grammar with each range that falls turned round (`risen`, beside `TurnedRound`) is such a grammar, and its ranges rise. So each promise about a grammar with
+-- downward ranges is one about a grammar without them.
+pub record Rises (b : List ℕ) : Type 0 where
+  pub turned : TurnedRound b (risen b)
+  pub rise : RangesRise (risen b)
+  pub bytes : Bytes b → Bytes (risen b)
+
+abbrev pub RangesCanRise : Type 0
+RangesCanRise = (b : List ℕ) → checked b ≡ Accepted → Rises b
+
+-- Of a grammar whose ranges rise nothing has changed: a class has the characters that it had, and the grammar is judged as it was while 6 stood between 5 and 7. (No other
+-- definition knows of ranges.)
+abbrev pub formerSix : List ℕ → Verdict
+formerSix b = firstRefusal (classes b) (λ k. firstRefusal (rangeCount b k) (λ r. refuseIf (ltb (high b k r) (low b k r)) 6 (rangeAt b k r)))
+
+pub record RisingAsBefore (b : List ℕ) : Type 0 where
+  pub class : (k c : ℕ) → k < classes b → (classHas b k c ≡ true) ↔ ((r : ℕ) × (r < rangeCount b k) × (low b k r ≤ c) × (c ≤ high b k r))
+  pub judged : checked b ≡ inOrder
+      (shortHeader b
+      ∷ badHeader b
+      ∷ shortContents b
+      ∷ badArgumentCounts b
+      ∷ badRangeCounts b
+      ∷ badLength b
+      ∷ badProductions b
+      ∷ formerSix b
+      ∷ badDeclarations b
+      ∷ repeatedProductions b
+      ∷ circles b
+      ∷ [])
+
+abbrev pub RisingRangesAsBefore : Type 0
+RisingRangesAsBefore = (b : List ℕ) → RangesRise b → RisingAsBefore b
+
+-- No operation answers with 6.
+pub record NeverSix (b : List ℕ) (k : ℕ) : Type 0 where
+  pub check : checked b ≡ Refused 6 k → ⊥
+  pub question : (p i q : ℕ) → conflictAnswer b p i q ≡ NotAsked 6 k → ⊥
+  pub flat : (room : ℕ) → flatAnswer b room ≡ NotWritten 6 k → ⊥
+  pub reading : (w chart₀ l₀ : List ℕ) (r : Answer) (chart l : List ℕ) → Outcome b w chart₀ l₀ r chart l → r ≡ NotRead 6 k → ⊥
+  pub listing : (w l : List ℕ) → listingAnswer b w l ≡ NotChecked 6 k → ⊥
+  pub page : (w l : List ℕ) (room : ℕ) → pageAnswer b w l room ≡ NotWritten 6 k → ⊥
 
 -- ---- The paper's marked cases: any outcome of reading each of them, whatever chart and buffer held, is the one marked.
 abbrev pub MarkedCases : Type 0
