@@ -1,6 +1,6 @@
 -- `class_set` meets its contract: the set holds the characters of the ranges passed.
-use Prim.Native.Nat.{ℕ, _+_, _-_, _≤_, _<_}
-use mathlib.Core.Path.{_≡_, sym, _∙_, ap}
+use Prim.Native.Nat.{ℕ, _+_, _-_, _*_, _≤_, _<_}
+use mathlib.Core.Path.{_≡_, sym, _∙_, ap, ap₂}
 use mathlib.Core.Bool.{Bool, _||_}
 use mathlib.Core.List.{List}
 use native.Mathlib.Omega.{arith}
@@ -10,7 +10,7 @@ use Rattle.common.specs.Below.{anyBelow}
 use Rattle.grammar.proofs.FormedLaws.{class-in, bodies-in}
 use Rattle.grammar.proofs.LayoutLaws.{low-read, high-read}
 use Rattle.grammar.specs.Classes.{classHas}
-use Rattle.grammar.specs.Layout.{rangeCount, low, high}
+use Rattle.grammar.specs.Layout.{byteAt, rangeCount, low, high}
 use Rattle.grammar.proofs.classes.class_set.Statement.{statement}
 use Rattle.grammar.proofs.classes.class_set.Tie as tie
 
@@ -74,12 +74,13 @@ loop-less c = omega arith
 
 loop-again : tie.Need-loop-again Inv-loop μ-loop
 loop-again c =
-    let b = c .before .before .before .before .before .before .before .before .before .args .book .now in
-    let k = c .before .before .before .before .before .before .before .before .before .args .k in
+    let s = c .before .before .before .before .before .before .before .before .before .args in
+    let b = s .book .now in
+    let at = c .before .before .before .before .before .class-at in
     let r = c .before .before .before .before .loop .r in
-    let lo = low-read b k (c .before .before .before .before .before .class-at .result) r (c .before .before .before .before .before .class-at .ensures) in
-    let hi = high-read b k (c .before .before .before .before .before .class-at .result) r (c .before .before .before .before .before .class-at .ensures) in
-    (omega arith, λ x l. c .insert-range .ensures x l ∙ rw (lo, hi, c .before .before .before .before .loop .inv .1 x l) (sym (next-range b k r x)))
+    let ends : (x : ℕ) → spans (byteAt b (at .result + 2 * r)) (byteAt b (at .result + 2 * r + 1)) x ≡ spans (low b (s .k) r) (high b (s .k) r) x =
+    λ x. ap₂ (λ (y z : ℕ). spans y z x) (low-read b (s .k) (at .result) r (at .ensures)) (high-read b (s .k) (at .result) r (at .ensures)) in
+    (omega arith, λ x l. c .insert-range .ensures x l ∙ ap₂ _||_ (c .before .before .before .before .loop .inv .1 x l) (ends x) ∙ sym (next-range b (s .k) r x))
 
 returns : tie.Need-returns Inv-loop μ-loop
 unfolding classHas inRanges
