@@ -51,8 +51,8 @@ unfolding rowOf
 row-same-arity f g n p d l e = ap (λ (m : ℕ). m + d) (sum-same (λ q. f q + 1) (λ q. g q + 1) p (λ k h. ap (λ (m : ℕ). m + 1) (e k (omega arith))))
 
 -- as many bytes
-pub bytes-same : (f g : ℕ → ℕ) (m n size : ℕ) → m ≡ n → ((p : ℕ) → p < n → f p ≡ g p) → chartBytes f m size ≡ chartBytes g n size
-bytes-same f g m n size h e = ap (λ (k : ℕ). k * spanCount size) (ap (rowCount f) h ∙ rows-same f g n e)
+pub chart-bytes-same : (f g : ℕ → ℕ) (m n size : ℕ) → m ≡ n → ((p : ℕ) → p < n → f p ≡ g p) → chartBytes f m size ≡ chartBytes g n size
+chart-bytes-same f g m n size h e = ap (λ (k : ℕ). k * spanCount size) (ap (rowCount f) h ∙ rows-same f g n e)
 
 -- ---- the promise
 
@@ -70,7 +70,7 @@ module _ (s u : Parsing) (same : SameParsing s u) where
       record {
         chart = record {
           entries = entries;
-          long = h .chart .long ∙ ap (chartBytes (s .arity) (s .count)) (same .size) ∙ bytes-same (s .arity) (u .arity) (s .count) (u .count) (u .size) (same .count) (same .arity);
+          long = h .chart .long ∙ ap (chartBytes (s .arity) (s .count)) (same .size) ∙ chart-bytes-same (s .arity) (u .arity) (s .count) (u .count) (u .size) (same .count) (same .arity);
           counted = record {
             counts = λ p d i j lp ld ij jn wp. subst (Counts (u .entry p d i j)) (entry-same entries p d i j lp)
                 (counts-same (s .entry p d i j) (u .entry p d i j) (entryOf (s .arity) (s .size) entries p d i j)

@@ -35,15 +35,21 @@ module _ (b c : List ℕ) (same : SameFront b c) where
   unfolding isProduction
   front-production n = ap (λ (m : ℕ). leb (productionNumber 0) n && ltb n (productionNumber m)) (same-productions b c same)
 
+  -- a character of the class that a byte is, or else the number of a production that passes a test, if the tests agree on productions
+  front-choice : (x n : ℕ) (u v : Bool) → (isProduction b n ≡ true → u ≡ v)
+      → cond (isClass c x) (classHas c (x - classBase) n) (isProduction c n && u) ≡ cond (isClass b x) (classHas b (x - classBase) n) (isProduction b n && v)
+  front-choice x n u v e =
+      rw (same-is-class b c same x, front-production n)
+      (cond-same (isClass b x) (classHas c (x - classBase) n) (classHas b (x - classBase) n) (isProduction b n && u) (isProduction b n && v)
+      (λ h. same-class-has b c same (x - classBase) n (class-there b x h))
+      (and-same (isProduction b n) u v e))
+
   -- what may stand at a byte, conflicts let through
   pub front-plain : (x : ℕ) → plainClass c x ≡ plainClass b x
   unfolding plainClass
   front-plain x =
       fun-ext (λ n. let q = n - productionNumber 0 in
-      rw (same-is-class b c same x, front-production n)
-      (cond-same (isClass b x) (classHas c (x - classBase) n) (classHas b (x - classBase) n) (isProduction b n && eqb (result c q) x) (isProduction b n && eqb (result b q) x)
-      (λ e. same-class-has b c same (x - classBase) n (class-there b x e))
-      (and-same (isProduction b n) (eqb (result c q) x) (eqb (result b q) x) (λ e. ap (λ (s : ℕ). eqb s x) (same-result b c same q (production-there b n e))))))
+      front-choice x n (eqb (result c q) x) (eqb (result b q) x) (λ e. ap (λ (s : ℕ). eqb s x) (same-result b c same q (production-there b n e))))
 
 module _ (b c : List ℕ) (same : SameFront b c) (ls : List Declaration) where
   -- which production may stand as an argument
@@ -55,12 +61,9 @@ module _ (b c : List ℕ) (same : SameFront b c) (ls : List Declaration) where
   front-class : (p i : ℕ) → p < productions b → i < argumentCount b p → flatClassIn c ls p i ≡ flatClassIn b ls p i
   unfolding flatClassIn
   front-class p i lp li =
-      fun-ext (λ n. let x = argument b p i in
-      let q = n - productionNumber 0 in
-      rw (same-argument b c same p i lp li, same-is-class b c same x, front-production b c same n)
-      (cond-same (isClass b x) (classHas c (x - classBase) n) (classHas b (x - classBase) n) (isProduction b n && mayStandIn c ls p i q) (isProduction b n && mayStandIn b ls p i q)
-      (λ e. same-class-has b c same (x - classBase) n (class-there b x e))
-      (and-same (isProduction b n) (mayStandIn c ls p i q) (mayStandIn b ls p i q) (λ e. front-stand p i q lp li (production-there b n e)))))
+      fun-ext (λ n. let q = n - productionNumber 0 in
+      rw (same-argument b c same p i lp li)
+      (front-choice b c same (argument b p i) n (mayStandIn c ls p i q) (mayStandIn b ls p i q) (λ e. front-stand p i q lp li (production-there b n e))))
 
   -- the line of a production
   front-line : (p : ℕ) → p < productions b → flatLineIn c ls p ≡ flatLineIn b ls p
@@ -87,11 +90,6 @@ module _ (b : List ℕ) where
       at-more (λ (j : ℕ) (u : Tree). (j < suc d) × Built b (argument b p j) u)
       (λ j u k. let (l, o) = arguments-at p f d (h .0) j u k in (omega arith, o))
       (omega arith, subst (λ (j : ℕ). Built b (argument b p j) s) (sym e) (h .1)) i t at
-
-  -- a tree with a production at its root is built by one that is there
-  production-built : (x q : ℕ) (g : Forest) → Built b x (node q g) → q < productions b
-  unfolding Built
-  production-built x q g h = h .0
 
   -- a subtree is built somewhere
   subtree-built : {s t : Tree} → Subtree s t → (x : ℕ) → Built b x t → (y : ℕ) × Built b y s
@@ -145,6 +143,7 @@ front-reading b c same ls w t r =
 -- so is a list of trees that an entry of the chart counts
 pub front-entry : (b c : List ℕ) → SameFront b c → (ls : List Declaration) (w : List ℕ) (p d i j : ℕ) → p < productions b → d ≤ argumentCount b p → (f : Forest)
     → EntryListIn b ls w p d i j f → EntryListIn c ls w p d i j f
+unfolding Built
 front-entry b c same ls w p d i j l m f r =
     let back = front-back b c same in
     let built = front-arguments b c same f p d l m (r .built) in
@@ -153,6 +152,6 @@ front-entry b c same ls w p d i j l m f r =
       built = built;
       free = λ k t at h. r .free k t at (front-has c b back ls t (argument c p k) (there k t at .1) h);
       apart = λ k q h at x. let (n, o) = there k (node q h) at in
-          r .apart k q h at (front-conflict c b back p k q (omega (arith, same-productions b c same)) (omega (arith, same-count b c same p l)) (production-built c (argument c p k) q h o) x);
+          r .apart k q h at (front-conflict c b back p k q (omega (arith, same-productions b c same)) (omega (arith, same-count b c same p l)) (o .0) x);
       spells = r .spells;
     }

@@ -19,6 +19,7 @@ use Rattle.grammar.specs.Layout.{byteAt, productions, classes, declarati
 use Rattle.grammar.specs.Limits.{argumentLimit, rangeLimit, headerLength}
 use Rattle.grammar.specs.Turned.{TurnedRound, RangesRise}
 use Rattle.grammar.specs.Verdict.{refuseIf, firstRefusal}
+use Rattle.grammar.specs.declared.Verdict.{Verdict}
 use Rattle.grammar.specs.declared.Verdict.the-variants.{Accepted}
 
 module _ (b c : List ℕ) (t : TurnedRound b c) where
@@ -143,9 +144,13 @@ module _ (b : List ℕ) (rise : RangesRise b) where
         (λ (r, m, least, most). any-here test r (rangeCount b k) m (same r m ∙ between-in (low b k r) (high b k r) c least most)),
       )
 
-  -- Refusal 6 would have let it through.
-  pub rising-passed : firstRefusal (classes b) (λ k. firstRefusal (rangeCount b k) (λ r. refuseIf (ltb (high b k r) (low b k r)) 6 (rangeAt b k r))) ≡ Accepted
+  -- what refusal 6 said of range r of class k
+  abbrev six : ℕ → ℕ → Verdict
+  six k r = refuseIf (ltb (high b k r) (low b k r)) 6 (rangeAt b k r)
+
+  -- It would have let the grammar through.
+  pub rising-passed : firstRefusal (classes b) (λ k. firstRefusal (rangeCount b k) (six k)) ≡ Accepted
   rising-passed =
-      first-pass (λ k. firstRefusal (rangeCount b k) (λ r. refuseIf (ltb (high b k r) (low b k r)) 6 (rangeAt b k r))) (classes b)
-      (λ k l. first-pass (λ r. refuseIf (ltb (high b k r) (low b k r)) 6 (rangeAt b k r)) (rangeCount b k)
+      first-pass (λ k. firstRefusal (rangeCount b k) (six k)) (classes b)
+      (λ k l. first-pass (six k) (rangeCount b k)
       (λ r m. ap (λ (v : Bool). refuseIf v 6 (rangeAt b k r)) (le-ltb (high b k r) (low b k r) (rise k r l m))))

@@ -7,7 +7,7 @@ use Rattle.flatten.proofs.BookLaws.{book-lists, book-parses}
 use Rattle.flatten.specs.Tables.{FlatTables}
 use Rattle.charset.specs.Set.{characters}
 use Rattle.chart.specs.Layout.{chartNeed}
-use Rattle.engine.proofs.SameParsingLaws.{SameParsing, bytes-same, unless-same}
+use Rattle.engine.proofs.SameParsingLaws.{SameParsing, chart-bytes-same, unless-same}
 use Rattle.engine.specs.Outcome.{UnlessRefused}
 use Rattle.engine.specs.Refusals.{tooLong, chartTooShort, textRefusal}
 use Rattle.engine.specs.Roots.{parsingBy, TablesOutcome}
@@ -21,7 +21,7 @@ use Rattle.tables.specs.Layout.{countsOf, arityIn}
 module _ (b : List ℕ) (formed : WellFormed b) (bytes : (k : ℕ) → getD b k 0 < characters) (t : List ℕ) (flat : FlatTables b t) where
   same-needed : (n : ℕ) → chartNeed t n ≡ needed b n
   unfolding needed
-  same-needed n = bytes-same (arityIn (countsOf t)) (argumentCount b) (length (countsOf t)) (productions b) n (flat .countIs) (flat .countsAre)
+  same-needed n = chart-bytes-same (arityIn (countsOf t)) (argumentCount b) (length (countsOf t)) (productions b) n (flat .countIs) (flat .countsAre)
 
   module _ (w : List ℕ) (text : (k : ℕ) → getD w k 0 < characters) where
     -- the tables' trees are the grammar's

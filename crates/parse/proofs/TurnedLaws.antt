@@ -3,7 +3,7 @@ use Prim.Native.Nat.{ℕ}
 use mathlib.Core.Path.{_≡_, refl, ap₂, subst}
 use mathlib.Core.List.{List, [], _∷_}
 use lib.ListN.{length}
-use Rattle.engine.proofs.SameParsingLaws.{SameParsing, bytes-same, unless-same}
+use Rattle.engine.proofs.SameParsingLaws.{SameParsing, chart-bytes-same, unless-same}
 use Rattle.engine.specs.Outcome.{UnlessRefused}
 use Rattle.engine.specs.Refusals.{tooLong, chartTooShort}
 use Rattle.engine.specs.declared.Answer.{Answer}
@@ -18,9 +18,9 @@ use Rattle.parse.specs.Outcome.{needed, readingBy, refusal, Outcome}
 use Rattle.priority.proofs.TurnedLaws.{turned-checked}
 
 module _ (b c : List ℕ) (t : TurnedRound b c) where
-  turned-needed : (n : ℕ) → needed c n ≡ needed b n
+  turned-chart-bytes : (n : ℕ) → needed c n ≡ needed b n
   unfolding needed
-  turned-needed n = bytes-same (argumentCount c) (argumentCount b) (productions c) (productions b) n (same-productions b c (turned-front b c t)) (same-count b c (turned-front b c t))
+  turned-chart-bytes n = chart-bytes-same (argumentCount c) (argumentCount b) (productions c) (productions b) n (same-productions b c (turned-front b c t)) (same-count b c (turned-front b c t))
 
   module _ (w : List ℕ) where
     turned-parsing : SameParsing (readingBy c w) (readingBy b w)
@@ -35,7 +35,7 @@ module _ (b c : List ℕ) (t : TurnedRound b c) where
 
     turned-refusal : (chart : List ℕ) → refusal c w chart ≡ refusal b w chart
     unfolding refusal
-    turned-refusal chart = ap₂ (λ (v : Verdict) (n : ℕ). inOrder (v ∷ tooLong w ∷ chartTooShort n chart ∷ [])) (turned-checked b c t) (turned-needed (length w))
+    turned-refusal chart = ap₂ (λ (v : Verdict) (n : ℕ). inOrder (v ∷ tooLong w ∷ chartTooShort n chart ∷ [])) (turned-checked b c t) (turned-chart-bytes (length w))
 
     -- What is an outcome by the one is one by the other.
     pub turned-outcome : (c₀ l₀ : List ℕ) (r : Answer) (d l : List ℕ) → Outcome c w c₀ l₀ r d l → Outcome b w c₀ l₀ r d l
