@@ -8,7 +8,7 @@ use native.Mathlib.Omega.{arith}
 use Rattle.chart.specs.Counted.{entryOf}
 use Rattle.chart.specs.Layout.{rowOf, spanCount, cellAt, chartBytes, entryAt}
 use Rattle.common.proofs.BelowLaws.{sum-same}
-use Rattle.engine.specs.Outcome.{Parsing, Answered, Parsed, UnlessRefused}
+use Rattle.engine.specs.Outcome.{Parsing, Answered, ChartAfter, Parsed, UnlessRefused}
 use Rattle.engine.specs.declared.Answer.{Answer}
 use Rattle.engine.specs.declared.Answer.the-variants.{Refused, None, One, Several}
 use Rattle.grammar.specs.declared.Verdict.{Verdict}
@@ -64,24 +64,24 @@ module _ (s u : Parsing) (same : SameParsing s u) where
       ap (λ (n : ℕ). entryAt entries (cellAt n (rowOf (s .arity) p d) i j)) (same .size)
       ∙ ap (λ (n : ℕ). entryAt entries (cellAt (u .size) n i j)) (row-same-arity (s .arity) (u .arity) (u .count) p d l (same .arity))
 
-  parsed-same : (c₀ l₀ : List ℕ) (r : Answer) (c l : List ℕ) → Parsed s c₀ l₀ r c l → Parsed u c₀ l₀ r c l
-  parsed-same c₀ l₀ r c l h =
-      let entries = h .chart .entries in
+  pub chart-same : (c₀ c : List ℕ) → ChartAfter s c₀ c → ChartAfter u c₀ c
+  chart-same c₀ c h =
+      let entries = h .entries in
       record {
-        chart = record {
-          entries = entries;
-          long = h .chart .long ∙ ap (chartBytes (s .arity) (s .count)) (same .size) ∙ chart-bytes-same (s .arity) (u .arity) (s .count) (u .count) (u .size) (same .count) (same .arity);
-          counted = record {
-            counts = λ p d i j lp ld ij jn wp. subst (Counts (u .entry p d i j)) (entry-same entries p d i j lp)
-                (counts-same (s .entry p d i j) (u .entry p d i j) (entryOf (s .arity) (s .size) entries p d i j)
-                (same .entry p d i j lp ld ij jn)
-                (h .chart .counted .counts p d i j (omega (arith, same .count)) (omega (arith, same .arity p lp)) ij (omega (arith, same .size)) wp));
-            unwanted = λ p d i j lp ld ij jn no. absurd (true≢false no);
-          };
-          whole = h .chart .whole;
+        entries = entries;
+        long = h .long ∙ ap (chartBytes (s .arity) (s .count)) (same .size) ∙ chart-bytes-same (s .arity) (u .arity) (s .count) (u .count) (u .size) (same .count) (same .arity);
+        counted = record {
+          counts = λ p d i j lp ld ij jn wp. subst (Counts (u .entry p d i j)) (entry-same entries p d i j lp)
+              (counts-same (s .entry p d i j) (u .entry p d i j) (entryOf (s .arity) (s .size) entries p d i j)
+              (same .entry p d i j lp ld ij jn)
+              (h .counted .counts p d i j (omega (arith, same .count)) (omega (arith, same .arity p lp)) ij (omega (arith, same .size)) wp));
+          unwanted = λ p d i j lp ld ij jn no. absurd (true≢false no);
         };
-        answer = answered-same (s .parse) (u .parse) (same .parse) l₀ r l (h .answer);
+        whole = h .whole;
       }
+
+  parsed-same : (c₀ l₀ : List ℕ) (r : Answer) (c l : List ℕ) → Parsed s c₀ l₀ r c l → Parsed u c₀ l₀ r c l
+  parsed-same c₀ l₀ r c l h = record { chart = chart-same c₀ c (h .chart); answer = answered-same (s .parse) (u .parse) (same .parse) l₀ r l (h .answer) }
 
   -- A refusal, or none, is the same of both.
   pub unless-same : (v : Verdict) (c₀ l₀ : List ℕ) (r : Answer) (c l : List ℕ) → UnlessRefused v s c₀ l₀ r c l → UnlessRefused v u c₀ l₀ r c l

@@ -16,7 +16,7 @@ use Rattle.theory.specs.Tree.{Tree, listing}
 -- ---- the chart
 
 -- two charts that meet the promise are the same
-chart-unique : (s : Parsing) (c₀ c c′ : List ℕ) → ChartAfter s c₀ c → ChartAfter s c₀ c′ → c ≡ c′
+pub chart-unique : (s : Parsing) (c₀ c c′ : List ℕ) → ChartAfter s c₀ c → ChartAfter s c₀ c′ → c ≡ c′
 chart-unique s c₀ c c′ a b =
     let same = counted-unique (s .entry) (s .arity) (s .count) (s .size) (a .entries) (b .entries) (a .long) (b .long) (a .counted) (b .counted) in
     a .whole ∙ ap (λ (l : List ℕ). overwritten l c₀) same ∙ sym (b .whole)

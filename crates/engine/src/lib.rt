@@ -142,8 +142,8 @@ pub fn write_parse(tables: &[u64], text: &[u8], chart: &[u8], listing: &mut [u8]
     Answer::One(next)
 }
 
-// The chart is filled; a text with one parse has its listing written, as far as there is room.
-fn parse_prepared(
+// Fills a chart that fits; a text with one parse has its listing written, as far as there is room.
+fn parse_fitting(
     tables: &[u64],
     prepared: &[u8],
     text: &[u8],
@@ -164,18 +164,31 @@ fn parse_prepared(
     write_parse(tables, text, chart, listing)
 }
 
-// Parses a text by tables: 10, 20, and then the answer.
-pub fn parse_tables(tables: &[u64], text: &[u8], chart: &mut [u8], listing: &mut [u8]) -> Answer
+// Parses a text by tables and what is prepared for them, which serves any number of texts: 10, 20, and then the answer.
+pub fn parse_prepared(
+    tables: &[u64],
+    prepared: &[u8],
+    text: &[u8],
+    chart: &mut [u8],
+    listing: &mut [u8],
+) -> Answer
     requires { ⌜ ParserTables (now tables) ⌝ }
+    requires { ⌜ Prepared (now tables) (now prepared) ⌝ }
     ensures { λ r. ⌜ TablesOutcome (now (tables .entry)) (now (text .entry)) (now (chart .entry)) (now (listing .entry)) r (now (chart .exit)) (now (listing .exit)) ⌝ }
 {
     let verdict = check_input(tables, text, chart);
     match verdict {
         Verdict::Refused(number, place) => Answer::Refused(number, place),
-        Verdict::Accepted => {
-            let mut prepared = zero_prepared();
-            prepare(tables, &mut prepared);
-            parse_prepared(tables, &prepared, text, chart, listing)
-        }
+        Verdict::Accepted => parse_fitting(tables, prepared, text, chart, listing),
     }
+}
+
+// Parses one text by tables.
+pub fn parse_tables(tables: &[u64], text: &[u8], chart: &mut [u8], listing: &mut [u8]) -> Answer
+    requires { ⌜ ParserTables (now tables) ⌝ }
+    ensures { λ r. ⌜ TablesOutcome (now (tables .entry)) (now (text .entry)) (now (chart .entry)) (now (listing .entry)) r (now (chart .exit)) (now (listing .exit)) ⌝ }
+{
+    let mut prepared = zero_prepared();
+    prepare(tables, &mut prepared);
+    parse_prepared(tables, &prepared, text, chart, listing)
 }

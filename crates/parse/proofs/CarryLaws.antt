@@ -19,13 +19,13 @@ use Rattle.parse.specs.Outcome.{needed, readingBy, AcceptedOutcome}
 use Rattle.tables.specs.Layout.{countsOf, arityIn}
 
 module _ (b : List ℕ) (formed : WellFormed b) (bytes : (k : ℕ) → getD b k 0 < characters) (t : List ℕ) (flat : FlatTables b t) where
-  same-needed : (n : ℕ) → chartNeed t n ≡ needed b n
+  pub same-needed : (n : ℕ) → chartNeed t n ≡ needed b n
   unfolding needed
   same-needed n = chart-bytes-same (arityIn (countsOf t)) (argumentCount b) (length (countsOf t)) (productions b) n (flat .countIs) (flat .countsAre)
 
   module _ (w : List ℕ) (text : (k : ℕ) → getD w k 0 < characters) where
     -- the tables' trees are the grammar's
-    tables-same : SameParsing (parsingBy t w) (readingBy b w)
+    pub tables-same : SameParsing (parsingBy t w) (readingBy b w)
     tables-same =
         record {
           size = refl;

@@ -20,7 +20,7 @@ pub fn parse(book: &[u8], text: &[u8], chart: &mut [u8], listing: &mut [u8]) -> 
 }
 
 // The same for an accepted grammar.
-fn parse_accepted(book: &[u8], text: &[u8], chart: &mut [u8], listing: &mut [u8]) -> Answer
+pub fn parse_accepted(book: &[u8], text: &[u8], chart: &mut [u8], listing: &mut [u8]) -> Answer
     requires { ⌜ WellFormed (now book) ⌝ }
     ensures { λ r. ⌜ AcceptedOutcome (now (book .entry)) (now (text .entry)) (now (chart .entry)) (now (listing .entry)) r (now (chart .exit)) (now (listing .exit)) ⌝ }
 {

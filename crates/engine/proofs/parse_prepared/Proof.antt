@@ -1,63 +1,61 @@
--- `parse_prepared` meets its contract: none, several, or the only one is written.
-use mathlib.Core.Path.{_≡_, subst}
-use native.Mathlib.Omega.{arith}
+-- `parse_prepared` meets its contract: refused, or parsed.
+use mathlib.Core.Path.{sym, _∙_}
 use borrow.Author.Needs.{needs}
-use Rattle.engine.proofs.EngineLaws.{answered-none, answered-several}
-use Rattle.engine.specs.Roots.{ParseBy}
-use Rattle.theory.specs.Counts.{Counts}
+use Rattle.engine.proofs.OutcomeLaws.{outcome-refused, outcome-accepted}
+use Rattle.engine.proofs.RefusalsLaws.{accepted-fits}
+use Rattle.engine.specs.Refusals.{textRefusal}
+use Rattle.engine.specs.Roots.{parsingBy, TablesOutcome}
 use Rattle.engine.proofs.parse_prepared.Statement.{statement}
 use Rattle.engine.proofs.parse_prepared.Tie as tie
 
-count-parses-requires : tie.Need-count-parses-requires
-count-parses-requires c κs = search needs
+check-input-requires : tie.Need-check-input-requires
+check-input-requires c κs = search needs
+
+enum-known-verdict : tie.Need-enum-known-verdict
+enum-known-verdict c = search needs
+
+enum-told : tie.Need-enum-told
+enum-told c = search needs
+
+parse-fitting-requires : tie.Need-parse-fitting-requires
+parse-fitting-requires c κs =
+    let start = c .before .before .before .before .before .before .before .before .before .before .before in
+    let a = start .args in
+    (accepted-fits (a .tables .now) (a .text .now) (a .chart .now) (start .pre .0) (sym (c .before .before .before .before .check-input .ensures) ∙ c .before .before .enum-told .given .1), start .pre .1)
 
 same-length : tie.Need-same-length
 same-length c = search needs
 
 returns : tie.Need-returns
+unfolding TablesOutcome
 returns c =
-    let start = c .before .before .before .before .before .before .before .before .before .before in
-    let count-parses = c .before .before .before .count-parses in
-    let n = count-parses .ensures in
-    record { chart = n .1 .1; answer = answered-none (ParseBy (start .args .tables .now) (start .args .text .now)) (count-parses .result) (start .args .listing .now) (n .0) (c .if1 .taken) }
+    let a = c .before .before .before .before .before .before .before .before .before .before .args in
+    outcome-refused (parsingBy (a .tables .now) (a .text .now)) (a .chart .now) (a .listing .now) (textRefusal (a .tables .now) (a .text .now) (a .chart .now)) _ _ (sym (c .before .before .before .check-input .ensures) ∙ c .before .verdict .given .1)
 
 same-length-2 : tie.Need-same-length-2
 same-length-2 c = search needs
 
-returns-2 : tie.Need-returns-2
-returns-2 c =
-    let start = c .before .before .before .before .before .before .before .before .before .before .before in
-    let count-parses = c .before .before .before .before .count-parses in
-    let n = count-parses .ensures in
-    record { chart = n .1 .1; answer = answered-several (ParseBy (start .args .tables .now) (start .args .text .now)) (count-parses .result) (start .args .listing .now) (n .0) (c .if2 .taken) }
-
-write-parse-requires : tie.Need-write-parse-requires
-write-parse-requires c κs =
-    let start = c .before .before .before .before .before .before .before .before .before .before .before .before .before in
-    let count-parses = c .before .before .before .before .before .before .count-parses in
-    let n = count-parses .ensures in
-    let one : count-parses .result ≡ 1 = omega arith in
-    (n .1 .0, subst (Counts (ParseBy (start .args .tables .now) (start .args .text .now))) one (n .0))
-
 same-length-3 : tie.Need-same-length-3
 same-length-3 c = search needs
 
-same-length-4 : tie.Need-same-length-4
-same-length-4 c = search needs
-
-returns-3 : tie.Need-returns-3
-returns-3 c = search needs
+returns-2 : tie.Need-returns-2
+unfolding TablesOutcome
+returns-2 c =
+    let a = c .before .before .before .before .before .before .before .before .before .before .before .before .before .before .before .before .args in
+    let parsed = c .before .before .before .before .parse-fitting in
+    let accepted = sym (c .before .before .before .before .before .before .before .before .before .check-input .ensures) ∙ c .before .before .before .before .before .before .before .enum-told .given .1 in
+    outcome-accepted (parsingBy (a .tables .now) (a .text .now)) (a .chart .now) (a .listing .now) (textRefusal (a .tables .now) (a .text .now) (a .chart .now)) (parsed .result) (parsed .last .1 .1 .1 .0) (parsed .last .1 .1 .1 .1 .0) accepted (parsed .ensures)
 
 pub parse-prepared-spec : {M : Type 1} → statement M
 parse-prepared-spec =
     tie.close
     (tie.spec
-    count-parses-requires
+    check-input-requires
+    enum-known-verdict
+    enum-told
+    parse-fitting-requires
     same-length
     returns
     same-length-2
-    returns-2
-    write-parse-requires
     same-length-3
-    same-length-4
-    returns-3)
+    returns-2)

@@ -1,0 +1,7 @@
+-- Laws of sheets.
+pub mod LinesLaws
+pub mod RefusalLaws
+pub mod LineLaws
+pub mod InTurnLaws
+pub mod SummedLaws
+pub mod OutcomeLaws
