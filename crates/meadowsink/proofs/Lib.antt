@@ -2,3 +2,4 @@
 pub mod FitLaws
 pub mod ViewerLaws
 pub mod PageLaws
+pub mod SheetLaws

@@ -1,3 +1,4 @@
 -- What the contracts of the calls cite.
 pub mod Viewer
 pub mod Page
+pub mod Sheet

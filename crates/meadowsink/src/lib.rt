@@ -5,5 +5,7 @@ pub mod check_listing;
 pub mod conflict;
 pub mod flat;
 pub mod read;
+pub mod step;
+pub mod summary;
 pub mod text_under;
 pub mod write_page;

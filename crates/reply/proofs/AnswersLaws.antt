@@ -1,5 +1,6 @@
 -- The reply for what an operation answers by itself, once the grammar's refusals are behind it, fits.
-use Prim.Native.Nat.{ℕ, _+_, _<_}
+use Prim.Native.Nat.{ℕ, _+_, _*_, _≤_, _<_}
+use mathlib.Core.Path.{_≡_, refl, subst}
 use mathlib.Core.Bool.{Bool, false, true, cond}
 use mathlib.Core.List.{List, [], _∷_, _++_}
 use native.Mathlib.Omega.{arith}
@@ -15,8 +16,11 @@ use Rattle.listing.specs.Judge.{isRight, dueAfter, textAfter, judge}
 use Rattle.listing.specs.declared.ListingAnswer.the-variants.{Wrong}
 use Rattle.question.specs.Answer.{yesOrNo}
 use Rattle.question.specs.declared.ConflictAnswer.the-variants.{Refused as NotAsked}
+use Rattle.sheet.specs.Refusals.{sheetLimit}
+use Rattle.sheet.specs.declared.Step.{Step}
+use Rattle.sheet.specs.declared.Step.the-variants.{End, Line as LineRead, Refused as NotTaken}
 use Rattle.reply.proofs.ReplyLaws.{answered-fits, refused-fits}
-use Rattle.reply.specs.Answers.{conflictReply, writeReply, listingReply, readReply}
+use Rattle.reply.specs.Answers.{byteLimit, conflictReply, writeReply, listingReply, readReply, stepReply, Near}
 use Rattle.reply.specs.Reply.{valueLimit, Fits}
 
 -- the conflict question
@@ -54,3 +58,14 @@ own-read-fits s l₀ None l h a = answered-fits 0 0 (omega arith) (omega arith)
 own-read-fits s l₀ (One n) l h a = answered-fits 1 n (omega arith) (omega (arith, a .3))
 own-read-fits s l₀ Several l h a = answered-fits 2 0 (omega arith) (omega arith)
 own-read-fits s l₀ (NotRead number place) l h a = refused-fits number place (omega (arith, a .2))
+
+-- a step down a sheet
+pub near-line : (r : Step) (next v : ℕ) → r ≡ LineRead v → Near r next → next ≤ sheetLimit
+unfolding Near
+near-line r next v e h = subst (λ (x : Step). Near x next) e h
+
+pub step-fits : (r : Step) (next : ℕ) → Near r next → ((v : ℕ) → r ≡ LineRead v → v < byteLimit) → ((n k : ℕ) → r ≡ NotTaken n k → n < valueLimit) → Fits (stepReply r next)
+unfolding stepReply Near
+step-fits End next h small number = answered-fits 0 0 (omega arith) (omega arith)
+step-fits (LineRead v) next h small number = answered-fits 1 (byteLimit * next + v) (omega arith) (omega (arith, small v refl))
+step-fits (NotTaken n k) next h small number = refused-fits n k (number n k refl)

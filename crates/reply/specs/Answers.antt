@@ -1,4 +1,5 @@
 -- What each answer of an operation is for programs in C (include/meadowsink.h): its kind, its value and, of a refusal, its place.
+use Prim.Native.Nat.{ℕ, _+_, _*_, _≤_}
 use Rattle.writing.specs.declared.WriteAnswer.{WriteAnswer}
 use Rattle.writing.specs.declared.WriteAnswer.the-variants.{Written}
 use Rattle.engine.specs.declared.Answer.{Answer}
@@ -11,11 +12,18 @@ use Rattle.question.specs.declared.ConflictAnswer.{ConflictAnswer}
 use Rattle.question.specs.declared.ConflictAnswer.the-variants.{Yes, No}
 use Rattle.reply.specs.Reply.{answered, refused}
 use Rattle.reply.specs.declared.Reply.{Reply}
+use Rattle.sheet.specs.Refusals.{sheetLimit}
+use Rattle.sheet.specs.declared.Step.{Step}
+use Rattle.sheet.specs.declared.Step.the-variants.{End, Line, Refused as NotTaken}
 use Rattle.grammar.specs.declared.Verdict.the-variants.{Refused as Rejected}
 use Rattle.engine.specs.declared.Answer.the-variants.{Refused as NotRead}
 use Rattle.writing.specs.declared.WriteAnswer.the-variants.{Refused as NotWritten}
 use Rattle.question.specs.declared.ConflictAnswer.the-variants.{Refused as NotAsked}
 use Rattle.listing.specs.declared.ListingAnswer.the-variants.{Refused as NotChecked}
+
+-- summary bytes are below this
+abbrev pub byteLimit : ℕ
+byteLimit = 4
 
 -- checking a grammar: 0 accepted
 unfoldable pub checkReply : Verdict → Reply
@@ -45,3 +53,15 @@ readReply None = answered 0 0
 readReply (One n) = answered 1 n
 readReply Several = answered 2 0
 readReply (NotRead number place) = refused number place
+
+-- a step down a sheet: 0 no line is left, 1 a line, the value is 4 × where the next line starts + its summary byte
+unfoldable pub stepReply : Step → (next : ℕ) → Reply
+stepReply End next = answered 0 0
+stepReply (Line v) next = answered 1 (byteLimit * next + v)
+stepReply (NotTaken number place) next = refused number place
+
+-- Where the next line starts, behind a line, is small enough for the value.
+unfoldable pub Near : Step → (next : ℕ) → Type 0
+Near End next = Unit {0}
+Near (Line v) next = next ≤ sheetLimit
+Near (NotTaken number place) next = Unit {0}

@@ -3,6 +3,7 @@ pub mod check;
 pub mod check_listing;
 pub mod conflict;
 pub mod read;
+pub mod step;
 pub mod write;
 
 ghost use mathlib.Core.Path.{_≡_};

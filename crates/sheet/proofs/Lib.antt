@@ -5,3 +5,4 @@ pub mod LineLaws
 pub mod InTurnLaws
 pub mod SummedLaws
 pub mod OutcomeLaws
+pub mod AnswerLaws

@@ -24,7 +24,7 @@ use Rattle.grammar.specs.declared.Verdict.the-variants.{Accepted, Refused as Re
 use Rattle.parse.proofs.CarryLaws.{same-needed, tables-same}
 use Rattle.parse.specs.Outcome.{needed, readingBy, AcceptedOutcome}
 use Rattle.sheet.specs.Outcome.{refusedByte, byteOf, LineRead, LineBy, TablesLine}
-use Rattle.theory.proofs.CountLaws.{counts-unique, counts-same}
+use Rattle.theory.proofs.CountLaws.{counts-bounds, counts-unique, counts-same}
 use Rattle.theory.specs.Counts.{Counts}
 use Rattle.theory.specs.Tree.{Tree}
 
@@ -78,6 +78,17 @@ unfolding TablesLine LineBy textRefusal
 line-carried b formed bytes t flat w text c₀ v c h =
     subst (λ (n : ℕ). LineRead (inOrder (tooLong w ∷ chartTooShort n c₀ ∷ [])) (readingBy b w) c₀ v c) (same-needed b formed bytes t flat (length w))
     (line-same (parsingBy t w) (readingBy b w) (tables-same b formed bytes t flat w text) (textRefusal t w c₀) c₀ v c h)
+
+-- ---- its byte is one of four
+
+read-small : (v : Verdict) (p : Parsing) (c₀ : List ℕ) (n : ℕ) (c : List ℕ) → LineRead v p c₀ n c → n ≤ refusedByte
+unfolding LineRead
+read-small Accepted p c₀ n c h = omega (arith, counts-bounds (p .parse) n (h .0) .atMostTwo)
+read-small (Rejected number place) p c₀ n c h = omega (arith, h .0)
+
+pub line-small : (b w c₀ : List ℕ) (n : ℕ) (c : List ℕ) → LineBy b w c₀ n c → n ≤ refusedByte
+unfolding LineBy
+line-small b w c₀ n c h = read-small _ (readingBy b w) c₀ n c h
 
 -- ---- it is determined
 

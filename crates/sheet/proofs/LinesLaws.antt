@@ -113,6 +113,22 @@ module _ (s : List ℕ) (start : ℕ) where
       ap (λ (k : ℕ). take k (drop start s)) sizes ∙ part-slice s start (lineEnd s start) (omega (arith, end-is)) (end-within (omega arith)) in
       first ∙ ap₂ (λ (w : List ℕ) (l : List ℕ). w ∷ lines l) part (rest-same (omega arith))
 
+-- ---- there are no more lines than bytes
+
+front-few : (x : ℕ) (ws : List (List ℕ)) → length (inFront x ws) ≤ suc (length ws)
+unfolding inFront
+front-few x [] = omega arith
+front-few x (w ∷ ws) = omega arith
+
+pub lines-few : (s : List ℕ) → length (lines s) ≤ length s
+unfolding lines
+lines-few [] = omega arith
+lines-few (x ∷ s) = by-byte (lines-few s) (eqb x lineFeed) refl
+  where
+    by-byte : length (lines s) ≤ length s → (t : Bool) → eqb x lineFeed ≡ t → length (lines (x ∷ s)) ≤ length (x ∷ s)
+    by-byte h true e = rw e (omega arith)
+    by-byte h false e = rw e (omega (arith, front-few x (lines s)))
+
 -- ---- the bytes of lines are those of the sheet
 
 abbrev Below : ℕ → List ℕ → Type 0
