@@ -12,7 +12,7 @@ use Rattle.engine.specs.declared.Answer.{Answer}
 use Rattle.engine.specs.declared.Answer.the-variants.{One, Refused}
 use Rattle.grammar.specs.declared.Verdict.{Verdict}
 use Rattle.grammar.specs.declared.Verdict.the-variants.{Accepted, Refused as Rejected}
-use Rattle.parse.proofs.RefusalLaws.{refusal-grammar, refusal-ten, refusal-twenty, Readable, readable-accepted}
+use Rattle.parse.proofs.RefusalLaws.{refusal-grammar, refusal-ten, refusal-twenty, refusal-text, Readable, readable-accepted}
 use Rattle.parse.specs.Outcome.{needed, refusal, Outcome, readingBy}
 use Rattle.flatten.specs.Reading.{Reading}
 use Rattle.priority.specs.Check.{checked}
@@ -71,6 +71,14 @@ module _ (b w c₀ l₀ : List ℕ) (r : Answer) (c l : List ℕ) (o : Outcome b
       let answer = refused-exactly 10 k (λ e. omega arith) in
       let line = refusal-ten b w c₀ k in
       ((λ e. line .0 (answer .0 e)), (λ h. answer .1 (line .1 h)))
+
+  -- Where the grammar is accepted, 10, 20 and 22 are left.
+  pub text-numbers : checked b ≡ Accepted → (n k : ℕ) → r ≡ Refused n k → (n ≡ 10) ⊎ ((n ≡ 20) ⊎ (n ≡ 22))
+  text-numbers a n k e =
+      ⊎-elim
+      (λ (m, j, v, is). ⊎-elim (λ ten. inl ten) (λ twenty. inr (inl twenty)) (refusal-text b w c₀ a (v ∙ rejected m j n k (sym is ∙ e))))
+      (λ h. inr (inr (refused-is-long (Reading b w) l₀ r l h n k e)))
+      by-verdict
 
   -- 20: the chart is too short; the place is its need.
   pub twenty-exactly : (k : ℕ) → (r ≡ Refused 20 k) ↔ ((checked b ≡ Accepted) × (length w ≤ textLimit) × (k ≡ needed b (length w)) × (length c₀ < k))

@@ -1,12 +1,12 @@
 -- The refusals before a text is parsed: 1 to 9, 10 and 20, each exactly under its condition.
 use Prim.Native.Nat.{ℕ, _≤_, _<_}
-use mathlib.Core.Path.{_≡_, refl, sym, ap}
+use mathlib.Core.Path.{_≡_, refl, sym, _∙_, ap}
 use mathlib.Core.List.{List, [], _∷_}
-use mathlib.Core.Logic.{_↔_}
+use mathlib.Core.Logic.{_↔_, _⊎_, inl, inr}
 use native.Mathlib.Omega.{arith}
 use lib.ListN.{length}
 use Rattle.chart.specs.Layout.{textLimit}
-use Rattle.grammar.proofs.VerdictLaws.{FirstIn, here, there, order-first}
+use Rattle.grammar.proofs.VerdictLaws.{FirstIn, here, there, refused-not-accepted, order-first}
 use Rattle.grammar.specs.declared.Verdict.{Verdict}
 use Rattle.grammar.specs.declared.Verdict.the-variants.{Accepted, Refused}
 use Rattle.engine.proofs.RefusalsLaws.{long-text, short-text, text-short, text-long, short-chart, long-chart, chart-short}
@@ -64,6 +64,15 @@ module _ (b w chart : List ℕ) where
   -- There is no other number.
   pub refusal-number : {n k : ℕ} → refusal b w chart ≡ Refused n k → n ≤ 20
   refusal-number e = by-number (first-line e)
+
+  by-text : {n k : ℕ} → FirstIn lines n k → checked b ≡ Accepted → (n ≡ 10) ⊎ (n ≡ 20)
+  by-text (here e) a = refused-not-accepted _ _ (sym e ∙ a)
+  by-text (there a (here e)) _ = inl (text-long w e .0)
+  by-text (there a (there c (here e))) _ = inr (chart-short (needed b (length w)) chart e .0)
+
+  -- Where the grammar is accepted, 10 and 20 are left.
+  pub refusal-text : {n k : ℕ} → checked b ≡ Accepted → refusal b w chart ≡ Refused n k → (n ≡ 10) ⊎ (n ≡ 20)
+  refusal-text a e = by-text (first-line e) a
 
   -- What makes a text readable: none of them.
   pub record Readable : Type 0 where

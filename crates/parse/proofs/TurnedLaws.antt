@@ -18,12 +18,12 @@ use Rattle.parse.specs.Outcome.{needed, readingBy, refusal, Outcome}
 use Rattle.priority.proofs.TurnedLaws.{turned-checked}
 
 module _ (b c : List ℕ) (t : TurnedRound b c) where
-  turned-chart-bytes : (n : ℕ) → needed c n ≡ needed b n
+  pub turned-chart-bytes : (n : ℕ) → needed c n ≡ needed b n
   unfolding needed
   turned-chart-bytes n = chart-bytes-same (argumentCount c) (argumentCount b) (productions c) (productions b) n (same-productions b c (turned-front b c t)) (same-count b c (turned-front b c t))
 
   module _ (w : List ℕ) where
-    turned-parsing : SameParsing (readingBy c w) (readingBy b w)
+    pub turned-parsing : SameParsing (readingBy c w) (readingBy b w)
     turned-parsing =
         record {
           size = refl;

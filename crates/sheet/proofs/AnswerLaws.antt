@@ -1,18 +1,23 @@
 -- What an outcome of a sheet, and of a step, says: refusals exactly under their conditions, and otherwise the lines.
 use Prim.Native.Nat.{ℕ, _≤_, _<_}
-use mathlib.Core.Path.{_≡_, refl, sym, _∙_, ap, subst}
+use mathlib.Core.Path.{_≡_, refl, sym, _∙_, ap, ap₂, subst, subst⁻¹}
 use mathlib.Core.Bool.{Bool, true, false}
-use mathlib.Core.List.{List}
+use mathlib.Core.List.{List, _∷_}
 use mathlib.Core.Logic.{_↔_, _⊎_, inl, inr, ⊎-elim}
 use native.Mathlib.Omega.{arith}
 use lib.Dec.{ltb}
-use lib.ListN.{length}
+use lib.ListN.{length, take, drop}
+use lib.Seq.{take-append-seam, drop-append-seam}
 use borrow.Author.Tests.{ltb-true, ltb-false}
 use Rattle.grammar.specs.declared.Verdict.{Verdict}
 use Rattle.grammar.specs.declared.Verdict.the-variants.{Accepted, Refused as Rejected}
+use Rattle.priority.specs.Check.{checked}
+use Rattle.sheet.proofs.InTurnLaws.{turn-length}
+use Rattle.sheet.proofs.LinesLaws.{next-later, next-within, lines-at}
+use Rattle.sheet.proofs.RefusalLaws.{refusal-grammar, refusal-long, refusal-number, refusal-none, sheet-refusal-first, sheet-refusal-few, sheet-refusal-number}
 use Rattle.sheet.specs.Lines.{lines, lineAt, nextStart}
-use Rattle.sheet.specs.Outcome.{LineBy, Summed, SheetIf, SheetOutcome, StepFrom, StepIf, StepOutcome}
-use Rattle.sheet.specs.Refusals.{stepRefusal, sheetRefusal}
+use Rattle.sheet.specs.Outcome.{LineBy, InTurn, Summed, SheetIf, SheetOutcome, StepFrom, StepIf, StepOutcome}
+use Rattle.sheet.specs.Refusals.{sheetLimit, stepRefusal, sheetRefusal}
 use Rattle.sheet.specs.declared.Step.{Step}
 use Rattle.sheet.specs.declared.Step.the-variants.{End, Line, Refused}
 use Rattle.writing.specs.declared.WriteAnswer.{WriteAnswer}
@@ -68,6 +73,49 @@ module _ (b s c₀ m₀ : List ℕ) (r : WriteAnswer) (c m : List ℕ) (o : Shee
 
   pub sheet-summed : (n : ℕ) → r ≡ Written n → Summed (LineBy b) s c₀ m₀ c m
   sheet-summed n e = by-lines (sheet-read-exactly n .0 e .0) .1
+
+  -- 1 to 9: the grammar's.
+  pub sheet-grammar : (n k : ℕ) → n ≤ 9 → (r ≡ NotWritten n k) ↔ (checked b ≡ Rejected n k)
+  sheet-grammar n k small =
+      let answer = sheet-refused-exactly n k in
+      let step = sheet-refusal-first b s m₀ n k (omega arith) in
+      let line = refusal-grammar b s n k small in
+      ((λ e. line .0 (step .0 (answer .0 e))), (λ h. answer .1 (step .1 (line .1 h))))
+
+  -- 25: the sheet is over its limit; the place is its length.
+  pub sheet-too-long : (k : ℕ) → (r ≡ NotWritten 25 k) ↔ ((checked b ≡ Accepted) × (sheetLimit < length s) × (k ≡ length s))
+  sheet-too-long k =
+      let answer = sheet-refused-exactly 25 k in
+      let step = sheet-refusal-first b s m₀ 25 k (omega arith) in
+      let line = refusal-long b s k in
+      ((λ e. line .0 (step .0 (answer .0 e))), (λ h. answer .1 (step .1 (line .1 h))))
+
+  -- 26: the summary is too short; the place is how many lines there are.
+  pub summary-too-short : (k : ℕ) → (r ≡ NotWritten 26 k) ↔ (((checked b ≡ Accepted) × (length s ≤ sheetLimit)) × (length m₀ < length (lines s)) × (k ≡ length (lines s)))
+  summary-too-short k =
+      let answer = sheet-refused-exactly 26 k in
+      let line = sheet-refusal-few b s m₀ k in
+      let none = refusal-none b s in
+      ((λ e. let (a, few, place) = line .0 (answer .0 e) in (none .0 a, few, place)), (λ (a, few, place). answer .1 (line .1 (none .1 a, few, place))))
+
+  -- There is no other number.
+  pub sheet-numbers : (n k : ℕ) → r ≡ NotWritten n k → (n ≤ 9) ⊎ ((n ≡ 25) ⊎ (n ≡ 26))
+  sheet-numbers n k e = sheet-refusal-number b s m₀ (sheet-refused-exactly n k .0 e)
+
+  -- The bytes written are those of the lines in turn, and beyond them the summary is what it was.
+  front : (n : ℕ) → r ≡ Written n → (u : Summed (LineBy b) s c₀ m₀ c m) × (n ≡ length (u .bytes))
+  front n e = let u = sheet-summed n e in (u, sheet-read-exactly n .0 e .1 ∙ sym (turn-length (LineBy b) (lines s) c₀ (u .bytes) c (u .inTurn)))
+
+  pub sheet-in-turn : (n : ℕ) → r ≡ Written n → InTurn (LineBy b) (lines s) c₀ (take n m) c
+  sheet-in-turn n e =
+      let (u, count) = front n e in
+      let bytes : take n m ≡ u .bytes = ap₂ (λ (k : ℕ) (l : List ℕ). take k l) count (u .written) ∙ take-append-seam (u .bytes) (drop (length (u .bytes)) m₀) in
+      subst⁻¹ (λ (l : List ℕ). InTurn (LineBy b) (lines s) c₀ l c) bytes (u .inTurn)
+
+  pub sheet-beyond : (n : ℕ) → r ≡ Written n → drop n m ≡ drop n m₀
+  sheet-beyond n e =
+      let (u, count) = front n e in
+      ap₂ (λ (k : ℕ) (l : List ℕ). drop k l) count (u .written) ∙ drop-append-seam (u .bytes) (drop (length (u .bytes)) m₀) ∙ ap (λ (k : ℕ). drop k m₀) (sym count)
 
 -- ---- a step
 
@@ -146,3 +194,32 @@ module _ (b s : List ℕ) (start : ℕ) (c₀ : List ℕ) (r : Step) (next : ℕ
       comes (refused i j u is stays same) e l = let z : _≡_ {A = ℕ} 0 1 = cc in absurd (omega arith)
       comes (ended a past is stays same) e l = absurd (omega arith)
       comes (line u a h is g goes) e l = (u, is)
+
+  -- 1 to 9: the grammar's.
+  pub step-grammar : (n k : ℕ) → n ≤ 9 → (r ≡ Refused n k) ↔ (checked b ≡ Rejected n k)
+  step-grammar n k small =
+      let answer = step-refused-exactly n k in
+      let line = refusal-grammar b s n k small in
+      ((λ e. line .0 (answer .0 e)), (λ h. answer .1 (line .1 h)))
+
+  -- 25: the sheet is over its limit; the place is its length.
+  pub step-too-long : (k : ℕ) → (r ≡ Refused 25 k) ↔ ((checked b ≡ Accepted) × (sheetLimit < length s) × (k ≡ length s))
+  step-too-long k =
+      let answer = step-refused-exactly 25 k in
+      let line = refusal-long b s k in
+      ((λ e. line .0 (answer .0 e)), (λ h. answer .1 (line .1 h)))
+
+  -- There is no other number.
+  pub step-numbers : (n k : ℕ) → r ≡ Refused n k → (n ≤ 9) ⊎ (n ≡ 25)
+  step-numbers n k e = refusal-number b s (step-refused-exactly n k .0 e)
+
+  pub step-no-line : (r ≡ End) ↔ (((checked b ≡ Accepted) × (length s ≤ sheetLimit)) × (length s ≤ start))
+  step-no-line =
+      let none = refusal-none b s in
+      ((λ e. let (a, past) = step-end-exactly .0 e in (none .0 a, past)), (λ (a, past). step-end-exactly .1 (none .1 a, past)))
+
+  -- The line is the first of those from the start on, and the others start where the walker stands then.
+  pub step-others : (v : ℕ) → r ≡ Line v → (lines (drop start s) ≡ lineAt s start ∷ lines (drop next s)) × (start < next) × (next ≤ length s)
+  step-others v e =
+      let (a, l, read, goes) = step-line-says v e in
+      (lines-at s start l ∙ ap (λ (k : ℕ). lineAt s start ∷ lines (drop k s)) (sym goes), omega (arith, goes, next-later s start l), omega (arith, goes, next-within s start))

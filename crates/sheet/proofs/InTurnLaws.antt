@@ -4,17 +4,22 @@ use mathlib.Core.Path.{_≡_, refl, sym, _∙_, ap, ap₂, subst}
 use mathlib.Core.List.{List, [], _∷_, _++_}
 use native.Mathlib.Omega.{arith}
 use lib.ListN.{length}
+use Rattle.common.proofs.AllLaws.{all-of-at}
 use Rattle.common.specs.Lists.{All}
 use Rattle.sheet.specs.Outcome.{InTurn}
 
--- What R says of lines, a relation that says as much of those lines says too.
-pub turn-carried : (P : List ℕ → Type 0) (R S : (w c₀ : List ℕ) (v : ℕ) (c : List ℕ) → Type 0) → ((w : List ℕ) → P w → (c₀ : List ℕ) (v : ℕ) (c : List ℕ) → R w c₀ v c → S w c₀ v c)
+-- What one relation says of lines another says too, if it does of each of them.
+pub turn-carried-of : (P : List ℕ → Type 0) (R S : (w c₀ : List ℕ) (v : ℕ) (c : List ℕ) → Type 0) → ((w : List ℕ) → P w → (c₀ : List ℕ) (v : ℕ) (c : List ℕ) → R w c₀ v c → S w c₀ v c)
     → (ws : List (List ℕ)) → All P ws → (c₀ bytes c : List ℕ) → InTurn R ws c₀ bytes c → InTurn S ws c₀ bytes c
 unfolding InTurn
-turn-carried P R S h [] ps c₀ [] c t = t
-turn-carried P R S h [] ps c₀ (v ∷ bytes) c t = absurd t
-turn-carried P R S h (w ∷ ws) ps c₀ [] c t = absurd t
-turn-carried P R S h (w ∷ ws) ps c₀ (v ∷ bytes) c t = (t .0, h w (ps .0) c₀ v (t .0) (t .1), turn-carried P R S h ws (ps .1) (t .0) bytes c (t .2))
+turn-carried-of P R S h [] ps c₀ [] c t = t
+turn-carried-of P R S h [] ps c₀ (v ∷ bytes) c t = absurd t
+turn-carried-of P R S h (w ∷ ws) ps c₀ [] c t = absurd t
+turn-carried-of P R S h (w ∷ ws) ps c₀ (v ∷ bytes) c t = (t .0, h w (ps .0) c₀ v (t .0) (t .1), turn-carried-of P R S h ws (ps .1) (t .0) bytes c (t .2))
+
+pub turn-carried : (R S : (w c₀ : List ℕ) (v : ℕ) (c : List ℕ) → Type 0) → ((w c₀ : List ℕ) (v : ℕ) (c : List ℕ) → R w c₀ v c → S w c₀ v c)
+    → (ws : List (List ℕ)) (c₀ bytes c : List ℕ) → InTurn R ws c₀ bytes c → InTurn S ws c₀ bytes c
+turn-carried R S h ws c₀ bytes c t = turn-carried-of (λ (w : List ℕ). Unit {0}) R S (λ w u. h w) ws (all-of-at (λ (w : List ℕ). Unit {0}) ws [] (λ k l. tt)) c₀ bytes c t
 
 -- a byte to each line
 pub turn-length : (R : (w c₀ : List ℕ) (v : ℕ) (c : List ℕ) → Type 0) (ws : List (List ℕ)) (c₀ bytes c : List ℕ) → InTurn R ws c₀ bytes c → length bytes ≡ length ws

@@ -6,3 +6,6 @@ pub mod InTurnLaws
 pub mod SummedLaws
 pub mod OutcomeLaws
 pub mod AnswerLaws
+pub mod JoinedLaws
+pub mod WalkLaws
+pub mod TurnedLaws

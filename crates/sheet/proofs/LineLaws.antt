@@ -22,7 +22,9 @@ use Rattle.grammar.specs.Verdict.{inOrder}
 use Rattle.grammar.specs.declared.Verdict.{Verdict}
 use Rattle.grammar.specs.declared.Verdict.the-variants.{Accepted, Refused as Rejected}
 use Rattle.parse.proofs.CarryLaws.{same-needed, tables-same}
-use Rattle.parse.specs.Outcome.{needed, readingBy, AcceptedOutcome}
+use Rattle.parse.proofs.OutcomeLaws.{accepted-grammar}
+use Rattle.parse.specs.Outcome.{needed, readingBy, Outcome, AcceptedOutcome}
+use Rattle.priority.specs.Check.{checked}
 use Rattle.sheet.specs.Outcome.{refusedByte, byteOf, LineRead, LineBy, TablesLine}
 use Rattle.theory.proofs.CountLaws.{counts-bounds, counts-unique, counts-same}
 use Rattle.theory.specs.Counts.{Counts}
@@ -100,3 +102,8 @@ read-unique (Rejected number place) p c₀ n m c d h k = (h .0 ∙ sym (k .0), h
 pub line-unique : (b w c₀ : List ℕ) (n m : ℕ) (c d : List ℕ) → LineBy b w c₀ n c → LineBy b w c₀ m d → (n ≡ m) × (c ≡ d)
 unfolding LineBy
 line-unique b w c₀ n m c d h k = read-unique _ (readingBy b w) c₀ n m c d h k
+
+-- So what becomes of a line is what reading it alone gives, with whatever buffer for the listing.
+pub line-alone : (b : List ℕ) → checked b ≡ Accepted → (w c₀ : List ℕ) (v : ℕ) (c : List ℕ) → LineBy b w c₀ v c
+    → (l₀ : List ℕ) (r : Answer) (d l : List ℕ) → Outcome b w c₀ l₀ r d l → (v ≡ byteOf r) × (c ≡ d)
+line-alone b e w c₀ v c h l₀ r d l o = line-unique b w c₀ v (byteOf r) c d h (line-by b w c₀ l₀ r d l (accepted-grammar b w c₀ l₀ r d l e o))

@@ -51,7 +51,7 @@ module _ (s : List ℕ) (at : ℕ) where
 
 -- ---- the first line
 
-lines-first : (x : ℕ) (s : List ℕ) → lines (x ∷ s) ≡ take (beforeFeed (x ∷ s)) (x ∷ s) ∷ lines (drop (suc (beforeFeed (x ∷ s))) (x ∷ s))
+pub lines-first : (x : ℕ) (s : List ℕ) → lines (x ∷ s) ≡ take (beforeFeed (x ∷ s)) (x ∷ s) ∷ lines (drop (suc (beforeFeed (x ∷ s))) (x ∷ s))
 unfolding lines inFront beforeFeed
 lines-first x [] = by-byte (eqb x lineFeed) refl
   where

@@ -8,7 +8,7 @@ use lib.ListN.{length, set, drop, length-append}
 use lib.Seq.{sets}
 use Rattle.common.proofs.OverwrittenLaws.{sets-append, sets-front}
 use Rattle.common.specs.Lists.{overwritten, All}
-use Rattle.sheet.proofs.InTurnLaws.{turn-carried, turn-unique}
+use Rattle.sheet.proofs.InTurnLaws.{turn-carried-of, turn-unique}
 use Rattle.sheet.proofs.LinesLaws.{next-within, lines-at, lines-end}
 use Rattle.sheet.specs.Lines.{lines, lineAt, nextStart}
 use Rattle.sheet.specs.Outcome.{InTurn, Summed}
@@ -69,7 +69,7 @@ module _ (R : (w c₀ : List ℕ) (v : ℕ) (c : List ℕ) → Type 0) (s c₀ m
 
 pub summed-carried : (P : List ℕ → Type 0) (R S : (w c₀ : List ℕ) (v : ℕ) (c : List ℕ) → Type 0) → ((w : List ℕ) → P w → (c₀ : List ℕ) (v : ℕ) (c : List ℕ) → R w c₀ v c → S w c₀ v c)
     → (s c₀ m₀ c m : List ℕ) → All P (lines s) → Summed R s c₀ m₀ c m → Summed S s c₀ m₀ c m
-summed-carried P R S h s c₀ m₀ c m ps u = record { bytes = u .bytes; inTurn = turn-carried P R S h (lines s) ps c₀ (u .bytes) c (u .inTurn); written = u .written }
+summed-carried P R S h s c₀ m₀ c m ps u = record { bytes = u .bytes; inTurn = turn-carried-of P R S h (lines s) ps c₀ (u .bytes) c (u .inTurn); written = u .written }
 
 -- ---- it is determined
 

@@ -2,3 +2,5 @@
 pub mod Lines
 pub mod Refusals
 pub mod Outcome
+pub mod Joined
+pub mod Walk

@@ -32,7 +32,7 @@ use Rattle.page.proofs.LinesLaws.{line-says, page-beyond, part-spelled, row-non
 use Rattle.page.proofs.RightLaws.{RightListing}
 use Rattle.page.proofs.UniqueLaws.{one-listed, page-one, row-one, part-one}
 use Rattle.page.specs.Answer.{pageLength, PageAfter, PageOutcome}
-use Rattle.parse.proofs.AnswerLaws.{parsed-outcome, refused-unchanged, grammar-exactly, ten-exactly, twenty-exactly}
+use Rattle.parse.proofs.AnswerLaws.{parsed-outcome, refused-unchanged, grammar-exactly, ten-exactly, twenty-exactly, text-numbers}
 use Rattle.parse.proofs.OutcomeLaws.{outcome-unique}
 use Rattle.parse.proofs.TurnedLaws.{turned-outcome}
 use Rattle.flatten.specs.Reading.{Reading}
@@ -55,9 +55,15 @@ use Rattle.priority.proofs.TurnedLaws.{turned-checked, turned-conflict, rising-
 use Rattle.rows.proofs.RowsLaws.{row-number}
 use Rattle.rows.proofs.UnderLaws.{row-stands}
 use Rattle.rows.specs.declared.Row.{Row}
+use Rattle.sheet.proofs.AnswerLaws.{sheet-grammar, sheet-too-long, summary-too-short, sheet-numbers, sheet-unchanged, sheet-read-exactly, sheet-in-turn, sheet-beyond, step-grammar, step-too-long, step-numbers, step-no-line, step-stays, step-line-says, step-others}
+use Rattle.sheet.proofs.JoinedLaws.{lines-joined, lines-plain, lines-only}
+use Rattle.sheet.proofs.LineLaws.{line-alone}
+use Rattle.sheet.proofs.OutcomeLaws.{sheet-unique, step-unique}
+use Rattle.sheet.proofs.TurnedLaws.{turned-sheet, turned-step}
+use Rattle.sheet.proofs.WalkLaws.{walk-summary}
 use Rattle.writing.specs.declared.WriteAnswer.{WriteAnswer}
 use Rattle.writing.specs.declared.WriteAnswer.the-variants.{Written, Refused as NotWritten}
-use Rattle.theorems.specs.Theorems.{Bytes, AcceptedExactly, RefusedExactly, ConflictExactly, FlatExactly, Refuses, OneOutcome, ListingExactly, OneIsRight, Declares, FlatIsVisser, FlatIsCompleted, FlatTrees, FlatArguments, ReadingsAreFlat, Read, TextDetermines, Archived, FlatIsWritten, ListingDetermines, OneListed, PageExactly, PageSays, Pages, Parts, SaysOfGroup, GroupsSay, Spells, GroupsAreTheirPairs, SpelledBooks, PairsAsBefore, RangesSay, TurnedRangesSame, RangesCanRise, RisingRangesAsBefore, NeverSix, MarkedCases}
+use Rattle.theorems.specs.Theorems.{Bytes, AcceptedExactly, RefusedExactly, ConflictExactly, FlatExactly, Refuses, OneOutcome, ListingExactly, OneIsRight, Declares, FlatIsVisser, FlatIsCompleted, FlatTrees, FlatArguments, ReadingsAreFlat, Read, TextDetermines, Archived, FlatIsWritten, ListingDetermines, OneListed, PageExactly, PageSays, Pages, Parts, SaysOfGroup, GroupsSay, Spells, GroupsAreTheirPairs, SpelledBooks, PairsAsBefore, RangesSay, TurnedRangesSame, RangesCanRise, RisingRangesAsBefore, NeverSix, LinesSay, Sheets, LinesAlone, EachStep, WalkersGoDown, MarkedCases}
 
 -- ---- demand 1
 
@@ -297,6 +303,8 @@ turned-ranges-same b c t =
       page = λ w l page₀ r page. (turned-page b c t w l page₀ r page, turned-page c b back w l page₀ r page);
       row = λ w l index r. (turned-row b c t w l index r, turned-row c b back w l index r);
       part = λ w l index part. (turned-part b c t w l index part, turned-part c b back w l index part);
+      sheet = λ s chart₀ m₀ r chart m. (turned-sheet b c t s chart₀ m₀ r chart m, turned-sheet c b back s chart₀ m₀ r chart m);
+      step = λ s start chart₀ r next chart. (turned-step b c t s start chart₀ r next chart, turned-step c b back s start chart₀ r next chart);
     }
 
 pub ranges-can-rise : RangesCanRise
@@ -318,7 +326,51 @@ never-six b k =
       reading = λ w chart₀ l₀ r chart l o e. none (grammar-exactly b w chart₀ l₀ r chart l o 6 k (omega arith) .0 e);
       listing = λ w l e. none (listing-grammar b w l 6 k (omega arith) .0 e);
       page = λ w l room e. none (listing-grammar b w l 6 k (omega arith) .0 (page-refused b w l room 6 k (omega arith) .0 e));
+      sheet = λ s chart₀ m₀ r chart m o e. none (sheet-grammar b s chart₀ m₀ r chart m o 6 k (omega arith) .0 e);
+      step = λ s start chart₀ r next chart o e. none (step-grammar b s start chart₀ r next chart o 6 k (omega arith) .0 e);
     }
+
+-- ---- request 4
+
+pub lines-say : (s : List ℕ) → LinesSay s
+lines-say s = record { joined = lines-joined s; noFeed = lines-plain s; only = lines-only s }
+
+pub sheets-exactly : Sheets
+sheets-exactly b s chart₀ m₀ r chart m o =
+    record {
+      grammar = sheet-grammar b s chart₀ m₀ r chart m o;
+      tooLong = sheet-too-long b s chart₀ m₀ r chart m o;
+      tooShort = summary-too-short b s chart₀ m₀ r chart m o;
+      noOther = sheet-numbers b s chart₀ m₀ r chart m o;
+      unchanged = sheet-unchanged b s chart₀ m₀ r chart m o;
+      count = λ n e. sheet-read-exactly b s chart₀ m₀ r chart m o n .0 e .1;
+      inTurn = sheet-in-turn b s chart₀ m₀ r chart m o;
+      beyond = sheet-beyond b s chart₀ m₀ r chart m o;
+      one = λ r′ chart′ m′ o′. sheet-unique b s chart₀ m₀ r r′ chart chart′ m m′ o o′;
+    }
+
+pub lines-alone : LinesAlone
+lines-alone b e w chart₀ v chart h l₀ r chart′ l o =
+    let same = line-alone b e w chart₀ v chart h l₀ r chart′ l o in
+    record { byte = same .0; chartSame = same .1; numbers = text-numbers b w chart₀ l₀ r chart′ l o e }
+
+pub each-step : EachStep
+each-step b s start chart₀ r next chart o =
+    record {
+      grammar = step-grammar b s start chart₀ r next chart o;
+      tooLong = step-too-long b s start chart₀ r next chart o;
+      noOther = step-numbers b s start chart₀ r next chart o;
+      end = step-no-line b s start chart₀ r next chart o;
+      stays = step-stays b s start chart₀ r next chart o;
+      line = λ v e. step-line-says b s start chart₀ r next chart o v e .2;
+      others = step-others b s start chart₀ r next chart o;
+      one = λ r′ next′ chart′ o′. step-unique b s start chart₀ r r′ next next′ chart chart′ o o′;
+    }
+
+pub walkers-go-down : WalkersGoDown
+walkers-go-down b s chart₀ m₀ n chart m o rs next chart′ u =
+    let gave = walk-summary b s chart₀ m₀ n chart m o rs next chart′ u in
+    record { gives = gave .0; inTurn = gave .1; whole = gave .2 }
 
 -- ---- the marked cases
 

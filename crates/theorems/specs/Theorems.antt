@@ -9,6 +9,8 @@
 --     listing::check_listing       answers  listingAnswer b w l
 --     page::write_page             answers some r and leaves some page with  PageOutcome b w l page₀ r page
 --     page::text_under             hands back some part of the text with  TextUnder b w l index part
+--     sheet::read_sheet            answers some r and leaves some chart and summary with  SheetOutcome b s chart₀ summary₀ r chart summary
+--     sheet::next_line             gives some r and leaves its walker at some next, and some chart, with  StepOutcome b s start chart₀ r next chart
 -- A call that is proved ends.
 --
 -- Words. A tree (theory/specs/Tree) is a character or a production (rule) with a list of trees; `yield` is what it spells and `listing` its numbers, a
@@ -17,7 +19,8 @@
 -- has one. `Reading b w t`: t is built at the start sort, has no conflict and spells w (flatten/specs/Reading); `EntryList b w p d i j f`: f has such trees for the first
 -- d arguments of p, and they spell w from i to j. `Generated g cc t`: t is a tree of the character class grammar g (a list of lines) in the class cc (ccg/specs/Ccg).
 -- `Listed b w l t`: t is the reading of w whose listing l is (page/specs/Answer); `rows 0 0 t`: for each number of its listing depth, number, start and end
--- (rows/specs/Rows). `Only P t`: P holds of t and of nothing else; `Two P`: of two different things; `Counts P v`: of none, one or two, as v is 0, 1 or 2 (theory/specs/Counts).
+-- (rows/specs/Rows). `LineBy b w chart₀ v chart`: the line w is read, has summary byte v, and leaves the chart so; `InTurn`: lines are read in turn, the chart handed on
+-- (sheet/specs/Outcome). `Only P t`: P holds of t and of nothing else; `Two P`: of two different things; `Counts P v`: of none, one or two, as v is 0, 1 or 2 (theory/specs/Counts).
 use Prim.Native.Nat.{ℕ, _+_, _*_, _/_, _%_, _≤_, _<_}
 use mathlib.Core.Path.{_≡_}
 use mathlib.Core.Bool.{false, true}
@@ -68,6 +71,12 @@ use Rattle.question.specs.declared.ConflictAnswer.the-variants.{Yes, No, Refuse
 use Rattle.rows.specs.Rows.{noRow, rows}
 use Rattle.rows.specs.Under.{Stands}
 use Rattle.rows.specs.declared.Row.{Row}
+use Rattle.sheet.specs.Joined.{joinedLines, NoFeed, ended}
+use Rattle.sheet.specs.Lines.{lines, lineAt}
+use Rattle.sheet.specs.Outcome.{byteOf, LineBy, InTurn, SheetOutcome, StepOutcome}
+use Rattle.sheet.specs.Walk.{Steps, given}
+use Rattle.sheet.specs.declared.Step.{Step}
+use Rattle.sheet.specs.declared.Step.the-variants.{End, Line as LineRead, Refused as NotTaken}
 use Rattle.theory.specs.Counts.{Only, Two, Counts}
 use Rattle.writing.specs.Answer.{bufferAfter}
 use Rattle.writing.specs.declared.WriteAnswer.{WriteAnswer}
@@ -332,7 +341,7 @@ pub record RangesSay (low high c : ℕ) : Type 0 where
   pub turned : spans low high c ≡ spans high low c
 
 -- Whatever b and c hold, if c is b with any of its ranges turned round (`TurnedRound`, grammar/specs/Turned), then with c every operation does what it does with b: the
--- same verdict with its place, conflicts, flat grammar and so its text byte for byte, readings, answers, charts, listings and pages.
+-- same verdict with its place, conflicts, flat grammar and so its text byte for byte, readings, answers, charts, listings, pages, summaries and steps.
 pub record TurnedSame (b c : List ℕ) : Type 0 where
   pub check : checked c ≡ checked b
   pub conflict : (p i q : ℕ) → There b p i q → Conflict c p i q ↔ Conflict b p i q
@@ -345,6 +354,8 @@ pub record TurnedSame (b c : List ℕ) : Type 0 where
   pub page : (w l page₀ : List ℕ) (r : WriteAnswer) (page : List ℕ) → PageOutcome c w l page₀ r page ↔ PageOutcome b w l page₀ r page
   pub row : (w l : List ℕ) (index : ℕ) (r : Row) → RowUnder c w l index r ↔ RowUnder b w l index r
   pub part : (w l : List ℕ) (index : ℕ) (part : List ℕ) → TextUnder c w l index part ↔ TextUnder b w l index part
+  pub sheet : (s chart₀ m₀ : List ℕ) (r : WriteAnswer) (chart m : List ℕ) → SheetOutcome c s chart₀ m₀ r chart m ↔ SheetOutcome b s chart₀ m₀ r chart m
+  pub step : (s : List ℕ) (start : ℕ) (chart₀ : List ℕ) (r : Step) (next : ℕ) (chart : List ℕ) → StepOutcome c s start chart₀ r next chart ↔ StepOutcome b s start chart₀ r next chart
 
 abbrev pub TurnedRangesSame : Type 0
 TurnedRangesSame = (b c : List ℕ) → TurnedRound b c → TurnedSame b c
@@ -391,6 +402,76 @@ pub record NeverSix (b : List ℕ) (k : ℕ) : Type 0 where
   pub reading : (w chart₀ l₀ : List ℕ) (r : Answer) (chart l : List ℕ) → Outcome b w chart₀ l₀ r chart l → r ≡ NotRead 6 k → ⊥
   pub listing : (w l : List ℕ) → listingAnswer b w l ≡ NotChecked 6 k → ⊥
   pub page : (w l : List ℕ) (room : ℕ) → pageAnswer b w l room ≡ NotWritten 6 k → ⊥
+  pub sheet : (s chart₀ m₀ : List ℕ) (r : WriteAnswer) (chart m : List ℕ) → SheetOutcome b s chart₀ m₀ r chart m → r ≡ NotWritten 6 k → ⊥
+  pub step : (s : List ℕ) (start : ℕ) (chart₀ : List ℕ) (r : Step) (next : ℕ) (chart : List ℕ) → StepOutcome b s start chart₀ r next chart → r ≡ NotTaken 6 k → ⊥
+
+-- ---- Request 4. "A sheet is lines ended by byte 10, which is no part of them; what follows the last one is a line too if it isn't empty. Each line is read from its own
+-- part of the sheet." "The count of lines comes back." "The chart ends as it would if each line had been read alone in turn, a refused line leaving it unchanged; summary
+-- bytes beyond the lines stay."
+
+-- The lines of a sheet (`lines`, sheet/specs/Lines): no line feed is part of one, and each ended by one they are the sheet, up to a last line feed (`ended`,
+-- sheet/specs/Joined). No other lines are these.
+pub record LinesSay (s : List ℕ) : Type 0 where
+  pub joined : joinedLines (lines s) ≡ ended s
+  pub noFeed : All NoFeed (lines s)
+  pub only : (ws : List (List ℕ)) → All NoFeed ws → joinedLines ws ≡ ended s → ws ≡ lines s
+
+-- A sheet is refused with 1 to 9, 25 and 26 exactly so, with no other number, and then nothing is changed. Otherwise the count of lines comes back. What was lent
+-- determines the answer and every byte of the chart and the summary.
+pub record SheetExactly (b s chart₀ m₀ : List ℕ) (r : WriteAnswer) (chart m : List ℕ) : Type 0 where
+  pub grammar : (n k : ℕ) → n ≤ 9 → (r ≡ NotWritten n k) ↔ (checked b ≡ Refused n k)
+  pub tooLong : (k : ℕ) → (r ≡ NotWritten 25 k) ↔ ((checked b ≡ Accepted) × (65535 < length s) × (k ≡ length s))
+  pub tooShort : (k : ℕ) → (r ≡ NotWritten 26 k) ↔ (((checked b ≡ Accepted) × (length s ≤ 65535)) × (length m₀ < length (lines s)) × (k ≡ length (lines s)))
+  pub noOther : (n k : ℕ) → r ≡ NotWritten n k → (n ≤ 9) ⊎ ((n ≡ 25) ⊎ (n ≡ 26))
+  pub unchanged : (n k : ℕ) → r ≡ NotWritten n k → (chart ≡ chart₀) × (m ≡ m₀)
+  pub count : (n : ℕ) → r ≡ Written n → n ≡ length (lines s)
+  pub inTurn : (n : ℕ) → r ≡ Written n → InTurn (LineBy b) (lines s) chart₀ (take n m) chart
+  pub beyond : (n : ℕ) → r ≡ Written n → drop n m ≡ drop n m₀
+  pub one : (r′ : WriteAnswer) (chart′ m′ : List ℕ) → SheetOutcome b s chart₀ m₀ r′ chart′ m′ → (r ≡ r′) × (chart ≡ chart′) × (m ≡ m′)
+
+abbrev pub Sheets : Type 0
+Sheets = (b s chart₀ m₀ : List ℕ) (r : WriteAnswer) (chart m : List ℕ) → SheetOutcome b s chart₀ m₀ r chart m → SheetExactly b s chart₀ m₀ r chart m
+
+-- "0 none, 1 one, 2 several, 3 refused. Only refusals 10 and 20 can fall on a line": a line's byte is that of the answer of reading it alone, whatever buffer is lent for
+-- a listing (`byteOf`, sheet/specs/Outcome; one whose listing doesn't fit there, 22, is one), and its chart is that reading's.
+pub record LineAlone (v : ℕ) (chart : List ℕ) (r : Answer) (chart′ : List ℕ) : Type 0 where
+  pub byte : v ≡ byteOf r
+  pub chartSame : chart ≡ chart′
+  pub numbers : (n k : ℕ) → r ≡ NotRead n k → (n ≡ 10) ⊎ ((n ≡ 20) ⊎ (n ≡ 22))
+
+abbrev pub LinesAlone : Type 0
+LinesAlone =
+    (b : List ℕ) → checked b ≡ Accepted → (w chart₀ : List ℕ) (v : ℕ) (chart : List ℕ) → LineBy b w chart₀ v chart
+    → (l₀ : List ℕ) (r : Answer) (chart′ l : List ℕ) → Outcome b w chart₀ l₀ r chart′ l → LineAlone v chart r chart′
+
+-- "No line is left once the start is at or past the sheet's end; a start inside a line takes its rest as the line; refused for the book or by 25, it stays where it is."
+-- A step is refused, or gives no line, exactly so, and then the walker stays where it is and the chart as it was. Otherwise the line from the start on is read, and the
+-- others start behind it. What was lent determines all of it.
+pub record StepExactly (b s : List ℕ) (start : ℕ) (chart₀ : List ℕ) (r : Step) (next : ℕ) (chart : List ℕ) : Type 0 where
+  pub grammar : (n k : ℕ) → n ≤ 9 → (r ≡ NotTaken n k) ↔ (checked b ≡ Refused n k)
+  pub tooLong : (k : ℕ) → (r ≡ NotTaken 25 k) ↔ ((checked b ≡ Accepted) × (65535 < length s) × (k ≡ length s))
+  pub noOther : (n k : ℕ) → r ≡ NotTaken n k → (n ≤ 9) ⊎ (n ≡ 25)
+  pub end : (r ≡ End) ↔ (((checked b ≡ Accepted) × (length s ≤ 65535)) × (length s ≤ start))
+  pub stays : ((v : ℕ) → r ≡ LineRead v → ⊥) → (next ≡ start) × (chart ≡ chart₀)
+  pub line : (v : ℕ) → r ≡ LineRead v → LineBy b (lineAt s start) chart₀ v chart
+  pub others : (v : ℕ) → r ≡ LineRead v → (lines (drop start s) ≡ lineAt s start ∷ lines (drop next s)) × (start < next) × (next ≤ length s)
+  pub one : (r′ : Step) (next′ : ℕ) (chart′ : List ℕ) → StepOutcome b s start chart₀ r′ next′ chart′ → (r ≡ r′) × (next ≡ next′) × (chart ≡ chart′)
+
+abbrev pub EachStep : Type 0
+EachStep = (b s : List ℕ) (start : ℕ) (chart₀ : List ℕ) (r : Step) (next : ℕ) (chart : List ℕ) → StepOutcome b s start chart₀ r next chart → StepExactly b s start chart₀ r next chart
+
+-- "Giving at each step, where it began at 0 and has a chart as long, what the whole-sheet call gives for that line": however many steps a walker takes from 0, with the
+-- chart that the sheet was read with, they give the summary's bytes in turn and then no line, forever (`given`, sheet/specs/Walk); after each of them the chart is that of as
+-- many lines read in turn, and so in the end that of the sheet.
+pub record WalksDown (b s chart₀ summary chart : List ℕ) (rs : List Step) (chart′ : List ℕ) : Type 0 where
+  pub gives : rs ≡ given (length rs) summary
+  pub inTurn : InTurn (LineBy b) (take (length rs) (lines s)) chart₀ (take (length rs) summary) chart′
+  pub whole : length summary ≤ length rs → chart′ ≡ chart
+
+abbrev pub WalkersGoDown : Type 0
+WalkersGoDown =
+    (b s chart₀ m₀ : List ℕ) (n : ℕ) (chart m : List ℕ) → SheetOutcome b s chart₀ m₀ (Written n) chart m
+    → (rs : List Step) (next : ℕ) (chart′ : List ℕ) → Steps b s 0 chart₀ rs next chart′ → WalksDown b s chart₀ (take n m) chart rs chart′
 
 -- ---- The paper's marked cases: any outcome of reading each of them, whatever chart and buffer held, is the one marked.
 abbrev pub MarkedCases : Type 0
