@@ -3,21 +3,27 @@
  *
  *     viewer [--names NAMES] BOOK [LINE]           the answer in words, and the tree if there is one reading; without LINE it is read from standard input
  *     viewer --page [--names NAMES] BOOK [LINE]    the page of the one reading, a line for each number of its listing; else the answer in words
+ *     viewer --sheet SHEET BOOK                    for each line of a sheet its number, the answer in words, and the line
  *     viewer --flat BOOK                           the flat book; on standard error the numbers allowed at the top, to be kept beside it
  *
  * NAMES has the name of a rule on each line, as tools/book writes it. A rule without a name is shown as `rule N`, counted from 0 as in the book.
  * A page has numbers only, so names change nothing on it; include/meadowsink.h says what stands in each column.
+ * A sheet that takes longer than a second has a line on standard error, if that is a terminal, that says how far it is.
  * A refusal has its number and place; `book --explain BOOK PLACE` says what stands at that byte of a book.
- * The exit status is 0 for an answer, 1 for a refusal, 2 if the viewer was called wrongly, a file can't be read or something doesn't fit the machine.
+ * The exit status is 0 for an answer, and of a sheet if each line has one reading; 1 for a refusal; 2 if the viewer was called wrongly, a file can't be read or
+ * something doesn't fit the machine; and 3 for a sheet with a line that has no reading, several, or is refused.
  */
+#define _POSIX_C_SOURCE 200809L
 #include <errno.h>
 #include <stdarg.h>
 #include <stdio.h>
 #include <stdlib.h>
 #include <string.h>
+#include <time.h>
+#include <unistd.h>
 #include "../include/meadowsink.h"
 
-enum { ANSWERED = 0, REFUSED = 1, FAILED = 2 };
+enum { ANSWERED = 0, REFUSED = 1, FAILED = 2, NOT_ALL_ONE = 3 };
 
 enum {
     HEADER = 6,            /* bytes of a book's header */
@@ -29,7 +35,8 @@ enum {
     KIND_ONE = 1,
     KIND_REFUSED = 3,
     CHART_SHORT = 20,
-    FILE_MOST = 65536, /* far more bytes than a book or line may have */
+    TEXT_MOST = 200,   /* bytes of the longest line that is read */
+    FILE_MOST = 65536, /* more bytes than a book, a line or a sheet may have */
     INDENT_MOST = 40   /* below this level the depth is a number, or a deep tree would be printed as gigabytes of spaces */
 };
 
@@ -38,7 +45,7 @@ typedef struct {
     size_t length;
 } Area;
 
-static Area book, line, names;
+static Area book, line, names, sheet;
 static uint8_t listing[2 * NUMBERS_MOST];
 
 static _Noreturn void fail(const char *format, ...) {
@@ -111,6 +118,8 @@ static const char *const words_for[] = {
     [22] = "there is one reading, but it has more than %llu numbers, too many to show",
     [23] = "the listing is not right at number %llu, counted from 0",
     [24] = "the page is too short; it needs %llu bytes",
+    [25] = "the sheet has %llu bytes; the most is 65535",
+    [26] = "the summary is too short; the sheet has %llu lines",
 };
 
 static int refuse(uint64_t number, uint64_t place) {
@@ -213,6 +222,77 @@ static int parse_line(int (*print_one)(size_t)) {
     return ANSWERED;
 }
 
+/* ---- going down a sheet */
+
+static size_t line_length(size_t start) {
+    const uint8_t *end = memchr(sheet.bytes + start, '\n', sheet.length - start);
+    return end == NULL ? sheet.length - start : (size_t)(end - (sheet.bytes + start));
+}
+
+/* How long a chart the longest line needs that is not over its limit; the library says it of a chart of no bytes. */
+static size_t chart_size(void) {
+    size_t most = 0, longest = 0;
+    for (size_t at = 0, length; at < sheet.length; at += length + 1) {
+        length = line_length(at);
+        if (length <= TEXT_MOST && length >= most) {
+            most = length;
+            longest = at;
+        }
+    }
+    return meadowsink_read_place(book.bytes, book.length, sheet.bytes + longest, most, NULL, 0, NULL, 0);
+}
+
+static double seconds(struct timespec from, struct timespec to) {
+    return (double)(to.tv_sec - from.tv_sec) + 1e-9 * (double)(to.tv_nsec - from.tv_nsec);
+}
+
+/* From a second on, ten times a second, how far it is; `shown` says whether that stands there now. */
+static void show_progress(size_t at, int *shown) {
+    static struct timespec begun, last;
+    struct timespec now;
+    if (!isatty(STDERR_FILENO)) return;
+    clock_gettime(CLOCK_MONOTONIC, &now);
+    if (at == 0) begun = last = now;
+    if (seconds(begun, now) < 1 || seconds(last, now) < 0.1) return;
+    fprintf(stderr, "\r%zu of %zu bytes", at, sheet.length);
+    last = now;
+    *shown = 1;
+}
+
+static void hide_progress(int *shown) {
+    if (*shown) fputs("\r\033[K", stderr);
+    *shown = 0;
+}
+
+/* A chart that is long enough leaves only lines that are too long to be refused. */
+static void print_line(size_t number, uint64_t byte, size_t start) {
+    static const char *const words[] = {"no reading", "one reading", "several readings", "refused, over 200 bytes"};
+    printf("%5zu  %-23s  ", number, words[byte]);
+    print_bytes(sheet.bytes + start, line_length(start));
+    putchar('\n');
+}
+
+static int walk_sheet(void) {
+    size_t size = chart_size(), at = 0, number = 1;
+    uint8_t *chart = reserve(size, "a chart");
+    uint64_t answer;
+    int status = ANSWERED, shown = 0;
+    show_progress(at, &shown);
+    while ((answer = meadowsink_sheet_step(book.bytes, book.length, sheet.bytes, sheet.length, at, chart, size)) % 4 == KIND_ONE) {
+        uint64_t next = answer / 16, byte = answer / 4 % 4;
+        hide_progress(&shown);
+        print_line(number++, byte, at);
+        if (byte != KIND_ONE) status = NOT_ALL_ONE;
+        at = (size_t)next;
+        show_progress(at, &shown);
+    }
+    hide_progress(&shown);
+    if (answer % 4 == KIND_NONE) return status;
+    return refuse(answer / 4, meadowsink_sheet_step_place(book.bytes, book.length, sheet.bytes, sheet.length, at, chart, size));
+}
+
+/* ---- the flat book */
+
 static int print_flat(void) {
     size_t size = meadowsink_flat_place(book.bytes, book.length, NULL, 0);
     uint8_t *text = reserve(size, "a flat book");
@@ -258,16 +338,20 @@ static int option(const char *name, int count, char **words, int *at) {
 
 int main(int count, char **words) {
     int at = 1, flat = option("--flat", count, words, &at);
-    int paged = !flat && option("--page", count, words, &at);
-    const char *named = !flat && option("--names", count, words, &at) ? words[at++] : NULL;
-    int most = flat ? 1 : 2;
-    if (count <= at || count > at + most) fail("usage: viewer [--page] [--names NAMES] BOOK [LINE]  or  viewer --flat BOOK");
+    const char *lines = !flat && option("--sheet", count, words, &at) ? words[at++] : NULL;
+    int whole = flat || lines != NULL;
+    int paged = !whole && option("--page", count, words, &at);
+    const char *named = !whole && option("--names", count, words, &at) ? words[at++] : NULL;
+    if (count <= at || count > at + (whole ? 1 : 2))
+        fail("usage: viewer [--page] [--names NAMES] BOOK [LINE]  or  viewer --sheet SHEET BOOK  or  viewer --flat BOOK");
     if (named != NULL) load_file(&names, named);
     load_file(&book, words[at]);
-    if (!flat) load_line(words[at + 1]);
+    if (lines != NULL) load_file(&sheet, lines);
+    if (!whole) load_line(words[at + 1]);
     uint64_t answer = meadowsink_check(book.bytes, book.length);
     int status = answer % 4 == KIND_REFUSED ? refuse(answer / 4, meadowsink_check_place(book.bytes, book.length))
                  : flat                     ? print_flat()
+                 : lines != NULL            ? walk_sheet()
                                             : parse_line(paged ? print_page : print_tree);
     if (fflush(stdout) != 0 || ferror(stdout)) fail("standard output can't be written");
     return status;

@@ -11,7 +11,7 @@ extern "C" {
 
 /*
  * Limits. A grammar (a "book") has at most 32 sorts, 64 rules of at most 8 arguments, 64 classes of at most 16 ranges, and 255 declarations, a group of rules
- * counting as one; a text has at most 200 bytes. What is over a limit is refused.
+ * counting as one; a text has at most 200 bytes, a sheet at most 65,535. What is over a limit is refused.
  *
  * Areas. Each area is a pointer and a length in bytes. A `const` area is only read, and such areas may overlap one another; an area that is written must not
  * overlap any other. What it holds before a call doesn't matter. An area of length 0 may have any pointer, NULL too.
@@ -42,6 +42,8 @@ extern "C" {
  *   22   there is one parse, but its listing doesn't fit. Place: how many numbers of it are written.
  *   23   the listing is not right. Place: the index, from 0, that meadowsink_check_listing gives.
  *   24   the page doesn't fit. Place: how many bytes it needs, 73 for each number of the listing.
+ *   25   the sheet has more than 65,535 bytes. Place: how many.
+ *   26   the summary is too short: it needs a byte for each line. Place: how many lines the sheet has.
  */
 
 /*
@@ -195,6 +197,57 @@ uint64_t meadowsink_page_place(const uint8_t *book, size_t book_length, const ui
  */
 uint64_t meadowsink_text_under(const uint8_t *book, size_t book_length, const uint8_t *text, size_t text_length, const uint8_t *listing,
                                size_t listing_length, size_t index);
+
+/*
+ * Reads the lines of a sheet, each by itself.
+ *
+ *   book     the bytes of the grammar
+ *   sheet    the bytes of the sheet, at most 65,535. A line feed, byte 10, ends a line and is no part of it; what follows the last one is a line too if it
+ *            isn't empty. So a sheet of no bytes has no line, and a line feed alone is one empty line.
+ *   chart    room to work in, as meadowsink_read has it, for the longest line. Afterwards it is as if meadowsink_read had read each line in turn.
+ *   summary  where a byte for each line goes: 0 no parse, 1 one parse, 2 two or more, 3 refused. A line is refused if it has more than 200 bytes or the chart
+ *            is too short for it (10 or 20); it then leaves the chart as it was, and the next line is read. No listing is written, so a line with one parse is
+ *            1 however long the listing is.
+ *
+ * The result is 4 * value + kind:
+ *
+ *   kind 1   read; the value is how many lines there are. Their bytes stand at the start of `summary`. Bytes beyond them are as they were.
+ *   kind 3   refused; the value is the number of the refusal: one of 1 to 9, else the first of 25 and 26. `chart` and `summary` are as they were.
+ *
+ * A sheet has no more lines than bytes. Or make the call with a `summary` of length 0: if it is refused with 26, meadowsink_sheet_place gives the lines.
+ */
+uint64_t meadowsink_sheet(const uint8_t *book, size_t book_length, const uint8_t *sheet, size_t sheet_length, uint8_t *chart, size_t chart_length,
+                          uint8_t *summary, size_t summary_length);
+
+/* The place of the refusal. It reads, and writes to `chart` and `summary`, as meadowsink_sheet does. */
+uint64_t meadowsink_sheet_place(const uint8_t *book, size_t book_length, const uint8_t *sheet, size_t sheet_length, uint8_t *chart, size_t chart_length,
+                                uint8_t *summary, size_t summary_length);
+
+/*
+ * Takes a step down a sheet: reads the line that starts at a place. For going down line by line; the whole sheet at once is faster, as the book is then made
+ * ready only once.
+ *
+ *   book     the bytes of the grammar
+ *   sheet    the bytes of the sheet, at most 65,535
+ *   start    where the line starts, as an index into `sheet`, from 0. Inside a line its rest is the line; at a line feed that is an empty line.
+ *   chart    room to work in, as for meadowsink_sheet. Afterwards it is as meadowsink_read leaves it for this line.
+ *
+ * The result is 4 * value + kind:
+ *
+ *   kind 0   no line is left: the start is at or past the end of the sheet; the value is 0. `chart` is as it was.
+ *   kind 1   a line; the value is 4 * next + byte, where `next` is where the next line starts: behind the line feed, or at the end of the sheet if there is
+ *            none. `byte` is that of the line in a summary; if it is 3, the line is refused, and `chart` is as it was.
+ *   kind 3   refused; the value is the number of the refusal: one of 1 to 9, else 25. `chart` is as it was.
+ *
+ * Begun at 0, and then each time at `next`, with the chart handed on, the bytes are those that meadowsink_sheet writes for a chart of that length, and the
+ * chart is in the end as meadowsink_sheet leaves it.
+ */
+uint64_t meadowsink_sheet_step(const uint8_t *book, size_t book_length, const uint8_t *sheet, size_t sheet_length, size_t start, uint8_t *chart,
+                               size_t chart_length);
+
+/* The place of the refusal, 0 also for a line whose byte is 3. It reads, and writes to `chart`, as meadowsink_sheet_step does. */
+uint64_t meadowsink_sheet_step_place(const uint8_t *book, size_t book_length, const uint8_t *sheet, size_t sheet_length, size_t start, uint8_t *chart,
+                                     size_t chart_length);
 
 #ifdef __cplusplus
 }

@@ -301,6 +301,8 @@ static void empty_areas(void) {
     expect(meadowsink_page_place(empty_rule, sizeof empty_rule, NULL, 0, its_listing, 2, NULL, 0) == 73, "24: its place");
     expect(meadowsink_text_under(NULL, 0, NULL, 0, NULL, 0, 0) == 0, "no part by no book");
     expect(meadowsink_text_under(empty_rule, sizeof empty_rule, NULL, 0, its_listing, 2, 0) == 0, "no part of no text");
+    expect(meadowsink_sheet(empty_rule, sizeof empty_rule, NULL, 0, NULL, 0, NULL, 0) == 4 * 0 + 1, "no line of no sheet");
+    expect(meadowsink_sheet_step(empty_rule, sizeof empty_rule, NULL, 0, 0, NULL, 0) == 0, "and no step");
 }
 
 /* T with its digits written downwards: each call gives what it gives with T, and writes the same bytes. */
@@ -326,8 +328,89 @@ static void downward_ranges(void) {
     expect(meadowsink_check_listing(down, sizeof down, (const uint8_t *)"8/4*2", 5, bytes, sizeof bytes) == 0, "9-0: its listing is right");
     expect(meadowsink_page(down, sizeof down, (const uint8_t *)"8/4*2", 5, bytes, sizeof bytes, page, sizeof page) == 4 * 730 + 1, "9-0: its page");
     expect(meadowsink_text_under(down, sizeof down, (const uint8_t *)"8/4*2", 5, bytes, sizeof bytes, 1) == 256 * 0 + 3, "9-0: the text under a number");
+    expect(meadowsink_sheet(down, sizeof down, (const uint8_t *)"8\n8/4*2", 7, chart, sizeof chart, listing, 2) == 4 * 2 + 1, "9-0: two lines");
+    expect(listing[0] == 1 && listing[1] == 1, "9-0: each one");
     down[28] = 9;
     expect(meadowsink_check(down, sizeof down) == 4 * 7 + 3 && meadowsink_check_place(down, sizeof down) == 28, "9-0 and kind 9: 7, where 6 was");
+}
+
+/* ---- a sheet */
+
+static const char four[] = "8/4*2\n\n88\n8"; /* one, none, none, one */
+static uint8_t summary[65535], before[sizeof chart];
+
+static void fill_sheet(void) {
+    memset(chart, 0x5a, sizeof chart);
+    memset(summary, 0x5a, sizeof summary);
+}
+
+static uint64_t call_sheet(size_t length, size_t chart_length, size_t summary_length) {
+    fill_sheet();
+    return meadowsink_sheet(book_t, sizeof book_t, (const uint8_t *)four, length, chart, chart_length, summary, summary_length);
+}
+
+/* The chart as reading each line of `four` in turn leaves it, with no room for a listing. */
+static void read_in_turn(size_t chart_length) {
+    static const size_t starts[] = {0, 6, 7, 10}, ends[] = {5, 6, 9, 11};
+    fill_sheet();
+    for (int i = 0; i < 4; i++)
+        meadowsink_read(book_t, sizeof book_t, (const uint8_t *)four + starts[i], ends[i] - starts[i], chart, chart_length, NULL, 0);
+    memcpy(before, chart, sizeof chart);
+}
+
+static void read_sheet(void) {
+    read_in_turn(sizeof chart);
+    expect(call_sheet(11, sizeof chart, 9) == 4 * 4 + 1, "four lines");
+    expect(memcmp(summary, "\1\0\0\1", 4) == 0 && untouched(summary, 4, sizeof summary, 0x5a), "their bytes, and those beyond");
+    expect(memcmp(chart, before, sizeof chart) == 0, "the chart is that of each line in turn");
+    expect(call_sheet(10, sizeof chart, 3) == 4 * 3 + 1, "a last line feed ends the last line");
+    expect(call_sheet(0, 0, 0) == 4 * 0 + 1 && untouched(chart, 0, sizeof chart, 0x5a), "no bytes, no line");
+    read_in_turn(209);
+    expect(call_sheet(11, 209, 4) == 4 * 4 + 1, "a chart one byte short of the longest line");
+    expect(memcmp(summary, "\3\0\0\1", 4) == 0 && memcmp(chart, before, sizeof chart) == 0, "that line is refused, and the others are read");
+    expect(call_sheet(11, 210, 4) == 4 * 4 + 1 && summary[0] == 1, "a chart that is just long enough");
+}
+
+static void refuse_sheet(void) {
+    static uint8_t feeds[65536];
+    memset(feeds, '\n', sizeof feeds);
+    expect(call_sheet(11, sizeof chart, 3) == 4 * 26 + 3, "26: three bytes for four lines");
+    expect(meadowsink_sheet_place(book_t, sizeof book_t, (const uint8_t *)four, 11, chart, sizeof chart, summary, 3) == 4, "26: the place is the lines");
+    expect(untouched(chart, 0, sizeof chart, 0x5a) && untouched(summary, 0, sizeof summary, 0x5a), "26: nothing is changed");
+    expect(meadowsink_sheet(book_t, sizeof book_t, feeds, 65535, chart, 10, summary, 65535) == 4 * 65535 + 1, "65,535 empty lines");
+    expect(untouched(summary, 0, sizeof summary, 0), "each has no reading");
+    fill_sheet();
+    expect(meadowsink_sheet(book_t, sizeof book_t, feeds, 65536, chart, 10, summary, 0) == 4 * 25 + 3, "25: 65,536 bytes, before 26");
+    expect(meadowsink_sheet_place(book_t, sizeof book_t, feeds, 65536, chart, 10, summary, 0) == 65536, "25: the place is the length");
+    expect(meadowsink_sheet(book_t, 5, feeds, 65536, chart, 10, summary, 0) == 4 * 1 + 3, "1: before 25");
+    expect(meadowsink_sheet_place(book_t, 5, feeds, 65536, chart, 10, summary, 0) == 5, "1: with its place");
+    expect(meadowsink_sheet_step(book_t, sizeof book_t, feeds, 65536, (size_t)1 << 63, chart, 10) == 4 * 25 + 3, "25: before no line is left");
+    expect(meadowsink_sheet_step_place(book_t, sizeof book_t, feeds, 65536, 0, chart, 10) == 65536, "25: its place for a step");
+    expect(untouched(chart, 0, sizeof chart, 0x5a) && untouched(summary, 0, sizeof summary, 0x5a), "25 and 1: nothing is changed");
+}
+
+/* ---- a step down it */
+
+static uint64_t step(size_t start) { return meadowsink_sheet_step(book_t, sizeof book_t, (const uint8_t *)four, 11, start, chart, sizeof chart); }
+
+static void walk_sheet(void) {
+    read_in_turn(sizeof chart);
+    fill_sheet();
+    expect(step(0) == 4 * (4 * 6 + 1) + 1, "the first line: one, and the next starts at 6");
+    expect(step(6) == 4 * (4 * 7 + 0) + 1, "an empty line: none");
+    expect(step(7) == 4 * (4 * 10 + 0) + 1, "88: none");
+    expect(step(10) == 4 * (4 * 11 + 1) + 1, "the last line ends with the sheet");
+    expect(memcmp(chart, before, sizeof chart) == 0, "the chart is that of the sheet");
+    expect(step(11) == 0 && step(12) == 0 && step((size_t)1 << 63) == 0 && step(SIZE_MAX) == 0, "at and past the end no line is left");
+    expect(memcmp(chart, before, sizeof chart) == 0, "and the chart stays");
+    expect(step(2) == 4 * (4 * 6 + 1) + 1, "inside a line: its rest, 4*2");
+    expect(step(5) == 4 * (4 * 6 + 0) + 1, "on the line feed: an empty line");
+    fill_sheet();
+    expect(meadowsink_sheet_step(book_t, sizeof book_t, (const uint8_t *)four, 11, 0, chart, 209) == 4 * (4 * 6 + 3) + 1, "a line that is refused, and on");
+    expect(meadowsink_sheet_step_place(book_t, sizeof book_t, (const uint8_t *)four, 11, 0, chart, 209) == 0, "it has no place");
+    expect(meadowsink_sheet_step(book_t, 5, (const uint8_t *)four, 11, 99, chart, 209) == 4 * 1 + 3, "1: before no line is left");
+    expect(meadowsink_sheet_step_place(book_t, 5, (const uint8_t *)four, 11, 99, chart, 209) == 5, "1: with its place");
+    expect(untouched(chart, 0, sizeof chart, 0x5a), "a refused line, and a refused step, leave the chart");
 }
 
 /* Areas that are only read may overlap. */
@@ -352,6 +435,9 @@ int main(void) {
     refuse_page();
     empty_areas();
     downward_ranges();
+    read_sheet();
+    refuse_sheet();
+    walk_sheet();
     shared_areas();
     if (failures == 0) printf("viewer call: all as it should be\n");
     return failures != 0;

@@ -154,13 +154,18 @@ fn buffers(dice: &mut Dice, tally: &mut Tally) -> Result<(), Mismatch> {
     Ok(())
 }
 
-/// Only readings with a given number of numbers, and one with 8 to the 31 and more.
-fn long_listings(dice: &mut Dice, tally: &mut Tally) -> Result<(), Mismatch> {
+/// An empty reading of 8 to the 31 and more numbers.
+pub fn huge() -> Plan {
     let mut huge = Plan { sorts: 32, start: 31, rules: vec![(0, vec![])], classes: vec![], declarations: vec![] };
     huge.rules.extend((1..32).map(|k| (k, vec![k - 1; 8])));
+    huge
+}
+
+/// Only readings with a given number of numbers, and one with 8 to the 31 and more.
+fn long_listings(dice: &mut Dice, tally: &mut Tally) -> Result<(), Mismatch> {
     let sizes = [1, 2, 3, 4095, 4096, 4097, 28_087, 32_767, 32_768, 32_769, 40_000, 70_000];
     let towers = sizes.iter().map(|&size| tower(size));
-    for plan in towers.chain([huge]) {
+    for plan in towers.chain([huge()]) {
         let book = plan.bytes();
         let study = Study::new(&book, b"");
         for room in [0, 1, 2, 3, 8191, 8192, 65_534, 65_535, 65_536, 65_537, 65_538, 140_001] {
@@ -278,6 +283,9 @@ pub fn run(tally: &mut Tally) -> Result<(), Mismatch> {
     crate::fixed_clashes::run(&mut dice, tally)?;
     crate::fixed_ranges::run(&mut dice, tally)?;
     crate::fixed_turned::run(&mut dice, tally)?;
+    crate::fixed_sheets::run(&mut dice, tally)?;
+    crate::fixed_limits::run(&mut dice, tally)?;
+    crate::fixed_steps::run(&mut dice, tally)?;
     damaged(&book_t(&[[2, 1, 1], [1, 1, 2]]), &mut dice, tally)?;
     damaged(&book_t(&[[5, 1, 2], [7, 2, 2]]), &mut dice, tally)
 }

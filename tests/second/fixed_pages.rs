@@ -26,7 +26,7 @@ fn book_of(sorts: usize, rules: Vec<(u8, Vec<u8>)>) -> Vec<u8> {
 }
 
 /// A byte and a row, or nothing.
-fn row() -> Vec<u8> {
+pub fn row() -> Vec<u8> {
     book_of(1, vec![(0, vec![64, 0]), (0, vec![])])
 }
 

@@ -16,6 +16,10 @@ extern "C" {
     fn meadowsink_page(b: *const u8, bn: usize, t: *const u8, tn: usize, l: *const u8, ln: usize, p: *mut u8, pn: usize) -> u64;
     fn meadowsink_page_place(b: *const u8, bn: usize, t: *const u8, tn: usize, l: *const u8, ln: usize, p: *mut u8, pn: usize) -> u64;
     fn meadowsink_text_under(b: *const u8, bn: usize, t: *const u8, tn: usize, l: *const u8, ln: usize, index: usize) -> u64;
+    fn meadowsink_sheet(b: *const u8, bn: usize, s: *const u8, sn: usize, c: *mut u8, cn: usize, m: *mut u8, mn: usize) -> u64;
+    fn meadowsink_sheet_place(b: *const u8, bn: usize, s: *const u8, sn: usize, c: *mut u8, cn: usize, m: *mut u8, mn: usize) -> u64;
+    fn meadowsink_sheet_step(b: *const u8, bn: usize, s: *const u8, sn: usize, start: usize, c: *mut u8, cn: usize) -> u64;
+    fn meadowsink_sheet_step_place(b: *const u8, bn: usize, s: *const u8, sn: usize, start: usize, c: *mut u8, cn: usize) -> u64;
 }
 
 /// Each call but the text under a number comes in two makes: one gives the number, the other the place.
@@ -110,4 +114,24 @@ pub fn page(make: Make, book: &mut Lent, text: &mut Lent, listing: &mut Lent, pa
 pub fn text_under(book: &mut Lent, text: &mut Lent, listing: &mut Lent, index: usize) -> u64 {
     let (bn, tn, ln) = (book.length, text.length, listing.length);
     unsafe { meadowsink_text_under(book.lent(), bn, text.lent(), tn, listing.lent(), ln, index) }
+}
+
+/// A whole sheet: chart and summary are written.
+pub fn sheet(make: Make, book: &mut Lent, sheet: &mut Lent, chart: &mut Lent, summary: &mut Lent) -> u64 {
+    let (bn, sn, cn, mn) = (book.length, sheet.length, chart.length, summary.length);
+    let (b, s, c, m) = (book.lent(), sheet.lent(), chart.lent(), summary.lent());
+    match make {
+        Make::Number => unsafe { meadowsink_sheet(b, bn, s, sn, c, cn, m, mn) },
+        Make::Place => unsafe { meadowsink_sheet_place(b, bn, s, sn, c, cn, m, mn) },
+    }
+}
+
+/// One step of a walker: the chart is written.
+pub fn sheet_step(make: Make, book: &mut Lent, sheet: &mut Lent, start: usize, chart: &mut Lent) -> u64 {
+    let (bn, sn, cn) = (book.length, sheet.length, chart.length);
+    let (b, s, c) = (book.lent(), sheet.lent(), chart.lent());
+    match make {
+        Make::Number => unsafe { meadowsink_sheet_step(b, bn, s, sn, start, c, cn) },
+        Make::Place => unsafe { meadowsink_sheet_step_place(b, bn, s, sn, start, c, cn) },
+    }
 }

@@ -6,7 +6,9 @@
 //! book with its buffer, and right, cut, changed and random listings: their check, their page for the binder with its
 //! buffer, and the part of the text under a number. A book with groups is also compared with the book that has each pair
 //! spelled out, if that has no more than 255 declarations. A book with ranges of two characters or more, accepted or refused,
-//! is also compared with the same book with some of its ranges turned round, or all of them.
+//! is also compared with the same book with some of its ranges turned round, or all of them. Sheets are compared whole and
+//! line by line: the count of lines, every byte of chart and summary, a walker's steps from line to line and from any start,
+//! and each line read alone.
 //!
 //! The proved parser fills a chart by columns with counts that stop at 2. This program has neither a column nor a chart
 //! that is filled in order. It has two other methods, checked against each other on all small cases:
@@ -35,8 +37,11 @@ mod crosscheck;
 mod fixed;
 mod fixed_clashes;
 mod fixed_groups;
+mod fixed_limits;
 mod fixed_pages;
 mod fixed_ranges;
+mod fixed_sheets;
+mod fixed_steps;
 mod fixed_turned;
 mod flat;
 mod group_plans;
@@ -53,6 +58,11 @@ mod range_plans;
 mod ranges;
 mod ranks;
 mod reading;
+mod sheet_calls;
+mod sheet_cases;
+mod sheet_notes;
+mod sheet_plans;
+mod sheets;
 mod tally;
 mod texts;
 mod trees;
@@ -86,7 +96,8 @@ fn random_case(case: &Case, dice: &mut Dice, tally: &mut Tally) -> Result<(), Mi
     ranges::note(case, &study, tally);
     all_calls(case, &study, dice, tally)?;
     groups::same_answers(case, &study, "spelled out", dice, tally)?;
-    turned::same_answers(case, &study, "turned", dice, tally)
+    turned::same_answers(case, &study, "turned", dice, tally)?;
+    sheet_cases::perhaps(case, &study, dice, tally)
 }
 
 fn decimals(bytes: &[u8]) -> String {

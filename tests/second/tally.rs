@@ -4,6 +4,77 @@ use crate::cases::Case;
 use crate::reading::Study;
 use std::collections::BTreeMap;
 
+/// Refusals by these numbers.
+fn refusals(numbers: &[u64]) -> Vec<String> {
+    numbers.iter().map(|n| format!("refused {n}")).collect()
+}
+
+/// Other kinds, by their names.
+fn words(list: &[&str]) -> Vec<String> {
+    list.iter().map(|w| w.to_string()).collect()
+}
+
+/// Kinds of answers, books, texts and trees.
+fn of_calls() -> Vec<(&'static str, Vec<String>)> {
+    vec![
+        ("read", words(&["none", "one", "several"])),
+        ("read", refusals(&[1, 2, 3, 4, 5, 7, 8, 9, 10, 20, 22])),
+        ("text", words(&["0 bytes", "1 to 12 bytes", "13 to 40 bytes", "41 to 199 bytes", "200 bytes", "over 200 bytes"])),
+        ("accepted book", words(&["32 sorts", "64 rules", "64 classes", "255 declarations", "8 arguments", "16 ranges"])),
+        ("trees", words(&["none", "one", "one, looped", "none, looped", "several", "at least 0", "at least 1"])),
+        ("check", words(&["accepted"])),
+        ("check", refusals(&[1, 2, 3, 4, 5, 7, 8, 9])),
+        ("conflict", words(&["no", "yes"])),
+        ("conflict", refusals(&[1, 2, 3, 4, 5, 7, 8, 9])),
+        ("flat", words(&["written"])),
+        ("flat", refusals(&[1, 2, 3, 4, 5, 7, 8, 9, 21])),
+        ("check_listing", words(&["right", "wrong"])),
+        ("check_listing", refusals(&[1, 2, 3, 4, 5, 7, 8, 9, 10, 11])),
+        ("page", words(&["written"])),
+        ("page", refusals(&[1, 2, 3, 4, 5, 7, 8, 9, 10, 11, 23, 24])),
+        ("page with", words(&["an empty text in the middle", "a text over 54 bytes", "a byte as a full stop", "a depth of 100 or more"])),
+        ("text_under", words(&["some bytes", "empty", "beyond the listing"])),
+        ("text_under", refusals(&[1, 2, 3, 4, 5, 7, 8, 9, 10, 11, 23])),
+    ]
+}
+
+/// Kinds of groups and ranges.
+fn of_books() -> Vec<(&'static str, Vec<String>)> {
+    vec![
+        ("groups", words(&["kind 5", "kind 6", "kind 7", "one rule", "all rules", "all of 64 rules", "255 groups"])),
+        ("groups", words(&["overlapping", "kind 1 on a pair of it", "kinds 2 to 4 on a pair of it", "clashes by groups alone"])),
+        ("groups", words(&["refused, kind 5 falling", "refused, kind 6 falling", "refused, kind 7 falling"])),
+        ("groups", words(&["refused, kind 0", "refused, kind 8", "refused, first is no rule", "refused, second is no rule"])),
+        ("spelled out", words(&["clash yes", "clash no", "flat", "read none", "read one", "read several", "past 255"])),
+        ("spelled out", words(&["a right listing"])),
+        ("ranges", words(&["books with a downward one", "downward, none upward", "downward and upward"])),
+        ("ranges", words(&["255-0", "down to 0", "down from 255", "downward, alone in a class", "downward, among 16"])),
+        ("ranges", words(&["one character", "downward, two characters", "downward, more characters"])),
+        ("ranges", words(&["touching an upward one", "overlapping an upward one", "one away from an upward one"])),
+        ("ranges", words(&["read none", "read one", "read several"])),
+        ("ranges", words(&["read one, inside", "read several, inside", "read none, just outside"])),
+        ("ranges", refusals(&[5, 7, 8, 9, 10])),
+        ("turned", words(&["every range", "some ranges", "none downward any more", "none upward any more"])),
+        ("turned", words(&["clash yes", "clash no", "flat", "read none", "read one", "read several", "a right listing"])),
+        ("turned", words(&["read refused 20", "read refused 22"])),
+        ("turned", refusals(&[5, 7, 8, 9])),
+    ]
+}
+
+/// Kinds of sheets, their lines, and a walker's steps.
+fn of_sheets() -> Vec<(&'static str, Vec<String>)> {
+    vec![
+        ("sheet", words(&["accepted", "line none", "line one", "line several", "line refused 10", "line refused 20"])),
+        ("sheet", refusals(&[1, 2, 3, 4, 5, 7, 8, 9, 25, 26])),
+        ("sheet with", words(&["no line", "over 255 lines", "a last feed", "no last feed", "an empty line", "a feed in a class"])),
+        ("sheet with", words(&["a chart for some lines", "read behind refused", "refused behind read"])),
+        ("sheet with", words(&["shorter behind longer", "longer behind shorter", "an exact summary", "a longer summary"])),
+        ("sheet_step", words(&["a line, byte 0", "a line, byte 1", "a line, byte 2", "a line, byte 3", "no line left"])),
+        ("sheet_step", words(&["a line's start", "inside a line", "on a feed", "an empty line", "at the end", "past the end"])),
+        ("sheet_step", refusals(&[1, 2, 3, 4, 5, 7, 8, 9, 25])),
+    ]
+}
+
 pub struct Tally {
     met: BTreeMap<(&'static str, String), u64>,
 }
@@ -51,46 +122,8 @@ impl Tally {
 
     /// Every kind of answer that a long run must meet.
     fn wanted() -> Vec<(&'static str, String)> {
-        let refusals = |numbers: &[u64]| numbers.iter().map(|n| format!("refused {n}")).collect::<Vec<_>>();
-        let words = |list: &[&str]| list.iter().map(|w| w.to_string()).collect::<Vec<_>>();
-        let lists = vec![
-            ("read", words(&["none", "one", "several"])),
-            ("read", refusals(&[1, 2, 3, 4, 5, 7, 8, 9, 10, 20, 22])),
-            ("text", words(&["0 bytes", "1 to 12 bytes", "13 to 40 bytes", "41 to 199 bytes", "200 bytes", "over 200 bytes"])),
-            ("accepted book", words(&["32 sorts", "64 rules", "64 classes", "255 declarations", "8 arguments", "16 ranges"])),
-            ("trees", words(&["none", "one", "one, looped", "none, looped", "several", "at least 0", "at least 1"])),
-            ("check", words(&["accepted"])),
-            ("check", refusals(&[1, 2, 3, 4, 5, 7, 8, 9])),
-            ("conflict", words(&["no", "yes"])),
-            ("conflict", refusals(&[1, 2, 3, 4, 5, 7, 8, 9])),
-            ("flat", words(&["written"])),
-            ("flat", refusals(&[1, 2, 3, 4, 5, 7, 8, 9, 21])),
-            ("check_listing", words(&["right", "wrong"])),
-            ("check_listing", refusals(&[1, 2, 3, 4, 5, 7, 8, 9, 10, 11])),
-            ("page", words(&["written"])),
-            ("page", refusals(&[1, 2, 3, 4, 5, 7, 8, 9, 10, 11, 23, 24])),
-            ("page with", words(&["an empty text in the middle", "a text over 54 bytes", "a byte as a full stop", "a depth of 100 or more"])),
-            ("text_under", words(&["some bytes", "empty", "beyond the listing"])),
-            ("text_under", refusals(&[1, 2, 3, 4, 5, 7, 8, 9, 10, 11, 23])),
-            ("groups", words(&["kind 5", "kind 6", "kind 7", "one rule", "all rules", "all of 64 rules", "255 groups"])),
-            ("groups", words(&["overlapping", "kind 1 on a pair of it", "kinds 2 to 4 on a pair of it", "clashes by groups alone"])),
-            ("groups", words(&["refused, kind 5 falling", "refused, kind 6 falling", "refused, kind 7 falling"])),
-            ("groups", words(&["refused, kind 0", "refused, kind 8", "refused, first is no rule", "refused, second is no rule"])),
-            ("spelled out", words(&["clash yes", "clash no", "flat", "read none", "read one", "read several", "past 255"])),
-            ("spelled out", words(&["a right listing"])),
-            ("ranges", words(&["books with a downward one", "downward, none upward", "downward and upward"])),
-            ("ranges", words(&["255-0", "down to 0", "down from 255", "downward, alone in a class", "downward, among 16"])),
-            ("ranges", words(&["one character", "downward, two characters", "downward, more characters"])),
-            ("ranges", words(&["touching an upward one", "overlapping an upward one", "one away from an upward one"])),
-            ("ranges", words(&["read none", "read one", "read several"])),
-            ("ranges", words(&["read one, inside", "read several, inside", "read none, just outside"])),
-            ("ranges", refusals(&[5, 7, 8, 9, 10])),
-            ("turned", words(&["every range", "some ranges", "none downward any more", "none upward any more"])),
-            ("turned", words(&["clash yes", "clash no", "flat", "read none", "read one", "read several", "a right listing"])),
-            ("turned", words(&["read refused 20", "read refused 22"])),
-            ("turned", refusals(&[5, 7, 8, 9])),
-        ];
-        lists.into_iter().flat_map(|(call, kinds)| kinds.into_iter().map(move |k| (call, k))).collect()
+        let lists = [of_calls(), of_books(), of_sheets()];
+        lists.into_iter().flatten().flat_map(|(call, kinds)| kinds.into_iter().map(move |k| (call, k))).collect()
     }
 
     /// The kinds that were never met.

@@ -1,10 +1,9 @@
 -- The calls for a sheet: their numbers fit, and they have one outcome for each input.
-use Prim.Native.Nat.{ℕ, _≤_, _<_}
+use Prim.Native.Nat.{ℕ}
 use mathlib.Core.List.{List}
 use mathlib.Core.Logic.{⊎-elim}
 use mathlib.Core.Path.{_≡_, refl, sym, _∙_, ap, ap₂}
 use native.Mathlib.Omega.{arith}
-use lib.ListN.{length}
 use Rattle.reply.proofs.AnswersLaws.{step-fits}
 use Rattle.reply.proofs.ReplyLaws.{answered-fits, refused-fits}
 use Rattle.reply.specs.Answers.{writeReply, stepReply, Near}

@@ -8,8 +8,8 @@ use native.Mathlib.Decide.{decLt}
 use native.Mathlib.Omega.{arith}
 use lib.Dec.{eqb, ltb}
 use lib.ListN.{length, getD, take, drop, length-drop, drop-of-length-le}
-use lib.Seq.{slice, drop-cons, drop-drop}
-use borrow.Author.Tests.{ltb-true, ltb-false, lt-ltb, le-ltb, eqb-true, eqb-false, eq-eqb, ne-eqb, not-true, not-false}
+use lib.Seq.{drop-cons, drop-drop}
+use borrow.Author.Tests.{ltb-true, ltb-false, not-true, not-false}
 use Rattle.common.proofs.ListLaws.{part-slice}
 use Rattle.common.specs.Lists.{All}
 use Rattle.sheet.specs.Lines.{lineFeed, inFront, lines, goesOn, beforeFeed, lineEnd, nextStart, lineAt}
