@@ -267,8 +267,9 @@ static void hide_progress(int *shown) {
 /* A chart that is long enough leaves only lines that are too long to be refused. */
 static void print_line(size_t number, uint64_t byte, size_t start) {
     static const char *const words[] = {"no reading", "one reading", "several readings", "refused, over 200 bytes"};
-    printf("%5zu  %-23s  ", number, words[byte]);
-    print_bytes(sheet.bytes + start, line_length(start));
+    size_t length = line_length(start);
+    printf(length == 0 ? "%5zu  %s" : "%5zu  %-23s  ", number, words[byte]);
+    print_bytes(sheet.bytes + start, length);
     putchar('\n');
 }
 

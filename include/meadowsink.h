@@ -16,7 +16,7 @@ extern "C" {
  * Areas. Each area is a pointer and a length in bytes. A `const` area is only read, and such areas may overlap one another; an area that is written must not
  * overlap any other. What it holds before a call doesn't matter. An area of length 0 may have any pointer, NULL too.
  *
- * Stack. Every call needs less than 2 MB of stack, and those that parse a text less than 512 KB, whatever the book and the text.
+ * Stack. Every call needs less than 2 MB of stack, and those that parse a text or the lines of a sheet less than 512 KB, whatever the book.
  *
  * Two calls to an operation. The first gives its answer, 4 * value + kind, where kind 3 is a refusal and the value its number. The second, whose name ends
  * in `_place`, takes the same areas, does the same to them, and gives the place of the refusal; it is 0 if nothing is refused, but 0 may also be a place.

@@ -120,6 +120,29 @@ pages() {
     run viewer --page "$here/books/ladder.book" "$(repeat 45 a)" | sed "s|$here/||"
 }
 
+# Empty, with and without a last line feed, empty lines, each answer, a line that is too long, and what is refused.
+sheets() {
+    echo '# sheets'
+    run viewer --sheet empty T.book
+    for lines in '8/4*2' '8/4*2\n' '\n' '\n\n' '8/4*2\n\n88\n8\n8/\n' '8\n8*8'; do
+        printf "$lines" > lines
+        printf '%s\n' "the lines $lines"
+        run viewer --sheet lines T.book
+    done
+    run viewer --sheet lines d.book
+    printf '8/4*2\n8/4\n%s\n%s\n' "$(repeat 200 8)" "$(repeat 201 8)" > lines
+    run viewer --sheet lines d.book
+    bytes 31 92 10 200 0 > lines
+    run viewer --sheet lines any.book
+    printf '\n\n' > lines
+    run viewer --sheet lines "$here/books/power.book" | sed "s|$here/||"
+    repeat 65535 8 > lines
+    run viewer --sheet lines T.book | cut -c 1-40
+    repeat 65536 8 > lines
+    run viewer --sheet lines T.book
+    run viewer --sheet lines empty
+}
+
 lengths() {
     echo '# long lines'
     answer arithmetic "12+(3*4-5)/6*$(repeat 187 7)"
@@ -177,12 +200,18 @@ misuse() {
     run viewer --page --names T.names
     run viewer --page T.book 8 8
     run viewer --flat --page T.book
+    run viewer --sheet
+    run viewer --sheet empty
+    run viewer --sheet missing T.book
+    run viewer --sheet empty T.book 8
+    run viewer --sheet empty --page T.book
     run viewer T.book 8 8
     run viewer missing 8
     run viewer . 8
     run viewer --names missing T.book 8
     repeat 65537 a > large
     run viewer large 8
+    run viewer --sheet large T.book
 }
 
 # The lines that the texts in books/ give as examples.
@@ -210,16 +239,18 @@ wrapper() {
     echo '# the wrapper'
     run wrapper
     run wrapper T.book ''
+    run wrapper T.book "$(printf '8\n\n8/4*2')" | tail -n 4
     run wrapper T.book "$(repeat 201 8)"
     run wrapper d.book '8/4*2'
     run wrapper b 8
     run wrapper empty 8
     run wrapper i.book ''
-    run wrapper loops.book '-1.5m' | tail -n 1
-    run wrapper any.book "$(printf '\303\251')" | tail -n 1
+    run wrapper loops.book '-1.5m' | tail -n 3
+    run wrapper any.book "$(printf '\303\251')" | tail -n 3
     run wrapper missing
-    run wrapper "$here/books/ladder.book" "$(repeat 200 a)" | tail -n 4 | cut -c 1-80
-    run wrapper "$here/books/power.book" '' | tail -n 1
+    run wrapper "$here/books/ladder.book" "$(repeat 200 a)" | tail -n 6 | cut -c 1-80
+    run wrapper "$here/books/power.book" '' | tail -n 2
+    run wrapper "$here/books/power.book" "$(printf '\n.')" | tail -n 3
 }
 
 everything() {
@@ -230,6 +261,7 @@ everything() {
     groups
     downwards
     pages
+    sheets
     lengths
     refusals
     misuse

@@ -1,5 +1,5 @@
 #!/bin/sh
-# Tests how much stack the library needs: makes each call in a process of its own with a stack of READ_STACK (the two calls that read) or CALL_STACK kilobytes,
+# Tests how much stack the library needs: makes each call in a process of its own with a stack of READ_STACK (the calls that read) or CALL_STACK kilobytes,
 # and all of them in a thread with THREAD_STACK kilobytes, on the books that need most. Each answer is compared, too.
 #
 #     stack.sh STACK-CALL STACK-THREAD BOOK-TOOL
@@ -56,6 +56,17 @@ reading() {
     both "$READ_STACK" 'kind 0 value 0' 0 read "$books/groups.book" 200
 }
 
+# The same as lines: a step's value is 4 * 201 + its byte, and 4 * 1 + 1 for the empty line.
+sheets() {
+    both "$READ_STACK" 'kind 1 value 2 bytes 1 1' 0 sheet "$books/ladder.book" 200
+    both "$READ_STACK" 'kind 1 value 2 bytes 1 1' 0 sheet "$books/deepest.book" 200
+    both "$READ_STACK" 'kind 1 value 2 bytes 1 1' 0 sheet "$books/power.book" 0
+    both "$READ_STACK" 'kind 1 value 2 bytes 0 0' 0 sheet "$books/groups.book" 200
+    both "$READ_STACK" 'kind 1 value 805' 0 sheet_step "$books/deepest.book" 200
+    both "$READ_STACK" 'kind 1 value 5' 0 sheet_step "$books/power.book" 0
+    both "$READ_STACK" 'kind 1 value 806' 0 sheet_step "$books/dense.book" 200
+}
+
 # The calls that are lent a listing: each one is checked, written as a page, and asked for the text under its last number.
 listing() { # SHAPE JUDGED PAGE PAGE-PLACE PART WORD..
     shape=$1
@@ -95,6 +106,7 @@ others() {
 }
 
 reading
+sheets
 listings
 others
 "$thread" "$books" "$dir" "$THREAD_STACK" || failures=$((failures + 1))

@@ -2,6 +2,8 @@
  * Makes one call of the library and prints its answer: tests/stack.sh runs it with a small stack.
  *
  *     stack_call read BOOK N             a text of N times a
+ *     stack_call sheet BOOK N            two lines of N times a
+ *     stack_call sheet_step BOOK N       the first of them
  *     stack_call check BOOK
  *     stack_call conflict BOOK P I Q
  *     stack_call flat BOOK
@@ -12,7 +14,7 @@
  * The numbers before the slash are repeated as long as they and those behind it fit 4,096 numbers.
  * With `_place` behind its name the operation's second call is made. The answer is printed as its kind and value, as the place, or as the part's start and
  * end; behind the kind and value of one reading stands how many levels of rules its listing has, and so for a listing that was lent. Behind those of a page
- * stands the depth on its last line.
+ * stands the depth on its last line, and behind those of a sheet the summary bytes of its two lines.
  */
 #include <stdio.h>
 #include <stdlib.h>
@@ -34,7 +36,7 @@ enum {
 };
 
 /* Nothing large is on this program's own stack. */
-static uint8_t book[book_limit], text[text_limit], chart[chart_limit], out[listing_limit], lines[line_length * checked_limit];
+static uint8_t book[book_limit], text[text_limit], two[2 * text_limit + 2], chart[chart_limit], out[listing_limit], lines[line_length * checked_limit];
 static size_t book_length, text_length;
 static int pending[listing_limit];
 
@@ -107,6 +109,32 @@ static void read_text(int place) {
     if (answer % 4 == 1) printf(" levels %zu", levels(answer / 4));
 }
 
+/* Each line has its line feed: without one an empty second line would be none. */
+static size_t fill_sheet(void) {
+    memcpy(two, text, text_length);
+    memcpy(two + text_length + 1, text, text_length);
+    two[text_length] = two[2 * text_length + 1] = '\n';
+    return 2 * text_length + 2;
+}
+
+static void sheet(int place) {
+    size_t length = fill_sheet();
+    if (place) {
+        print_place(meadowsink_sheet_place(book, book_length, two, length, chart, sizeof chart, out, 2));
+        return;
+    }
+    print_answer(meadowsink_sheet(book, book_length, two, length, chart, sizeof chart, out, 2));
+    printf(" bytes %d %d", out[0], out[1]);
+}
+
+static void step(int place) {
+    size_t length = fill_sheet();
+    if (place)
+        print_place(meadowsink_sheet_step_place(book, book_length, two, length, 0, chart, sizeof chart));
+    else
+        print_answer(meadowsink_sheet_step(book, book_length, two, length, 0, chart, sizeof chart));
+}
+
 static void check(int place) {
     printf(place ? "place %llu" : "number %llu", (unsigned long long)(place ? meadowsink_check_place(book, book_length) : meadowsink_check(book, book_length)));
 }
@@ -175,6 +203,12 @@ int main(int count, char **words) {
     } else if (strcmp(words[1], "read") == 0 && count == 4) {
         load_text(words[3]);
         read_text(place);
+    } else if (strcmp(words[1], "sheet") == 0 && count == 4) {
+        load_text(words[3]);
+        sheet(place);
+    } else if (strcmp(words[1], "sheet_step") == 0 && count == 4) {
+        load_text(words[3]);
+        step(place);
     } else if (count > 4) {
         load_text(words[3]);
         with_listing(words[1], place, fill_listing(count - 4, words + 4));

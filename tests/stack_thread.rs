@@ -7,7 +7,7 @@ mod library;
 #[allow(dead_code)]
 mod prng;
 
-use library::{check, check_listing, conflict, flat, page, read, text_under, Lent, Make};
+use library::{check, check_listing, conflict, flat, page, read, sheet, sheet_step, text_under, Lent, Make};
 use prng::Dice;
 use std::path::{Path, PathBuf};
 use std::{env, fs, process, thread};
@@ -63,6 +63,20 @@ impl Areas {
         self.expect("the numbers that read wrote", if expected % 4 == ONE { expected / 4 } else { place }, written);
     }
 
+    // Two lines, each `length` times a, that have one reading each; and a step, behind whose line the second starts.
+    fn expect_sheet(&mut self, path: PathBuf, length: usize) {
+        let line = [vec![b'a'; length], vec![b'\n']].concat();
+        let (mut book, mut lent) = (self.book(path), self.lend(&line.repeat(2)));
+        let (mut chart, mut summary) = (self.lend(&vec![0; CHART_BYTES]), self.lend(&[0, 0]));
+        let behind = 4 * line.len() as u64 + ONE;
+        for (make, lines, step) in [(Make::Number, 4 * 2 + WRITTEN, 4 * behind + ONE), (Make::Place, 0, 0)] {
+            self.expect("sheet", lines, sheet(make, &mut book, &mut lent, &mut chart, &mut summary));
+            self.expect("sheet_step", step, sheet_step(make, &mut book, &mut lent, 0, &mut chart));
+        }
+        self.expect("the bytes beside what sheet was lent", 1, (chart.sides_stayed() && summary.sides_stayed()) as u64);
+        self.expect("the summary", 1, (summary.contents() == [1, 1]) as u64);
+    }
+
     // Numbers that go down, as often as they fit, and those that end the tree: the last has the whole text.
     fn expect_listing(&mut self, path: PathBuf, text: &[u8], down: &[u16], end: &[u16]) {
         let numbers = [down.repeat((CHECKED_NUMBERS - end.len()) / down.len()), end.to_vec()].concat();
@@ -95,6 +109,8 @@ fn make_calls(books: &Path, others: &Path) -> usize {
     areas.expect_reading(books.join("ladder.book"), 200, 4 * 18_204 + ONE, 0);
     areas.expect_reading(books.join("deepest.book"), 200, 4 * 19_094 + ONE, 0);
     areas.expect_reading(books.join("power.book"), 0, 4 * 22 + REFUSED, LISTING_BYTES as u64 / 2);
+    areas.expect_sheet(books.join("deepest.book"), 200);
+    areas.expect_sheet(books.join("power.book"), 0);
     areas.expect_listing(others.join("loop.book"), b"", &[258], &[259]);
     areas.expect_listing(others.join("letter.book"), b"a", &[258], &[259, 97]);
     areas.expect_listing(others.join("last.book"), b"a", &[258, 260, 260, 260, 260, 260, 260, 260], &[259, 97]);

@@ -1,9 +1,10 @@
-// Each call of the wrapper once: checks a book, writes its flat book, reads a line, checks the listing, writes its page, and takes parts of the line.
+// Each call of the wrapper once: checks a book, writes its flat book, reads a line, checks the listing, writes its page, takes parts of the line, and reads it as
+// a sheet, at once and step by step.
 //
 //     wrapper [BOOK [LINE]]    book T and the line 8/4*2 if nothing is said
 mod meadowsink;
 
-use meadowsink::{Answer, Conflict, Judgement, Verdict, Written};
+use meadowsink::{Answer, Conflict, Judgement, Step, Summary, Verdict, Written};
 use std::ffi::OsString;
 use std::os::unix::ffi::OsStrExt;
 use std::{env, fs, process};
@@ -47,6 +48,19 @@ fn print_parts(book: &[u8], line: &[u8], listing: &[u16]) {
     println!("under number 0: \"{}\", under number {last}: \"{}\"", parts[0].escape_ascii(), parts[1].escape_ascii());
 }
 
+fn print_sheet(book: &[u8], sheet: &[u8]) {
+    match meadowsink::sheet(book, sheet, &mut Vec::new()) {
+        Summary::Lines(answers) => println!("sheet: {answers:?}"),
+        Summary::Refused { number, place } => println!("sheet: refused {number} {place}"),
+    }
+    for step in meadowsink::walk(book, sheet, 0) {
+        match step {
+            Step::Line { line, answer } => println!("step: {answer:?} \"{}\"", line.escape_ascii()),
+            Step::Refused { number, place } => println!("step: refused {number} {place}"),
+        }
+    }
+}
+
 fn print_written(what: &str, written: Written) {
     match written {
         Written::Text(text) => print!("{what}:\n{text}"),
@@ -72,6 +86,8 @@ fn main() {
             process::exit(2)
         }),
     };
+    let line = words.get(1).map_or(LINE.as_bytes(), |line| line.as_bytes());
     print_book(&book);
-    print_reading(&book, words.get(1).map_or(LINE.as_bytes(), |line| line.as_bytes()));
+    print_reading(&book, line);
+    print_sheet(&book, line);
 }

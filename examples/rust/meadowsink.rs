@@ -34,6 +34,29 @@ pub enum Answer {
     Refused { number: u64, place: u64 },
 }
 
+/// How many parses a line of a sheet has. Refused are lines of more than 200 bytes.
+#[derive(Clone, Copy, Debug, PartialEq)]
+pub enum LineAnswer {
+    None,
+    One,
+    Several,
+    Refused,
+}
+
+/// What the lines of a sheet have, each.
+#[derive(Debug, PartialEq)]
+pub enum Summary {
+    Lines(Vec<LineAnswer>),
+    Refused { number: u64, place: u64 },
+}
+
+/// A step down a sheet: a line, which is a part of the sheet that was lent, and its answer; or that the book or the sheet is refused.
+#[derive(Debug, PartialEq)]
+pub enum Step<'a> {
+    Line { line: &'a [u8], answer: LineAnswer },
+    Refused { number: u64, place: u64 },
+}
+
 /// Whether numbers are the listing of a parse, or which is the first that is wrong.
 #[derive(Debug, PartialEq)]
 pub enum Judgement {
@@ -46,6 +69,7 @@ const CHART_SHORT: u64 = 20;
 const FLAT_SHORT: u64 = 21;
 const PAGE_SHORT: u64 = 24;
 const LISTING_BYTES: usize = 65_536; // the library writes no longer listing
+const TEXT_LIMIT: usize = 200; // nor does it read a longer text
 
 // ---- the calls in C, each by the slices it takes
 
@@ -54,6 +78,7 @@ type OfRules = unsafe extern "C" fn(*const u8, usize, usize, usize, usize) -> u6
 type OfFlat = unsafe extern "C" fn(*const u8, usize, *mut u8, usize) -> u64;
 type OfListing = unsafe extern "C" fn(*const u8, usize, *const u8, usize, *const u8, usize) -> u64;
 type OfPage = unsafe extern "C" fn(*const u8, usize, *const u8, usize, *const u8, usize, *mut u8, usize) -> u64;
+type OfStep = unsafe extern "C" fn(*const u8, usize, *const u8, usize, usize, *mut u8, usize) -> u64;
 type OfText = unsafe extern "C" fn(*const u8, usize, *const u8, usize, *mut u8, usize, *mut u8, usize) -> u64;
 
 extern "C" {
@@ -69,6 +94,10 @@ extern "C" {
     fn meadowsink_check_listing_place(book: *const u8, n: usize, text: *const u8, t: usize, listing: *const u8, l: usize) -> u64;
     fn meadowsink_page(book: *const u8, n: usize, text: *const u8, t: usize, listing: *const u8, l: usize, page: *mut u8, p: usize) -> u64;
     fn meadowsink_page_place(book: *const u8, n: usize, text: *const u8, t: usize, listing: *const u8, l: usize, page: *mut u8, p: usize) -> u64;
+    fn meadowsink_sheet(book: *const u8, n: usize, sheet: *const u8, s: usize, chart: *mut u8, c: usize, summary: *mut u8, m: usize) -> u64;
+    fn meadowsink_sheet_place(book: *const u8, n: usize, sheet: *const u8, s: usize, chart: *mut u8, c: usize, summary: *mut u8, m: usize) -> u64;
+    fn meadowsink_sheet_step(book: *const u8, n: usize, sheet: *const u8, s: usize, start: usize, chart: *mut u8, c: usize) -> u64;
+    fn meadowsink_sheet_step_place(book: *const u8, n: usize, sheet: *const u8, s: usize, start: usize, chart: *mut u8, c: usize) -> u64;
     fn meadowsink_text_under(book: *const u8, n: usize, text: *const u8, t: usize, listing: *const u8, l: usize, index: usize) -> u64;
 }
 
@@ -98,6 +127,11 @@ fn call_number(book: &[u8], text: &[u8], listing: &[u8], index: usize) -> u64 {
     unsafe { meadowsink_text_under(book.as_ptr(), book.len(), text.as_ptr(), text.len(), listing.as_ptr(), listing.len(), index) }
 }
 
+fn call_step(operation: OfStep, book: &[u8], sheet: &[u8], start: usize, chart: &mut [u8]) -> u64 {
+    unsafe { operation(book.as_ptr(), book.len(), sheet.as_ptr(), sheet.len(), start, chart.as_mut_ptr(), chart.len()) }
+}
+
+// A text with its listing, or a sheet with its summary.
 fn call_text(operation: OfText, book: &[u8], text: &[u8], chart: &mut [u8], listing: &mut [u8]) -> u64 {
     unsafe { operation(book.as_ptr(), book.len(), text.as_ptr(), text.len(), chart.as_mut_ptr(), chart.len(), listing.as_mut_ptr(), listing.len()) }
 }
@@ -165,6 +199,73 @@ pub fn text_under<'a>(book: &[u8], text: &'a [u8], listing: &[u16], index: usize
     let places = call_number(book, text, &to_bytes(listing), index) as usize;
     &text[places / 256..places % 256]
 }
+
+// ---- sheets
+
+/// Reads the lines of a sheet, each by itself. The chart is room to work in, as for `read`.
+pub fn sheet(book: &[u8], sheet: &[u8], chart: &mut Vec<u8>) -> Summary {
+    grow_chart(book, sheet, chart);
+    let mut summary = vec![0; sheet.len()];
+    match split(call_text(meadowsink_sheet, book, sheet, chart, &mut summary)) {
+        (1, lines) => Summary::Lines(summary[..lines as usize].iter().map(|&byte| line_answer(byte.into())).collect()),
+        (_, number) => Summary::Refused { number, place: call_text(meadowsink_sheet_place, book, sheet, chart, &mut summary) },
+    }
+}
+
+/// Goes down a sheet from a start, a line at a step; a start inside a line takes its rest as the line.
+pub fn walk<'a>(book: &'a [u8], sheet: &'a [u8], start: usize) -> Walker<'a> {
+    let mut chart = Vec::new();
+    grow_chart(book, sheet, &mut chart);
+    Walker { book, sheet, next: start, chart, refused: false }
+}
+
+/// The book, the sheet and where its next line starts. A refusal ends it.
+pub struct Walker<'a> {
+    book: &'a [u8],
+    sheet: &'a [u8],
+    next: usize,
+    chart: Vec<u8>,
+    refused: bool,
+}
+
+impl<'a> Iterator for Walker<'a> {
+    type Item = Step<'a>;
+
+    fn next(&mut self) -> Option<Step<'a>> {
+        if self.refused {
+            return None;
+        }
+        let start = self.next;
+        match split(call_step(meadowsink_sheet_step, self.book, self.sheet, start, &mut self.chart)) {
+            (0, _) => None,
+            (1, value) => {
+                self.next = (value / 4) as usize;
+                let line = self.sheet[start..].split(|&byte| byte == b'\n').next().unwrap_or_default();
+                Some(Step::Line { line, answer: line_answer(value % 4) })
+            }
+            (_, number) => {
+                self.refused = true;
+                Some(Step::Refused { number, place: call_step(meadowsink_sheet_step_place, self.book, self.sheet, start, &mut self.chart) })
+            }
+        }
+    }
+}
+
+// The longest line that is not over the limit needs most, and the library says how much.
+fn grow_chart(book: &[u8], sheet: &[u8], chart: &mut Vec<u8>) {
+    let lines = sheet.split(|&byte| byte == b'\n').filter(|line| line.len() <= TEXT_LIMIT);
+    let longest = lines.max_by_key(|line| line.len()).unwrap_or_default();
+    if split(call_text(meadowsink_read, book, longest, &mut [], &mut [])) == (3, CHART_SHORT) {
+        let needed = call_text(meadowsink_read_place, book, longest, &mut [], &mut []) as usize;
+        chart.resize(needed.max(chart.len()), 0);
+    }
+}
+
+fn line_answer(byte: u64) -> LineAnswer {
+    [LineAnswer::None, LineAnswer::One, LineAnswer::Several, LineAnswer::Refused][byte as usize]
+}
+
+// ---- bytes, and results
 
 // Two bytes a number, low byte first.
 fn to_bytes(listing: &[u16]) -> Vec<u8> {
