@@ -5,7 +5,7 @@ BUILD := build
 LIBRARY := target/staticlib/libmeadowsink.a
 RUSTC := rustc --edition 2021 -O
 LINK := -L target/staticlib -l static=meadowsink
-CASE_CRATES := grammar_cases conflict_cases flat_cases listing_cases page_cases
+CASE_CRATES := grammar_cases conflict_cases flat_cases listing_cases page_cases sheet_cases
 # how many random cases the second parser compares
 CASES := 100000
 MANY_CASES := 1000000

@@ -2,15 +2,17 @@
 // A case is five fields: the grammar, the text, the listing, the length of the page's buffer and the index, these two as numbers of up to three bytes, low byte first.
 // The buffer is filled with `#` before. Of a page of more than 20 lines the first and the last two are printed; behind a page comes a line with what the buffer
 // has beyond it, behind a refusal one with all that it has. Of a text, a byte outside 32 to 126 is printed as `\` and its number.
-use common::BYTE_VALUES;
-use common::wide;
 use libc::STDIN_FILENO;
 use libc::STDOUT_FILENO;
 use lines::LINE_LENGTH;
 use page::text_under;
 use page::write_page;
-use records::Field;
+use records::bytes_of;
 use records::field_at;
+use records::field_from;
+use records::number_of;
+use report::print_line;
+use report::print_quoted;
 use report::print_refusal;
 use report::print_start;
 use writing::WriteAnswer;
@@ -67,43 +69,6 @@ fn run_rest(input: &[u8], at: usize, book: &[u8], text: &[u8], listing: &[u8]) -
     index.end
 }
 
-// The field at `at`; an empty one where the input ends.
-fn field_from(input: &[u8], at: usize) -> Field
-    requires { ⌜ at ≤ length (now input) ⌝ }
-    ensures { λ r. ⌜ (at ≤ r .end) × (r .start ≤ r .end) × (r .end ≤ length (now (input .entry))) ⌝ }
-{
-    if at == input.len() {
-        return Field { start: at, end: at };
-    }
-    field_at(input, at)
-}
-
-// The bytes of a field.
-fn bytes_of<'a>(input: &'a [u8], field: Field) -> &'a [u8]
-    requires { ⌜ (field .start ≤ field .end) × (field .end ≤ length (now input)) ⌝ }
-{
-    let start = field.start;
-    let end = field.end;
-    &input[start..end]
-}
-
-// The number that a field has.
-fn number_of(input: &[u8], field: Field) -> usize
-    requires { ⌜ (field .start ≤ field .end) × (field .end ≤ length (now input)) ⌝ }
-{
-    let bytes = bytes_of(input, field);
-    wide(byte_at(bytes, 0))
-        + BYTE_VALUES * (wide(byte_at(bytes, 1)) + BYTE_VALUES * wide(byte_at(bytes, 2)))
-}
-
-// The byte at `at`; 0 behind the last one.
-fn byte_at(bytes: &[u8], at: usize) -> u8 {
-    if at < bytes.len() {
-        return bytes[at];
-    }
-    0
-}
-
 // ---- the page
 
 fn print_page(book: &[u8], text: &[u8], listing: &[u8], room: usize) {
@@ -151,11 +116,6 @@ fn print_lines(page: &[u8], n: usize)
     io::write_all(STDOUT_FILENO, &page[last..n]);
 }
 
-fn print_line(bytes: &[u8]) {
-    io::write_all(STDOUT_FILENO, bytes);
-    io::write_all(STDOUT_FILENO, b"\n");
-}
-
 // ---- the text under a number
 
 // Both parts of the text are held before either is printed.
@@ -164,30 +124,4 @@ fn print_texts(book: &[u8], text: &[u8], listing: &[u8], index: usize) {
     let other = text_under(book, text, listing, index);
     print_quoted(first);
     print_quoted(other);
-}
-
-fn print_quoted(bytes: &[u8]) {
-    io::write_all(STDOUT_FILENO, b"\"");
-    let mut at = 0;
-    while at < bytes.len() {
-        print_byte(bytes[at]);
-        at += 1;
-    }
-    io::write_all(STDOUT_FILENO, b"\"\n");
-}
-
-fn print_byte(byte: u8) {
-    if byte < b' ' {
-        return print_number(byte);
-    }
-    if b'~' < byte {
-        return print_number(byte);
-    }
-    let one = [byte; 1];
-    io::write_all(STDOUT_FILENO, &one);
-}
-
-fn print_number(byte: u8) {
-    io::write_all(STDOUT_FILENO, b"\\");
-    io::print_decimal(STDOUT_FILENO, byte as u64);
 }

@@ -16,3 +16,36 @@ pub fn print_refusal(number: usize, place: usize) {
     io::print_decimal(STDOUT_FILENO, place as u64);
     io::write_all(STDOUT_FILENO, b"\n");
 }
+
+// Bytes as they are, and a line feed.
+pub fn print_line(bytes: &[u8]) {
+    io::write_all(STDOUT_FILENO, bytes);
+    io::write_all(STDOUT_FILENO, b"\n");
+}
+
+// Bytes in quotes, and a line feed; a byte outside 32 to 126 as `\` and its number.
+pub fn print_quoted(bytes: &[u8]) {
+    io::write_all(STDOUT_FILENO, b"\"");
+    let mut at = 0;
+    while at < bytes.len() {
+        print_byte(bytes[at]);
+        at += 1;
+    }
+    io::write_all(STDOUT_FILENO, b"\"\n");
+}
+
+fn print_byte(byte: u8) {
+    if byte < b' ' {
+        return print_number(byte);
+    }
+    if b'~' < byte {
+        return print_number(byte);
+    }
+    let one = [byte; 1];
+    io::write_all(STDOUT_FILENO, &one);
+}
+
+fn print_number(byte: u8) {
+    io::write_all(STDOUT_FILENO, b"\\");
+    io::print_decimal(STDOUT_FILENO, byte as u64);
+}

@@ -3,8 +3,8 @@ use Prim.Native.Nat.{_-_, _≤_}
 use native.Mathlib.Omega.{arith}
 use lib.ListN.{length}
 use borrow.Author.Needs.{needs}
-use Rattle.page_cases.proofs.print_quoted.Statement.{statement}
-use Rattle.page_cases.proofs.print_quoted.Tie as tie
+use Rattle.report.proofs.print_quoted.Statement.{statement}
+use Rattle.report.proofs.print_quoted.Tie as tie
 
 abbrev Inv-loop : tie.InvT-loop
 Inv-loop bytes at₀ t4 at = at ≤ length bytes
