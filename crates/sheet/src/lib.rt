@@ -276,10 +276,10 @@ pub fn next_line<'s, 'a, 'b, 'c>(
 }
 
 // One step of a walker that begins at a place, for callers that keep the place themselves.
-pub fn walk_once(book: &[u8], sheet: &[u8], start: usize, chart: &mut [u8]) -> Stepped
-    ensures { λ r. ⌜ StepOutcome (now (book .entry)) (now (sheet .entry)) start (now (chart .entry)) (r .step) (r .next) (now (chart .exit)) ⌝ }
+pub fn walk_once(book: &[u8], sheet: &[u8], from: usize, chart: &mut [u8]) -> Stepped
+    ensures { λ r. ⌜ StepOutcome (now (book .entry)) (now (sheet .entry)) from (now (chart .entry)) (r .step) (r .next) (now (chart .exit)) ⌝ }
 {
-    let mut walker = walk_from(sheet, start);
+    let mut walker = walk_from(sheet, from);
     let step = next_line(&mut walker, book, chart);
     Stepped {
         step,
