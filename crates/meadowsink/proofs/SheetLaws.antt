@@ -11,10 +11,10 @@ use Rattle.reply.specs.Reply.{Fits}
 use Rattle.reply.specs.declared.Reply.{Reply}
 use Rattle.sheet.proofs.AnswerLaws.{sheet-refused-exactly, sheet-read-exactly, step-refused-exactly, step-line-says}
 use Rattle.sheet.proofs.LineLaws.{line-small}
-use Rattle.sheet.proofs.LinesLaws.{lines-few, next-within}
+use Rattle.split.proofs.LinesLaws.{lines-few, next-within}
 use Rattle.sheet.proofs.OutcomeLaws.{sheet-unique, step-unique}
 use Rattle.sheet.proofs.RefusalLaws.{refusal-none, refusal-number, sheet-room, sheet-refusal-number}
-use Rattle.sheet.specs.Lines.{lineAt}
+use Rattle.split.specs.Lines.{lineAt}
 use Rattle.sheet.specs.Outcome.{SheetOutcome, StepOutcome}
 use Rattle.sheet.specs.declared.Step.{Step}
 use Rattle.sheet.specs.declared.Step.the-variants.{End, Line, Refused}

@@ -13,9 +13,9 @@ use Rattle.grammar.specs.declared.Verdict.{Verdict}
 use Rattle.grammar.specs.declared.Verdict.the-variants.{Accepted, Refused as Rejected}
 use Rattle.priority.specs.Check.{checked}
 use Rattle.sheet.proofs.InTurnLaws.{turn-length}
-use Rattle.sheet.proofs.LinesLaws.{next-later, next-within, lines-at}
+use Rattle.split.proofs.LinesLaws.{next-later, next-within, lines-at}
 use Rattle.sheet.proofs.RefusalLaws.{refusal-grammar, refusal-long, refusal-number, refusal-none, sheet-refusal-first, sheet-refusal-few, sheet-refusal-number}
-use Rattle.sheet.specs.Lines.{lines, lineAt, nextStart}
+use Rattle.split.specs.Lines.{lines, lineAt, nextStart}
 use Rattle.sheet.specs.Outcome.{LineBy, InTurn, Summed, SheetIf, SheetOutcome, StepFrom, StepIf, StepOutcome}
 use Rattle.sheet.specs.Refusals.{sheetLimit, stepRefusal, sheetRefusal}
 use Rattle.sheet.specs.declared.Step.{Step}

@@ -1,11 +1,9 @@
 -- Laws of sheets.
-pub mod LinesLaws
 pub mod RefusalLaws
 pub mod LineLaws
 pub mod InTurnLaws
 pub mod SummedLaws
 pub mod OutcomeLaws
 pub mod AnswerLaws
-pub mod JoinedLaws
 pub mod WalkLaws
 pub mod TurnedLaws

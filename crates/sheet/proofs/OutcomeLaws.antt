@@ -10,7 +10,7 @@ use Rattle.grammar.specs.declared.Verdict.{Verdict}
 use Rattle.grammar.specs.declared.Verdict.the-variants.{Accepted, Refused as Rejected}
 use Rattle.sheet.proofs.LineLaws.{line-unique}
 use Rattle.sheet.proofs.SummedLaws.{summed-unique}
-use Rattle.sheet.specs.Lines.{lines, lineAt, nextStart}
+use Rattle.split.specs.Lines.{lines, lineAt, nextStart}
 use Rattle.sheet.specs.Outcome.{LineBy, Summed, SheetIf, SheetOutcome, StepFrom, StepIf, StepOutcome}
 use Rattle.sheet.specs.Refusals.{stepRefusal, sheetRefusal}
 use Rattle.sheet.specs.declared.Step.{Step}

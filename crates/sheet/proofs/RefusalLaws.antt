@@ -13,7 +13,7 @@ use Rattle.grammar.specs.declared.Verdict.{Verdict}
 use Rattle.grammar.specs.declared.Verdict.the-variants.{Accepted, Refused}
 use Rattle.priority.proofs.RefusalLaws.{checked-number}
 use Rattle.priority.specs.Check.{checked}
-use Rattle.sheet.specs.Lines.{lines}
+use Rattle.split.specs.Lines.{lines}
 use Rattle.sheet.specs.Refusals.{sheetLimit, sheetTooLong, summaryTooShort, stepRefusal, sheetRefusal}
 
 -- ---- 25

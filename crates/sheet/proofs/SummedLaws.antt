@@ -9,8 +9,8 @@ use lib.Seq.{sets}
 use Rattle.common.proofs.OverwrittenLaws.{sets-append, sets-front}
 use Rattle.common.specs.Lists.{overwritten, All}
 use Rattle.sheet.proofs.InTurnLaws.{turn-carried-of, turn-unique}
-use Rattle.sheet.proofs.LinesLaws.{next-within, lines-at, lines-end}
-use Rattle.sheet.specs.Lines.{lines, lineAt, nextStart}
+use Rattle.split.proofs.LinesLaws.{next-within, lines-at, lines-end}
+use Rattle.split.specs.Lines.{lines, lineAt, nextStart}
 use Rattle.sheet.specs.Outcome.{InTurn, Summed}
 
 -- one more byte behind those written

@@ -15,7 +15,7 @@ use Rattle.parse.specs.Outcome.{readingBy, tooShort}
 use Rattle.priority.proofs.TurnedLaws.{turned-checked}
 use Rattle.sheet.proofs.InTurnLaws.{turn-carried}
 use Rattle.sheet.proofs.LineLaws.{line-same}
-use Rattle.sheet.specs.Lines.{lines, lineAt}
+use Rattle.split.specs.Lines.{lines, lineAt}
 use Rattle.sheet.specs.Outcome.{LineRead, LineBy, Summed, SheetIf, SheetOutcome, StepFrom, StepIf, StepOutcome}
 use Rattle.sheet.specs.Refusals.{sheetTooLong, summaryTooShort, stepRefusal, sheetRefusal}
 use Rattle.sheet.specs.declared.Step.{Step}

@@ -11,9 +11,9 @@ use Rattle.grammar.specs.declared.Verdict.the-variants.{Accepted}
 use Rattle.sheet.proofs.AnswerLaws.{sheet-read-exactly, sheet-in-turn, step-end-exactly, step-line-says, step-line-comes, step-stays}
 use Rattle.sheet.proofs.InTurnLaws.{turn-length, turn-unique}
 use Rattle.sheet.proofs.LineLaws.{line-unique}
-use Rattle.sheet.proofs.LinesLaws.{lines-at, lines-end}
+use Rattle.split.proofs.LinesLaws.{lines-at, lines-end}
 use Rattle.sheet.proofs.RefusalLaws.{sheet-room}
-use Rattle.sheet.specs.Lines.{lines, lineAt, nextStart}
+use Rattle.split.specs.Lines.{lines, lineAt, nextStart}
 use Rattle.sheet.specs.Outcome.{LineBy, InTurn, SheetOutcome, StepOutcome}
 use Rattle.sheet.specs.Refusals.{stepRefusal}
 use Rattle.sheet.specs.Walk.{Steps, given}

@@ -15,7 +15,7 @@ use Rattle.grammar.specs.Verdict.{inOrder}
 use Rattle.grammar.specs.declared.Verdict.{Verdict}
 use Rattle.grammar.specs.declared.Verdict.the-variants.{Accepted, Refused as Rejected}
 use Rattle.parse.specs.Outcome.{tooShort, readingBy}
-use Rattle.sheet.specs.Lines.{lines, lineAt, nextStart}
+use Rattle.split.specs.Lines.{lines, lineAt, nextStart}
 use Rattle.sheet.specs.Refusals.{stepRefusal, sheetRefusal}
 use Rattle.sheet.specs.declared.Step.{Step}
 use Rattle.sheet.specs.declared.Step.the-variants.{End, Line, Refused}

@@ -6,7 +6,7 @@ use lib.ListN.{length}
 use Rattle.grammar.specs.Verdict.{refuseIf, inOrder}
 use Rattle.grammar.specs.declared.Verdict.{Verdict}
 use Rattle.priority.specs.Check.{checked}
-use Rattle.sheet.specs.Lines.{lines}
+use Rattle.split.specs.Lines.{lines}
 
 -- most bytes of a sheet
 abbrev pub sheetLimit : ℕ

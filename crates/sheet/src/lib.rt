@@ -7,21 +7,21 @@ use parse::parse_accepted;
 use prepare::prepare;
 use prepare::zero_prepared;
 use priority::check_grammar;
+use split::behind;
+use split::count_lines;
+use split::line_end;
 use tables::zero_tables;
 use writing::WriteAnswer;
 ghost use mathlib.Core.Path.{_≡_};
-ghost use Prim.Native.Nat.{suc, min, _≤_};
+ghost use Prim.Native.Nat.{_≤_};
 ghost use lib.Dec.{ltb};
 ghost use lib.ListN.{length};
 ghost use Rattle.grammar.specs.Formed.{WellFormed};
 ghost use Rattle.prepare.specs.Prepared.{Prepared};
 ghost use Rattle.tables.specs.Layout.{ParserTables};
-ghost use Rattle.sheet.specs.Lines.{lines, goesOn, lineEnd};
+ghost use Rattle.split.specs.Lines.{lines};
 ghost use Rattle.sheet.specs.Refusals.{stepRefusal, sheetRefusal};
 ghost use Rattle.sheet.specs.Outcome.{byteOf, TablesLine, Summed, LineBy, SheetOutcome, StepFrom, StepOutcome};
-
-// The byte that ends a line.
-const LINE_FEED: u8 = 10;
 
 // Most bytes of a sheet.
 const SHEET_LIMIT: usize = 65535;
@@ -46,53 +46,6 @@ pub struct Stepped {
 pub struct Walker<'a> {
     pub sheet: &'a [u8],
     pub next: usize,
-}
-
-// ---- lines
-
-// A line goes on at a place: the sheet has a byte there that is no line feed.
-fn goes_on(sheet: &[u8], at: usize) -> bool
-    ensures { λ r. ⌜ r ≡ goesOn (now (sheet .entry)) at ⌝ }
-{
-    if sheet.len() <= at {
-        return false;
-    }
-    sheet[at] != LINE_FEED
-}
-
-// Where the line that starts at a place ends: at its line feed, or at the end of the sheet.
-fn line_end(sheet: &[u8], start: usize) -> usize
-    requires { ⌜ start ≤ length (now sheet) ⌝ }
-    ensures { λ r. ⌜ (r ≡ lineEnd (now (sheet .entry)) start) × (start ≤ r) × (r ≤ length (now (sheet .entry))) ⌝ }
-{
-    let mut end = start;
-    while goes_on(sheet, end) {
-        end += 1;
-    }
-    end
-}
-
-// Where the line behind one that ends at a place starts.
-fn behind(sheet: &[u8], end: usize) -> usize
-    requires { ⌜ end ≤ length (now sheet) ⌝ }
-    ensures { λ r. ⌜ r ≡ min (suc end) (length (now (sheet .entry))) ⌝ }
-{
-    if end < sheet.len() {
-        return end + 1;
-    }
-    end
-}
-
-fn count_lines(sheet: &[u8]) -> usize
-    ensures { λ r. ⌜ r ≡ length (lines (now (sheet .entry))) ⌝ }
-{
-    let mut count = 0;
-    let mut start = 0;
-    while start < sheet.len() {
-        start = behind(sheet, line_end(sheet, start));
-        count += 1;
-    }
-    count
 }
 
 // ---- refusals

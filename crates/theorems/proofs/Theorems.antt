@@ -56,7 +56,7 @@ use Rattle.rows.proofs.RowsLaws.{row-number}
 use Rattle.rows.proofs.UnderLaws.{row-stands}
 use Rattle.rows.specs.declared.Row.{Row}
 use Rattle.sheet.proofs.AnswerLaws.{sheet-grammar, sheet-too-long, summary-too-short, sheet-numbers, sheet-unchanged, sheet-read-exactly, sheet-in-turn, sheet-beyond, step-grammar, step-too-long, step-numbers, step-no-line, step-stays, step-line-says, step-others}
-use Rattle.sheet.proofs.JoinedLaws.{lines-joined, lines-plain, lines-only}
+use Rattle.split.proofs.JoinedLaws.{lines-joined, lines-plain, lines-only}
 use Rattle.sheet.proofs.LineLaws.{line-alone}
 use Rattle.sheet.proofs.OutcomeLaws.{sheet-unique, step-unique}
 use Rattle.sheet.proofs.TurnedLaws.{turned-sheet, turned-step}

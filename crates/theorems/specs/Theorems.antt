@@ -71,8 +71,8 @@ use Rattle.question.specs.declared.ConflictAnswer.the-variants.{Yes, No, Refuse
 use Rattle.rows.specs.Rows.{noRow, rows}
 use Rattle.rows.specs.Under.{Stands}
 use Rattle.rows.specs.declared.Row.{Row}
-use Rattle.sheet.specs.Joined.{joinedLines, NoFeed, ended}
-use Rattle.sheet.specs.Lines.{lines, lineAt}
+use Rattle.split.specs.Joined.{joinedLines, NoFeed, ended}
+use Rattle.split.specs.Lines.{lines, lineAt}
 use Rattle.sheet.specs.Outcome.{byteOf, LineBy, InTurn, SheetOutcome, StepOutcome}
 use Rattle.sheet.specs.Walk.{Steps, given}
 use Rattle.sheet.specs.declared.Step.{Step}

@@ -5,7 +5,7 @@ use native.Mathlib.Omega.{arith}
 use lib.ListN.{getD}
 use Rattle.charset.specs.Set.{characters}
 use Rattle.sheet.proofs.LineLaws.{line-carried}
-use Rattle.sheet.proofs.LinesLaws.{lines-below}
+use Rattle.split.proofs.LinesLaws.{lines-below}
 use Rattle.sheet.proofs.SummedLaws.{summed-carried}
 use Rattle.sheet.specs.Outcome.{TablesLine, LineBy}
 use borrow.Author.Needs.{needs}

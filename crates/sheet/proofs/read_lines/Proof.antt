@@ -7,7 +7,7 @@ use lib.ListN.{length, length-set}
 use lib.Seq.{slice}
 use borrow.Author.Needs.{needs}
 use Rattle.common.proofs.ListLaws.{part-slice}
-use Rattle.sheet.proofs.LinesLaws.{next-behind, next-later}
+use Rattle.split.proofs.LinesLaws.{next-behind, next-later}
 use Rattle.sheet.proofs.SummedLaws.{SoFar, far-first, far-room, far-more, far-last}
 use Rattle.sheet.specs.Outcome.{TablesLine}
 use Rattle.sheet.proofs.read_lines.Statement.{statement}

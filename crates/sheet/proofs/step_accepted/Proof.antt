@@ -4,7 +4,7 @@ use mathlib.Core.Path.{_∙_, ap, subst}
 use mathlib.Core.List.{List}
 use lib.Seq.{slice}
 use Rattle.common.proofs.ListLaws.{part-slice}
-use Rattle.sheet.proofs.LinesLaws.{next-behind}
+use Rattle.split.proofs.LinesLaws.{next-behind}
 use Rattle.sheet.proofs.OutcomeLaws.{step-end, step-line}
 use Rattle.sheet.specs.Outcome.{LineBy}
 use borrow.Author.Needs.{needs}

@@ -2,9 +2,9 @@
 use Prim.Native.Nat.{_-_}
 use native.Mathlib.Omega.{arith}
 use lib.ListN.{length}
-use Rattle.sheet.proofs.LinesLaws.{next-behind, next-later, Counting, counting-first, counting-more, counting-last}
-use Rattle.sheet.proofs.count_lines.Statement.{statement}
-use Rattle.sheet.proofs.count_lines.Tie as tie
+use Rattle.split.proofs.LinesLaws.{next-behind, next-later, Counting, counting-first, counting-more, counting-last}
+use Rattle.split.proofs.count_lines.Statement.{statement}
+use Rattle.split.proofs.count_lines.Tie as tie
 
 abbrev Inv-loop : tie.InvT-loop
 Inv-loop sheet count₀ start₀ count start = Counting sheet count start

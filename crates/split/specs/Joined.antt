@@ -5,7 +5,7 @@ use mathlib.Core.Bool.{cond}
 use mathlib.Core.List.{List, [], _∷_, _++_}
 use lib.Dec.{eqb}
 use Rattle.common.specs.Lists.{joined, All}
-use Rattle.sheet.specs.Lines.{lineFeed}
+use Rattle.split.specs.Lines.{lineFeed}
 
 -- one behind the other, each ended by a line feed
 abbrev pub joinedLines : List (List ℕ) → List ℕ

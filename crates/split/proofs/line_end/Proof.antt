@@ -4,9 +4,9 @@ use mathlib.Core.Path.{sym, _∙_}
 use native.Mathlib.Omega.{arith}
 use lib.ListN.{length}
 use borrow.Author.Needs.{needs}
-use Rattle.sheet.proofs.LinesLaws.{goes-on-more, Ending, ending-first, ending-more, ending-last}
-use Rattle.sheet.proofs.line_end.Statement.{statement}
-use Rattle.sheet.proofs.line_end.Tie as tie
+use Rattle.split.proofs.LinesLaws.{goes-on-more, Ending, ending-first, ending-more, ending-last}
+use Rattle.split.proofs.line_end.Statement.{statement}
+use Rattle.split.proofs.line_end.Tie as tie
 
 abbrev Inv-loop : tie.InvT-loop
 Inv-loop sheet start end₀ end = Ending sheet start end

@@ -7,9 +7,9 @@ use lib.Dec.{eqb}
 use lib.ListN.{take, drop}
 use borrow.Author.Tests.{eqb-true, eqb-false, ne-eqb}
 use Rattle.common.specs.Lists.{joined, All}
-use Rattle.sheet.proofs.LinesLaws.{lines-first}
-use Rattle.sheet.specs.Joined.{joinedLines, NoFeed, ended}
-use Rattle.sheet.specs.Lines.{lineFeed, inFront, lines, beforeFeed}
+use Rattle.split.proofs.LinesLaws.{lines-first}
+use Rattle.split.specs.Joined.{joinedLines, NoFeed, ended}
+use Rattle.split.specs.Lines.{lineFeed, inFront, lines, beforeFeed}
 
 -- ---- joined they are the sheet
 

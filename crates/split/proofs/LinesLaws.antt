@@ -12,7 +12,7 @@ use lib.Seq.{drop-cons, drop-drop}
 use borrow.Author.Tests.{ltb-true, ltb-false, not-true, not-false}
 use Rattle.common.proofs.ListLaws.{part-slice}
 use Rattle.common.specs.Lists.{All}
-use Rattle.sheet.specs.Lines.{lineFeed, inFront, lines, goesOn, beforeFeed, lineEnd, nextStart, lineAt}
+use Rattle.split.specs.Lines.{lineFeed, inFront, lines, goesOn, beforeFeed, lineEnd, nextStart, lineAt}
 
 -- ---- bytes before a line feed
 

@@ -2,10 +2,10 @@
 use mathlib.Core.Path.{refl}
 use lib.ListN.{length}
 use borrow.Author.Tests.{lt-ltb, le-ltb}
-use Rattle.sheet.specs.Lines.{goesOn}
+use Rattle.split.specs.Lines.{goesOn}
 use borrow.Author.Needs.{needs}
-use Rattle.sheet.proofs.goes_on.Statement.{statement}
-use Rattle.sheet.proofs.goes_on.Tie as tie
+use Rattle.split.proofs.goes_on.Statement.{statement}
+use Rattle.split.proofs.goes_on.Tie as tie
 
 returns : tie.Need-returns
 unfolding goesOn

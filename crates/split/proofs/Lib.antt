@@ -1,0 +1,3 @@
+-- Laws of lines.
+pub mod LinesLaws
+pub mod JoinedLaws
