@@ -5,6 +5,7 @@
 // Both get the same bytes and fill the same chart, which holds garbage before; the charts are compared. Times are the best of several runs.
 mod pages;
 mod rival;
+mod sheets;
 mod texts;
 
 use std::time::{Duration, Instant};
@@ -138,5 +139,6 @@ fn main() {
     worst(&folder);
     fixed_cost(&folder);
     pages::pages(&folder);
+    sheets::sheets(&folder);
     println!("\n{over} of {} above {GOAL} times the rival", BENCHMARK.len() * 3);
 }
