@@ -109,7 +109,13 @@ fn char_args(text: &[u8], tables: &[u64], prepared: &[u8], i: usize, j: usize, a
     );
 }
 
-// One span: it is settled, its cells are stored, and its arguments are added to the sums of the starts before it.
+// A part of the text.
+struct Span {
+    start: usize,
+    end: usize,
+}
+
+// One span: it is settled, its cells are stored, and its arguments are added to the sums of the starts before it. A row to work in is lent.
 fn fill_span(
     chart: &mut [u8],
     text: &[u8],
@@ -117,25 +123,26 @@ fn fill_span(
     prepared: &[u8],
     sums: &mut [u8],
     live: &mut [u8],
-    i: usize,
-    j: usize,
+    inner: &mut [u8],
+    span: Span,
 )
     requires { ⌜ Ready (now tables) (now prepared) (now text) (now chart) (now sums) (now live) ⌝ }
-    requires { ⌜ (i < j) × (j ≤ length (now text)) ⌝ }
-    requires { ⌜ Small (now tables) (now text) (now chart) (now sums) j ⌝ }
-    ensures { λ _. ⌜ Further (now (tables .entry)) (now (prepared .entry)) (now (text .entry)) (now (chart .entry)) (now (sums .entry)) (now (live .entry)) (i + 1) j (now (chart .exit)) (now (sums .exit)) (now (live .exit)) i ⌝ }
-    ensures { λ _. ⌜ Small (now (tables .entry)) (now (text .entry)) (now (chart .exit)) (now (sums .exit)) j ⌝ }
+    requires { ⌜ (span .start < span .end) × (span .end ≤ length (now text)) × (length (now inner) ≡ rowLimit) ⌝ }
+    requires { ⌜ Small (now tables) (now text) (now chart) (now sums) (span .end) ⌝ }
+    ensures { λ _. ⌜ Further (now (tables .entry)) (now (prepared .entry)) (now (text .entry)) (now (chart .entry)) (now (sums .entry)) (now (live .entry)) (span .start + 1) (span .end) (now (chart .exit)) (now (sums .exit)) (now (live .exit)) (span .start) ⌝ }
+    ensures { λ _. ⌜ Small (now (tables .entry)) (now (text .entry)) (now (chart .exit)) (now (sums .exit)) (span .end) ⌝ }
 {
+    let i = span.start;
+    let j = span.end;
     if is_dead(live, i, j) {
         return;
     }
     let rows = row_count(tables);
-    let mut inner = zero_row();
-    sums_at(sums, rows, i, &mut inner);
+    sums_at(sums, rows, i, inner);
     let mut cells = zero_row();
     let mut args = zero_row();
     char_args(text, tables, prepared, i, j, &mut args);
-    settle_span(tables, prepared, &inner, &mut args, &mut cells);
+    settle_span(tables, prepared, inner, &mut args, &mut cells);
     store_cells(chart, text.len(), rows, i, j, &cells);
     add_splits(chart, text.len(), rows, i, &args, sums, live);
 }
@@ -156,10 +163,12 @@ fn fill_spans(
     ensures { λ _. ⌜ Further (now (tables .entry)) (now (prepared .entry)) (now (text .entry)) (now (chart .entry)) (now (sums .entry)) (now (live .entry)) j j (now (chart .exit)) (now (sums .exit)) (now (live .exit)) 0 ⌝ }
     ensures { λ _. ⌜ Small (now (tables .entry)) (now (text .entry)) (now (chart .exit)) (now (sums .exit)) j ⌝ }
 {
+    let mut inner = zero_row();
     let mut i = j;
     while 0 < i {
         i -= 1;
-        fill_span(chart, text, tables, prepared, sums, live, i, j);
+        let span = Span { start: i, end: j };
+        fill_span(chart, text, tables, prepared, sums, live, &mut inner, span);
     }
 }
 
