@@ -20,7 +20,7 @@ use Rattle.sheet.specs.Refusals.{sheetLimit}
 use Rattle.sheet.specs.declared.Step.{Step}
 use Rattle.sheet.specs.declared.Step.the-variants.{End, Line as LineRead, Refused as NotTaken}
 use Rattle.reply.proofs.ReplyLaws.{answered-fits, refused-fits}
-use Rattle.reply.specs.Answers.{byteLimit, conflictReply, writeReply, listingReply, readReply, stepReply, Near}
+use Rattle.reply.specs.Answers.{summaryValues, conflictReply, writeReply, listingReply, readReply, stepReply, Near}
 use Rattle.reply.specs.Reply.{valueLimit, Fits}
 
 -- the conflict question
@@ -64,8 +64,8 @@ pub near-line : (r : Step) (next v : ℕ) → r ≡ LineRead v → Near r next �
 unfolding Near
 near-line r next v e h = subst (λ (x : Step). Near x next) e h
 
-pub step-fits : (r : Step) (next : ℕ) → Near r next → ((v : ℕ) → r ≡ LineRead v → v < byteLimit) → ((n k : ℕ) → r ≡ NotTaken n k → n < valueLimit) → Fits (stepReply r next)
+pub step-fits : (r : Step) (next : ℕ) → Near r next → ((v : ℕ) → r ≡ LineRead v → v < summaryValues) → ((n k : ℕ) → r ≡ NotTaken n k → n < valueLimit) → Fits (stepReply r next)
 unfolding stepReply Near
 step-fits End next h small number = answered-fits 0 0 (omega arith) (omega arith)
-step-fits (LineRead v) next h small number = answered-fits 1 (byteLimit * next + v) (omega arith) (omega (arith, small v refl))
+step-fits (LineRead v) next h small number = answered-fits 1 (summaryValues * next + v) (omega arith) (omega (arith, small v refl))
 step-fits (NotTaken n k) next h small number = refused-fits n k (number n k refl)

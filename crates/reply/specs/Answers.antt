@@ -21,9 +21,9 @@ use Rattle.writing.specs.declared.WriteAnswer.the-variants.{Refused as NotWritt
 use Rattle.question.specs.declared.ConflictAnswer.the-variants.{Refused as NotAsked}
 use Rattle.listing.specs.declared.ListingAnswer.the-variants.{Refused as NotChecked}
 
--- summary bytes are below this
-abbrev pub byteLimit : ℕ
-byteLimit = 4
+-- how many values a summary byte has
+abbrev pub summaryValues : ℕ
+summaryValues = 4
 
 -- checking a grammar: 0 accepted
 unfoldable pub checkReply : Verdict → Reply
@@ -57,7 +57,7 @@ readReply (NotRead number place) = refused number place
 -- a step down a sheet: 0 no line is left, 1 a line, the value is 4 × where the next line starts + its summary byte
 unfoldable pub stepReply : Step → (next : ℕ) → Reply
 stepReply End next = answered 0 0
-stepReply (Line v) next = answered 1 (byteLimit * next + v)
+stepReply (Line v) next = answered 1 (summaryValues * next + v)
 stepReply (NotTaken number place) next = refused number place
 
 -- Where the next line starts, behind a line, is small enough for the value.

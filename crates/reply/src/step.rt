@@ -8,8 +8,8 @@ use sheet::Stepped;
 ghost use mathlib.Core.Path.{_≡_};
 ghost use Rattle.reply.specs.Answers.{stepReply, Near};
 
-// Summary bytes are below this.
-const BYTE_LIMIT: usize = 4;
+// How many values a summary byte has.
+const SUMMARY_VALUES: usize = 4;
 
 // Kind 0 is no line left, kind 1 a line; the value of a line is 4 × where the next one starts + its summary byte.
 pub fn step_reply(stepped: Stepped) -> Reply
@@ -20,7 +20,7 @@ pub fn step_reply(stepped: Stepped) -> Reply
     let next = stepped.next;
     match step {
         Step::End => answer(0, 0),
-        Step::Line(byte) => answer(1, BYTE_LIMIT * next + wide(byte)),
+        Step::Line(byte) => answer(1, SUMMARY_VALUES * next + wide(byte)),
         Step::Refused(number, place) => refusal(number, place),
     }
 }

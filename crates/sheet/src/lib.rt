@@ -26,6 +26,9 @@ ghost use Rattle.sheet.specs.Outcome.{byteOf, TablesLine, Summed, LineBy
 // Most bytes of a sheet.
 const SHEET_LIMIT: usize = 65535;
 
+// Bytes of a buffer that has room for no number: no listing is written.
+const NO_LISTING: usize = 1;
+
 // What a step down a sheet gives.
 pub enum Step {
     // No line is left.
@@ -85,7 +88,7 @@ fn check_summary(book: &[u8], sheet: &[u8], summary: &[u8]) -> Verdict
 
 // ---- a line
 
-// The summary byte of what reading a line answers.
+// The summary byte of what reading a line answers. By 22 there is one reading, whose listing has no room.
 fn summary_byte(answer: Answer) -> u8
     ensures { λ r. ⌜ r ≡ byteOf answer ⌝ }
 {
@@ -102,13 +105,13 @@ fn summary_byte(answer: Answer) -> u8
     }
 }
 
-// Reads a line by tables and what is prepared for them. Its listing has no room, so none is written.
+// Reads a line by tables and what is prepared for them.
 fn read_line(tables: &[u64], prepared: &[u8], line: &[u8], chart: &mut [u8]) -> u8
     requires { ⌜ ParserTables (now tables) ⌝ }
     requires { ⌜ Prepared (now tables) (now prepared) ⌝ }
     ensures { λ r. ⌜ TablesLine (now (tables .entry)) (now (line .entry)) (now (chart .entry)) r (now (chart .exit)) ⌝ }
 {
-    let mut listing = [0; 1];
+    let mut listing = [0; NO_LISTING];
     let answer = parse_prepared(tables, prepared, line, chart, &mut listing);
     summary_byte(answer)
 }
@@ -201,7 +204,7 @@ fn read_alone(book: &[u8], line: &[u8], chart: &mut [u8]) -> u8
     requires { ⌜ WellFormed (now book) ⌝ }
     ensures { λ r. ⌜ LineBy (now (book .entry)) (now (line .entry)) (now (chart .entry)) r (now (chart .exit)) ⌝ }
 {
-    let mut listing = [0; 1];
+    let mut listing = [0; NO_LISTING];
     let answer = parse_accepted(book, line, chart, &mut listing);
     summary_byte(answer)
 }

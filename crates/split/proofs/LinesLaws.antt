@@ -8,7 +8,7 @@ use native.Mathlib.Decide.{decLt}
 use native.Mathlib.Omega.{arith}
 use lib.Dec.{eqb, ltb}
 use lib.ListN.{length, getD, take, drop, length-drop, drop-of-length-le}
-use lib.Seq.{drop-cons, drop-drop}
+use lib.Seq.{slice, drop-cons, drop-drop}
 use borrow.Author.Tests.{ltb-true, ltb-false, not-true, not-false}
 use Rattle.common.proofs.ListLaws.{part-slice}
 use Rattle.common.specs.Lists.{All}
@@ -89,6 +89,10 @@ module _ (s : List ℕ) (start : ℕ) where
   pub next-within : nextStart s start ≤ length s
   next-within = omega (arith, next-is)
 
+  -- the part of the sheet up to its end is the line
+  pub line-part : (end : ℕ) → end ≡ lineEnd s start → start ≤ end → end ≤ length s → take (end - start) (drop start s) ≡ lineAt s start
+  line-part end e from within = part-slice s start end from within ∙ ap (λ (k : ℕ). slice start k s) e
+
   -- past the end there are none
   pub lines-end : length s ≤ start → lines (drop start s) ≡ []
   unfolding lines
@@ -110,7 +114,7 @@ module _ (s : List ℕ) (start : ℕ) where
       subst⁻¹ (λ (l : List ℕ). lines l ≡ take (beforeFeed l) l ∷ lines (drop (suc (beforeFeed l)) l)) (drop-cons s start 0 h) (lines-first (getD s start 0) (drop (suc start) s)) in
       let sizes : size ≡ lineEnd s start - start = omega (arith, end-is) in
       let part : take size (drop start s) ≡ lineAt s start =
-      ap (λ (k : ℕ). take k (drop start s)) sizes ∙ part-slice s start (lineEnd s start) (omega (arith, end-is)) (end-within (omega arith)) in
+      ap (λ (k : ℕ). take k (drop start s)) sizes ∙ line-part (lineEnd s start) refl (omega (arith, end-is)) (end-within (omega arith)) in
       first ∙ ap₂ (λ (w : List ℕ) (l : List ℕ). w ∷ lines l) part (rest-same (omega arith))
 
 -- ---- there are no more lines than bytes

@@ -1,13 +1,11 @@
 -- `read_lines` meets its contract: line by line the summary comes about.
 use Prim.Native.Nat.{ℕ, _-_}
-use mathlib.Core.Path.{_≡_, refl, _∙_, ap, subst}
+use mathlib.Core.Path.{_≡_, refl, _∙_, subst}
 use mathlib.Core.List.{List}
 use native.Mathlib.Omega.{arith}
 use lib.ListN.{length, length-set}
-use lib.Seq.{slice}
 use borrow.Author.Needs.{needs}
-use Rattle.common.proofs.ListLaws.{part-slice}
-use Rattle.split.proofs.LinesLaws.{next-behind, next-later}
+use Rattle.split.proofs.LinesLaws.{next-behind, next-later, line-part}
 use Rattle.sheet.proofs.SummedLaws.{SoFar, far-first, far-room, far-more, far-last}
 use Rattle.sheet.specs.Outcome.{TablesLine}
 use Rattle.sheet.proofs.read_lines.Statement.{statement}
@@ -67,7 +65,7 @@ loop-again c =
     let line = c .before .before .before .before .before .before .line-end in
     let next = next-behind (a .sheet .now) (turn .start) (line .result) (c .behind .result) (line .ensures .0) (c .behind .ensures) in
     let read = c .before .before .before .read-line in
-    let part = part-slice (a .sheet .now) (turn .start) (line .result) (line .ensures .1) (line .ensures .2) ∙ ap (λ (e : ℕ). slice (turn .start) e (a .sheet .now)) (line .ensures .0) in
+    let part = line-part (a .sheet .now) (turn .start) (line .result) (line .ensures .0) (line .ensures .1) (line .ensures .2) in
     let became = subst (λ (w : List ℕ). TablesLine (a .tables .now) w (turn .chart) (read .result) (read .last .1 .1 .1 .0)) part (read .ensures) in
     let more = far-more (TablesLine (a .tables .now)) (a .sheet .now) (a .chart .now) (a .summary .now) (turn .chart) (turn .summary) (turn .line) (turn .start) (turn .inv .0) (omega arith) (c .behind .result) next (read .result) (read .last .1 .1 .1 .0) became in
     (more, read .kept .1 .1 .1 .0 ∙ turn .inv .1, length-set (turn .summary) (turn .line) (read .result) ∙ turn .inv .2)

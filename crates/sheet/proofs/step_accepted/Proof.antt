@@ -1,10 +1,8 @@
 -- `step_accepted` meets its contract: no line is left, or the one that starts there is read.
 use Prim.Native.Nat.{ℕ}
-use mathlib.Core.Path.{_∙_, ap, subst}
+use mathlib.Core.Path.{subst}
 use mathlib.Core.List.{List}
-use lib.Seq.{slice}
-use Rattle.common.proofs.ListLaws.{part-slice}
-use Rattle.split.proofs.LinesLaws.{next-behind}
+use Rattle.split.proofs.LinesLaws.{next-behind, line-part}
 use Rattle.sheet.proofs.OutcomeLaws.{step-end, step-line}
 use Rattle.sheet.specs.Outcome.{LineBy}
 use borrow.Author.Needs.{needs}
@@ -42,7 +40,7 @@ returns-2 c =
     let a = c .before .before .before .before .before .before .before .before .before .before .before .args in
     let line = c .before .before .before .before .before .before .line-end in
     let read = c .before .before .before .read-alone in
-    let part = part-slice (a .sheet .now) (a .start) (line .result) (line .ensures .1) (line .ensures .2) ∙ ap (λ (e : ℕ). slice (a .start) e (a .sheet .now)) (line .ensures .0) in
+    let part = line-part (a .sheet .now) (a .start) (line .result) (line .ensures .0) (line .ensures .1) (line .ensures .2) in
     let became = subst (λ (w : List ℕ). LineBy (a .book .now) w (a .chart .now) (read .result) (read .last .1 .1 .0)) part (read .ensures) in
     step-line (a .book .now) (a .sheet .now) (a .start) (a .chart .now) (read .result) (c .behind .result) (read .last .1 .1 .0) (c .before .before .before .before .before .before .before .if1 .left) became
     (next-behind (a .sheet .now) (a .start) (line .result) (c .behind .result) (line .ensures .0) (c .behind .ensures))
