@@ -188,14 +188,15 @@ flat_lengths() {
     run flat 'a text of 65,536 bytes'
     given $(wide_book C)
     flat 'a text of 65,537 bytes' 'refused 21 65537'
-    # 64 rules of 8 classes of 16 ranges: a range is \100-\101 and so on, 9 bytes; a class has 2 more, and a space behind it; the rest of the line is 10 bytes:
+    # 64 rules of 8 times a class of their own, of 16 ranges: a range is \100-\101 and so on, 9 bytes; a class has 2 more, and a space behind it; the rest of the line is
+    # 10 bytes:
     # 64 × (8 × (16 × 9 + 2 + 1) + 10) = 75,904
     given $(awk 'BEGIN {
         print 1, 64, 64, 0, 0, 0
         for (r = 0; r < 64; r++) print 8
         for (k = 0; k < 64; k++) print 16
         for (r = 0; r < 64; r++) { print 0; for (i = 0; i < 8; i++) print 64 + r }
-        for (k = 0; k < 64; k++) for (i = 0; i < 16; i++) print 100 + 3 * i, 101 + 3 * i
+        for (k = 0; k < 64; k++) for (i = 0; i < 16; i++) print 100 + k + 3 * i, 101 + k + 3 * i
     }')
     flat 'a text of 75,904 bytes' 'refused 21 75904'
 }

@@ -2,4 +2,5 @@
 pub mod BitLaws
 pub mod RunLaws
 pub mod SeekLaws
+pub mod SameSetLaws
 pub mod SpansLaws

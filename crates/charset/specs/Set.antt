@@ -1,10 +1,10 @@
 -- Sets of bytes, and ranges of characters (01, "The book"; 000, Definition 3.1).
 use Prim.Native.Nat.{ℕ, _/_, _%_, _^_, min, max}
-use mathlib.Core.Bool.{Bool}
+use mathlib.Core.Bool.{Bool, Bool·beq}
 use mathlib.Core.List.{List}
 use lib.Dec.{eqb}
 use lib.ListN.{getD}
-use Rattle.common.specs.Below.{between}
+use Rattle.common.specs.Below.{allBelow, between}
 
 -- How many characters there are: they are bytes.
 abbrev pub characters : ℕ
@@ -34,3 +34,11 @@ inRange = between
 -- Every test of a character against a written range is this one.
 unfoldable pub spans : ℕ → ℕ → ℕ → Bool
 spans low high = inRange (min low high) (max low high)
+
+-- Two words have the same bits.
+unfoldable pub sameBits : ℕ → ℕ → Bool
+sameBits v w = allBelow wordBits (λ b. Bool·beq (bit v b) (bit w b))
+
+-- Two sets of characters, given by their tests, are the same: no character is in one of them alone. Two sets with no character are (02, [5]).
+unfoldable pub sameSet : (ℕ → Bool) → (ℕ → Bool) → Bool
+sameSet f g = allBelow characters (λ c. Bool·beq (f c) (g c))

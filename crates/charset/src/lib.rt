@@ -3,7 +3,7 @@
 ghost use mathlib.Core.Path.{_≡_};
 ghost use mathlib.Core.Bool.{false, _||_};
 ghost use Prim.Native.Nat.{ℕ, _+_, _-_, _<_, _≤_, min};
-ghost use Rattle.charset.specs.Set.{characters, wordBits, bit, has, inRange, spans};
+ghost use Rattle.charset.specs.Set.{characters, wordBits, bit, has, inRange, spans, sameBits, sameSet};
 ghost use Rattle.charset.specs.Runs.{runs, firstRun};
 ghost use Rattle.charset.specs.Sought.{Sought};
 
@@ -68,6 +68,20 @@ impl CharSet {
         }
     }
 
+    // Whether the two sets have the same bytes.
+    pub fn same(self, other: CharSet) -> bool
+        ensures { λ r. ⌜ r ≡ sameSet (has (self .words)) (has (other .words)) ⌝ }
+    {
+        let mut w = 0;
+        while w < SET_WORDS {
+            if !same_bits(self.words[w], other.words[w]) {
+                return false;
+            }
+            w += 1;
+        }
+        true
+    }
+
     // The first of the normal ranges of the bytes from `from` on.
     pub fn next_run(self, from: usize) -> NextRun
         ensures { λ r. ⌜ r ≡ firstRun (runs (has (self .words)) from (characters - from)) ⌝ }
@@ -92,6 +106,13 @@ impl CharSet {
         }
         at
     }
+}
+
+// Whether the two words have the same bits: whether they are the same.
+fn same_bits(v: u64, w: u64) -> bool
+    ensures { λ r. ⌜ r ≡ sameBits v w ⌝ }
+{
+    v == w
 }
 
 // The bits of the word of the 64 bytes from `base` on at which a byte of the range stands.

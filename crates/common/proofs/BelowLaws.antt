@@ -9,7 +9,7 @@ use native.Mathlib.Nat.{le-refl}
 use native.Mathlib.Numerals.{add-one}
 use lib.Dec.{leb, eqb}
 use borrow.Author.Tests.{le-leb, lt-leb, leb-true, eq-eqb, ne-eqb}
-use Rattle.common.proofs.BoolLaws.{or-cases, or-first-false, or-second-false, and-first-true, and-second-true}
+use Rattle.common.proofs.BoolLaws.{or-cases, or-first-false, or-second-false, and-both, and-first-true, and-second-true}
 use Rattle.common.specs.Below.{sumBelow, allBelow, anyBelow, bitOf, between}
 
 -- ---- sums
@@ -151,6 +151,11 @@ all-none f = refl
 pub all-more : (f : ℕ → Bool) (i : ℕ) → allBelow i f ≡ true → f i ≡ true → allBelow (i + 1) f ≡ true
 unfolding allBelow
 all-more f i e h = rw (add-one i, e) h
+
+pub all-each : (f : ℕ → Bool) (n : ℕ) → ((k : ℕ) → k < n → f k ≡ true) → allBelow n f ≡ true
+unfolding allBelow
+all-each f zero e = refl
+all-each f (suc n) e = and-both (allBelow n f) (f n) (all-each f n (λ k l. e k (omega arith))) (e n (omega arith))
 
 pub all-lost : (f : ℕ → Bool) (i n : ℕ) → i < n → f i ≡ false → allBelow n f ≡ false
 unfolding allBelow

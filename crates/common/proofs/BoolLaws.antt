@@ -26,6 +26,11 @@ pub or-second-false : (a b : Bool) → (a || b) ≡ false → b ≡ false
 or-second-false true b e = absurd (true≢false e)
 or-second-false false b e = e
 
+-- a test that holds only where the other does adds nothing to it
+pub or-absorbed : (a b : Bool) → (a ≡ true → b ≡ true) → (a || b) ≡ b
+or-absorbed true b f = sym (f refl)
+or-absorbed false b f = refl
+
 -- ---- and
 
 pub and-both : (a b : Bool) → a ≡ true → b ≡ true → (a && b) ≡ true
@@ -56,6 +61,12 @@ beq-true true true e = refl
 beq-true true false e = sym e
 beq-true false true e = e
 beq-true false false e = refl
+
+pub same-beq : (a b : Bool) → a ≡ b → Bool·beq a b ≡ true
+same-beq true true e = refl
+same-beq true false e = absurd (true≢false e)
+same-beq false true e = absurd (false≢true e)
+same-beq false false e = refl
 
 pub beq-false : (a b : Bool) → Bool·beq a b ≡ false → a ≡ not b
 beq-false true true e = e

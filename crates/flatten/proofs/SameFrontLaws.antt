@@ -13,7 +13,8 @@ use Rattle.flatten.proofs.FlatLaws.{production-there, arguments-size}
 use Rattle.flatten.specs.Flat.{isProduction, mayStandIn, flatClassIn, flatLineIn, flatGrammarIn, plainClass}
 use Rattle.flatten.specs.Reading.{ReadingIn, EntryListIn}
 use Rattle.flatten.specs.Trees.{Built, Arguments, RootConflictIn, conflictAt, HasConflictIn}
-use Rattle.grammar.proofs.SameFrontLaws.{SameFront, class-there, front-back, same-productions, same-start, same-count, same-result, same-argument, same-is-class, same-class-has}
+use Rattle.grammar.proofs.ClassesLaws.{class-there}
+use Rattle.grammar.proofs.SameFrontLaws.{SameFront, front-back, same-productions, same-start, same-count, same-result, same-argument, same-is-class, same-class-has}
 use Rattle.grammar.specs.Classes.{isClass, classHas}
 use Rattle.grammar.specs.Layout.{productions, startSort, argumentCount, result, argument}
 use Rattle.grammar.specs.Limits.{classBase}

@@ -1,27 +1,46 @@
 -- Laws of the character classes of a grammar.
-use Prim.Native.Nat.{ℕ, _+_, _<_}
+use Prim.Native.Nat.{ℕ, _+_, _-_, _≤_, _<_}
 use mathlib.Core.Path.{_≡_, refl}
-use mathlib.Core.Bool.{false, true}
+use mathlib.Core.Bool.{false, true, and-false}
 use mathlib.Core.List.{List}
 use mathlib.Core.Logic.{⊎-elim}
 use native.Mathlib.Omega.{arith}
 use lib.Dec.{leb, ltb}
 use lib.ListN.{getD}
-use borrow.Author.Tests.{ltb-true, lt-leb}
+use borrow.Author.Tests.{leb-true, ltb-true, lt-leb, le-leb, lt-ltb, le-ltb}
 use Rattle.charset.proofs.SpansLaws.{spans-below}
 use Rattle.charset.specs.Set.{characters, spans}
 use Rattle.common.proofs.BelowLaws.{any-found}
-use Rattle.common.proofs.BoolLaws.{and-second-true, or-cases}
+use Rattle.common.proofs.BoolLaws.{and-first-true, and-second-true, or-cases}
 use Rattle.grammar.specs.Check.{namesArgument}
 use Rattle.grammar.specs.Classes.{isClass, classHas}
 use Rattle.grammar.specs.Formed.{Framed, WellFormed}
 use Rattle.grammar.specs.Layout.{sorts, productions, classes, argumentCount, rangeCount, argument, rangeAt, low, high}
 use Rattle.grammar.specs.Limits.{classBase}
 
+-- which bytes are classes: those from class 0 on, up to the last
+module _ (b : List ℕ) (x : ℕ) where
+  pub class-named : classBase ≤ x → x < classBase + classes b → isClass b x ≡ true
+  unfolding isClass
+  class-named l m = rw (le-leb classBase x l, lt-ltb x (classBase + classes b) m) refl
+
+  pub no-class-below : x < classBase → isClass b x ≡ false
+  unfolding isClass
+  no-class-below l = rw (lt-leb classBase x l) refl
+
+  pub no-class-above : classBase + classes b ≤ x → isClass b x ≡ false
+  unfolding isClass
+  no-class-above l = rw (le-ltb x (classBase + classes b) l) (and-false (leb classBase x))
+
+  pub class-there : isClass b x ≡ true → x - classBase < classes b
+  unfolding isClass
+  class-there e =
+      let end = classBase + classes b in
+      omega (arith, leb-true classBase x (and-first-true (leb classBase x) (ltb x end) e), ltb-true x end (and-second-true (leb classBase x) (ltb x end) e))
+
 -- a sort is no class
 pub sort-no-class : (b : List ℕ) → WellFormed b → (x : ℕ) → x < sorts b → isClass b x ≡ false
-unfolding isClass
-sort-no-class b w x l = rw (lt-leb classBase x (omega (arith, w .framed .fewSorts))) refl
+sort-no-class b w x l = no-class-below b x (omega (arith, w .framed .fewSorts))
 
 -- the ends of a range are bytes, so the characters of a class are
 pub class-character : (b : List ℕ) → ((k : ℕ) → getD b k 0 < characters) → (k c : ℕ) → classHas b k c ≡ true → c < characters

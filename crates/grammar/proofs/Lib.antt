@@ -3,6 +3,8 @@ pub mod LayoutLaws
 pub mod VerdictLaws
 pub mod FormedLaws
 pub mod ClassesLaws
+pub mod CanonicalLaws
+pub mod EqualLaws
 pub mod SameFrontLaws
 pub mod TurnedLaws
 pub mod RisenLaws

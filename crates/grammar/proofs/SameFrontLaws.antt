@@ -1,22 +1,23 @@
 -- Grammars that differ only in their declarations and in which end of a range stands first: all else is the same, and stands in the same place.
 use Prim.Native.Nat.{ℕ, _+_, _-_, _*_, _≤_, _<_}
 use mathlib.Core.Path.{_≡_, sym, _∙_, ap, ap₂, subst}
-use mathlib.Core.Bool.{Bool, true, _&&_, _||_}
+use mathlib.Core.Bool.{Bool, true, _&&_, _||_, Bool·beq}
 use mathlib.Core.List.{List}
 use mathlib.Core.Logic.{inl, inr, ⊎-elim}
 use native.Mathlib.Omega.{arith}
 use native.Mathlib.Nat.{add-zero}
 use lib.Dec.{leb, ltb, eqb}
 use lib.ListN.{length}
-use borrow.Author.Tests.{ltb-true, leb-true, eqb-true}
+use borrow.Author.Tests.{eqb-true}
 use Rattle.charset.proofs.SpansLaws.{spans-turned}
-use Rattle.charset.specs.Set.{spans}
+use Rattle.charset.specs.Set.{characters, spans, sameSet}
 use Rattle.common.proofs.BelowLaws.{sum-same, any-same, all-same}
 use Rattle.common.proofs.BoolLaws.{and-first-true, and-second-true, and-same}
 use Rattle.common.specs.Below.{allBelow}
+use Rattle.grammar.proofs.ClassesLaws.{class-there}
 use Rattle.grammar.proofs.LayoutLaws.{production-first, class-first, declaration-first, production-within, production-after, class-within, class-after-productions, declaration-after-classes, needed-is-end}
 use Rattle.grammar.specs.Check.{namesArgument, isGroup, sameArgument, sameProduction}
-use Rattle.grammar.specs.Classes.{isClass, classHas}
+use Rattle.grammar.specs.Classes.{isClass, classHas, sameClass}
 use Rattle.grammar.specs.Formed.{Framed, WellFormed}
 use Rattle.grammar.specs.Layout.{byteAt, sorts, productions, classes, declarations, startSort, argumentCountAt, rangeCountAt, argumentCount, rangeCount, bodiesAt, productionAt, argumentAt, result, argument, classAt, rangeAt, low, high, declarationAt, kind, first, second, neededLength}
 use Rattle.grammar.specs.Limits.{kindLimit, classBase, headerLength}
@@ -64,13 +65,6 @@ ends-back low high low′ high′ = ⊎-elim (λ (e, f). inl (sym e, sym f)) (λ
 ends-span : (low high low′ high′ x : ℕ) → SameEnds low high low′ high′ → spans low′ high′ x ≡ spans low high x
 ends-span low high low′ high′ x =
     ⊎-elim (λ (e, f). ap₂ (λ (s t : ℕ). spans s t x) e f) (λ (e, f). ap₂ (λ (s t : ℕ). spans s t x) e f ∙ spans-turned high low x)
-
--- an argument byte that is a class is one of those there
-pub class-there : (b : List ℕ) (x : ℕ) → isClass b x ≡ true → x - classBase < classes b
-unfolding isClass
-class-there b x e =
-    let end = classBase + classes b in
-    omega (arith, leb-true classBase x (and-first-true (leb classBase x) (ltb x end) e), ltb-true x end (and-second-true (leb classBase x) (ltb x end) e))
 
 module _ (b c : List ℕ) (same : SameFront b c) where
   -- ---- the header
@@ -183,6 +177,21 @@ module _ (b c : List ℕ) (same : SameFront b c) where
   unfolding namesArgument
   same-names x = ap₂ (λ (n : ℕ) (v : Bool). ltb x n || v) same-sorts (same-is-class x)
 
+  -- which classes are one set
+  same-class-sets : (j k : ℕ) → j < classes b → k < classes b → sameClass c j k ≡ sameClass b j k
+  unfolding sameClass sameSet
+  same-class-sets j k l m = all-same _ _ characters (λ x n. ap₂ Bool·beq (same-class-has j x l) (same-class-has k x m))
+
+  -- which arguments are the same
+  same-arguments : (x y : ℕ) → sameArgument c x y ≡ sameArgument b x y
+  unfolding sameArgument
+  same-arguments x y =
+      let classed = isClass b x && isClass b y in
+      rw (same-is-class x, same-is-class y)
+      (ap (λ (v : Bool). eqb x y || v)
+      (and-same classed (sameClass c (x - classBase) (y - classBase)) (sameClass b (x - classBase) (y - classBase))
+      (λ e. same-class-sets (x - classBase) (y - classBase) (class-there b x (and-first-true (isClass b x) (isClass b y) e)) (class-there b y (and-second-true (isClass b x) (isClass b y) e)))))
+
   -- which productions are equal
   pub same-sameness : (p q : ℕ) → p < productions b → q < productions b → sameProduction c p q ≡ sameProduction b p q
   unfolding sameProduction
@@ -190,12 +199,12 @@ module _ (b c : List ℕ) (same : SameFront b c) where
       let n = argumentCount b p in
       let o = argumentCount b q in
       let test = eqb (result b p) (result b q) && eqb n o in
-      let own : ℕ → Bool = λ i. sameArgument (argument b p i) (argument b q i) in
-      let other : ℕ → Bool = λ i. sameArgument (argument c p i) (argument c q i) in
+      let own : ℕ → Bool = λ i. sameArgument b (argument b p i) (argument b q i) in
+      let other : ℕ → Bool = λ i. sameArgument c (argument c p i) (argument c q i) in
       rw (same-result p l, same-result q m, same-count p l, same-count q m)
       (and-same test (allBelow n other) (allBelow n own)
       (λ e. all-same other own n
-      (λ i k. ap₂ sameArgument (same-argument p i l k) (same-argument q i m (omega (arith, eqb-true n o (and-second-true (eqb (result b p) (result b q)) (eqb n o) e)))))))
+      (λ i k. same-arguments (argument c p i) (argument c q i) ∙ ap₂ (sameArgument b) (same-argument p i l k) (same-argument q i m (omega (arith, eqb-true n o (and-second-true (eqb (result b p) (result b q)) (eqb n o) e)))))))
 
   -- ---- what stands of the one stands of the other
 

@@ -1,9 +1,9 @@
--- The character classes of a grammar (01, "The book"): which argument bytes are classes, and which characters a class has.
+-- The character classes of a grammar (01, "The book"): which argument bytes are classes, which characters a class has, and which classes are one set.
 use Prim.Native.Nat.{ℕ, _+_}
 use mathlib.Core.Bool.{Bool, _&&_}
 use mathlib.Core.List.{List}
 use lib.Dec.{leb, ltb}
-use Rattle.charset.specs.Set.{spans}
+use Rattle.charset.specs.Set.{spans, sameSet}
 use Rattle.common.specs.Below.{anyBelow}
 use Rattle.grammar.specs.Layout.{classes, rangeCount, low, high}
 use Rattle.grammar.specs.Limits.{classBase}
@@ -15,3 +15,7 @@ isClass b x = leb classBase x && ltb x (classBase + classes b)
 -- Character c is in class k: in one of its ranges, whichever way round that is written.
 unfoldable pub classHas : List ℕ → ℕ → ℕ → Bool
 classHas b k c = anyBelow (rangeCount b k) (λ r. spans (low b k r) (high b k r) c)
+
+-- Classes j and k are the same set: they have the same characters, however their ranges are written.
+unfoldable pub sameClass : List ℕ → ℕ → ℕ → Bool
+sameClass b j k = sameSet (classHas b j) (classHas b k)

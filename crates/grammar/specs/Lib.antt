@@ -4,5 +4,6 @@ pub mod Layout
 pub mod Classes
 pub mod Verdict
 pub mod Check
+pub mod Canonical
 pub mod Formed
 pub mod Turned

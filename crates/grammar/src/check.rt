@@ -1,5 +1,7 @@
 // Refusals 1 to 8, in the order of 01: the frame of the bytes, then what stands in it. There is no refusal 6: the ends of a range may stand either way round.
 use crate::Verdict;
+use crate::canonical::canonical_arguments;
+use crate::canonical::stands_for;
 use crate::layout::argument_count;
 use crate::layout::bodies_at;
 use crate::layout::byte_at;
@@ -22,11 +24,12 @@ use crate::limits::SORT_LIMIT;
 use common::both;
 ghost use mathlib.Core.Path.{_≡_};
 ghost use Prim.Native.Nat.{_+_, _<_, _≤_};
-ghost use lib.ListN.{length, getD};
+ghost use lib.ListN.{length};
 ghost use Rattle.common.specs.Below.{anyBelow, allBelow};
 ghost use Rattle.grammar.specs.Limits.{headerLength};
-ghost use Rattle.grammar.specs.Layout.{sorts, productions, classes, declarations, bodiesAt, productionAt, declarationAt};
+ghost use Rattle.grammar.specs.Layout.{byteAt, sorts, productions, classes, declarations, bodiesAt, productionAt, declarationAt};
 ghost use Rattle.grammar.specs.Check.{badHeader, headerBytes, badArgumentCounts, badRangeCounts, badLength, frameCheck, badProductions, badProduction, badArguments, namesArgument, badDeclarations, badDeclaration, isGroup, declarationBytes, repeatedProductions, sameProduction, sameArgument, bodiesCheck};
+ghost use Rattle.grammar.specs.Canonical.{Canonical};
 ghost use Rattle.grammar.specs.Formed.{Framed};
 
 // Refusals 1 to 4.
@@ -302,11 +305,12 @@ fn check_repeated(book: &[u8]) -> Verdict
     requires { ⌜ Framed (now book) ⌝ }
     ensures { λ r. ⌜ r ≡ repeatedProductions (now (book .entry)) ⌝ }
 {
+    let table = canonical_arguments(book);
     let count = production_count(book);
     let mut at = bodies_at(book);
     let mut p = 0;
     while p < count {
-        if repeats(book, p, at) {
+        if repeats(book, &table, p, at) {
             return Verdict::Refused(8, at);
         }
         at += 1 + argument_count(book, p);
@@ -316,8 +320,9 @@ fn check_repeated(book: &[u8]) -> Verdict
 }
 
 // Whether production p, which stands at `at`, is equal to an earlier one.
-fn repeats(book: &[u8], p: usize, at: usize) -> bool
+fn repeats(book: &[u8], table: &[u8], p: usize, at: usize) -> bool
     requires { ⌜ Framed (now book) ⌝ }
+    requires { ⌜ Canonical (now book) (now table) ⌝ }
     requires { ⌜ p < productions (now book) ⌝ }
     requires { ⌜ at ≡ productionAt (now book) p ⌝ }
     ensures { λ r. ⌜ r ≡ anyBelow p (sameProduction (now (book .entry)) p) ⌝ }
@@ -325,7 +330,7 @@ fn repeats(book: &[u8], p: usize, at: usize) -> bool
     let mut other = bodies_at(book);
     let mut q = 0;
     while q < p {
-        if same_production(book, p, at, q, other) {
+        if same_production(book, table, p, at, q, other) {
             return true;
         }
         other += 1 + argument_count(book, q);
@@ -335,8 +340,9 @@ fn repeats(book: &[u8], p: usize, at: usize) -> bool
 }
 
 // Whether productions p and q, which stand at `at` and `other`, are equal.
-fn same_production(book: &[u8], p: usize, at: usize, q: usize, other: usize) -> bool
+fn same_production(book: &[u8], table: &[u8], p: usize, at: usize, q: usize, other: usize) -> bool
     requires { ⌜ Framed (now book) ⌝ }
+    requires { ⌜ Canonical (now book) (now table) ⌝ }
     requires { ⌜ p < productions (now book) ⌝ }
     requires { ⌜ at ≡ productionAt (now book) p ⌝ }
     requires { ⌜ q < productions (now book) ⌝ }
@@ -350,18 +356,19 @@ fn same_production(book: &[u8], p: usize, at: usize, q: usize, other: usize) -> 
     if count != argument_count(book, q) {
         return false;
     }
-    same_bytes(book, at + 1, other + 1, count)
+    same_arguments(book, table, at + 1, other + 1, count)
 }
 
-// Whether the bytes from `at` on are the `count` bytes from `other` on.
-fn same_bytes(book: &[u8], at: usize, other: usize, count: usize) -> bool
+// Whether the arguments from `at` on are the same as the `count` arguments from `other` on.
+fn same_arguments(book: &[u8], table: &[u8], at: usize, other: usize, count: usize) -> bool
+    requires { ⌜ Canonical (now book) (now table) ⌝ }
     requires { ⌜ at + count ≤ length (now book) ⌝ }
     requires { ⌜ other + count ≤ length (now book) ⌝ }
-    ensures { λ r. ⌜ r ≡ allBelow count (λ i. sameArgument (getD (now (book .entry)) (at + i) 0) (getD (now (book .entry)) (other + i) 0)) ⌝ }
+    ensures { λ r. ⌜ r ≡ allBelow count (λ i. sameArgument (now (book .entry)) (byteAt (now (book .entry)) (at + i)) (byteAt (now (book .entry)) (other + i))) ⌝ }
 {
     let mut i = 0;
     while i < count {
-        if byte_at(book, at + i) != byte_at(book, other + i) {
+        if stands_for(table, book[at + i]) != stands_for(table, book[other + i]) {
             return false;
         }
         i += 1;

@@ -6,18 +6,27 @@ ghost use mathlib.Core.Path.{_≡_};
 ghost use Prim.Native.Nat.{ℕ, _<_};
 ghost use Rattle.charset.specs.Set.{characters, has};
 ghost use Rattle.grammar.specs.Classes.{classHas};
-ghost use Rattle.grammar.specs.Layout.{classes};
-ghost use Rattle.grammar.specs.Formed.{WellFormed};
+ghost use Rattle.grammar.specs.Layout.{classes, classAt};
+ghost use Rattle.grammar.specs.Formed.{Framed};
 
 // The characters of class k.
 pub fn class_set(book: &[u8], k: usize) -> CharSet
-    requires { ⌜ WellFormed (now book) ⌝ }
+    requires { ⌜ Framed (now book) ⌝ }
     requires { ⌜ k < classes (now book) ⌝ }
+    ensures { λ r. ⌜ ((c : ℕ) → c < characters → has (r .words) c ≡ classHas (now (book .entry)) k c) ⌝ }
+{
+    ranges_set(book, k, class_at(book, k))
+}
+
+// The characters of class k, whose ranges stand at `at`.
+pub fn ranges_set(book: &[u8], k: usize, at: usize) -> CharSet
+    requires { ⌜ Framed (now book) ⌝ }
+    requires { ⌜ k < classes (now book) ⌝ }
+    requires { ⌜ at ≡ classAt (now book) k ⌝ }
     ensures { λ r. ⌜ ((c : ℕ) → c < characters → has (r .words) c ≡ classHas (now (book .entry)) k c) ⌝ }
 {
     let mut set = CharSet::empty();
     let count = range_count(book, k);
-    let at = class_at(book, k);
     let mut r = 0;
     while r < count {
         let wider = set.insert_range(book[at + 2 * r], book[at + 2 * r + 1]);

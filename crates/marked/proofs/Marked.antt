@@ -3,14 +3,14 @@ use Prim.Native.Nat.{ℕ}
 use mathlib.Core.Bool.{true}
 use mathlib.Core.List.{List, [], _∷_}
 use mathlib.Core.Path.{_≡_, refl}
-use Rattle.charset.specs.Set.{inRange, spans}
+use Rattle.charset.specs.Set.{inRange, spans, sameSet}
 use Rattle.chart.specs.Layout.{spanCount}
 use Rattle.common.specs.Below.{sumBelow, allBelow, anyBelow}
 use Rattle.common.specs.Lists.{All, tabulate}
 use Rattle.engine.specs.Refusals.{tooLong, chartTooShort}
 use Rattle.flatten.specs.Flat.{mayStandIn}
-use Rattle.grammar.specs.Check.{shortHeader, headerBytes, badHeader, shortContents, badArgumentCount, badRangeCount, badLength, namesArgument, badArgument, badProduction, isGroup, declarationBytes, badDeclaration, sameProduction, repeatedProduction}
-use Rattle.grammar.specs.Classes.{isClass, classHas}
+use Rattle.grammar.specs.Check.{shortHeader, headerBytes, badHeader, shortContents, badArgumentCount, badRangeCount, badLength, namesArgument, badArgument, badProduction, isGroup, declarationBytes, badDeclaration, sameArgument, sameProduction, repeatedProduction}
+use Rattle.grammar.specs.Classes.{isClass, classHas, sameClass}
 use Rattle.grammar.specs.Layout.{argumentCount, rangeCount, productionAt, result, argument, classAt, low, high, declarationAt, kind, first, second, neededLength}
 use Rattle.grammar.specs.Verdict.{firstRefusal}
 use Rattle.marked.proofs.CaseLaws.{table-true}
@@ -113,7 +113,7 @@ shown =
     ∷ []
 
 tested : tableTest shown ≡ true
-unfolding tableTest caseTest tests every same allBytes occurrences grammarOf derives parses chartOf emptyTest stepTest parseSum accepts refuses splitSum argumentSum charEntry listing yield sumBelow allBelow anyBelow tabulate refusal tooLong chartTooShort needed rowCount spanCount checked circle isHigherIn through declaredIn declarationsOf declarationOf covers kindNumber saidKind eitherWay namesPair isSort fits isFirst isLast rightOrNonassoc leftOrNonassoc barred conflictsIn mayStandIn isClass classHas spans inRange argumentCount rangeCount productionAt result argument classAt low high declarationAt kind first second neededLength shortHeader headerBytes badHeader shortContents badArgumentCount badRangeCount badLength namesArgument badArgument badProduction isGroup declarationBytes badDeclaration sameProduction repeatedProduction firstRefusal
+unfolding tableTest caseTest tests every same allBytes occurrences grammarOf derives parses chartOf emptyTest stepTest parseSum accepts refuses splitSum argumentSum charEntry listing yield sumBelow allBelow anyBelow tabulate refusal tooLong chartTooShort needed rowCount spanCount checked circle isHigherIn through declaredIn declarationsOf declarationOf covers kindNumber saidKind eitherWay namesPair isSort fits isFirst isLast rightOrNonassoc leftOrNonassoc barred conflictsIn mayStandIn isClass classHas spans inRange argumentCount rangeCount productionAt result argument classAt low high declarationAt kind first second neededLength shortHeader headerBytes badHeader shortContents badArgumentCount badRangeCount badLength namesArgument badArgument badProduction isGroup declarationBytes badDeclaration sameArgument sameClass sameSet sameProduction repeatedProduction firstRefusal
 tested = refl
 
 pub marked-cases : All Statement table

@@ -13,31 +13,37 @@ use Rattle.grammar.proofs.check.repeats.Statement.{statement}
 use Rattle.grammar.proofs.check.repeats.Tie as tie
 
 abbrev Inv-loop : tie.InvT-loop
-Inv-loop book p at other₀ q₀ other q = (other ≡ productionAt book q) × (q ≤ p) × (anyBelow q (sameProduction book p) ≡ false)
+Inv-loop book table p at other₀ q₀ other q = (other ≡ productionAt book q) × (q ≤ p) × (anyBelow q (sameProduction book p) ≡ false)
 
 abbrev μ-loop : tie.MeasureT-loop
-μ-loop book p at other₀ q₀ other q = p - q
+μ-loop book table p at other₀ q₀ other q = p - q
 
 bodies-at-requires : tie.Need-bodies-at-requires Inv-loop μ-loop
-bodies-at-requires c κs = c .before .pre .0 .header
+bodies-at-requires c κs = c .before .before .pre .0 .header
 
 loop-holds : tie.Need-loop-holds Inv-loop μ-loop
-loop-holds c = (c .bodies-at .ensures ∙ sym (production-first (c .before .before .args .book .now)), omega arith, any-none (sameProduction (c .before .before .args .book .now) (c .before .before .args .p)))
+loop-holds c =
+    let a = c .before .before .before .args in
+    (c .bodies-at .ensures ∙ sym (production-first (a .book .now)), omega arith, any-none (sameProduction (a .book .now) (a .p)))
 
 same-production-requires : tie.Need-same-production-requires Inv-loop μ-loop
-same-production-requires c κs = (c .before .before .before .before .pre .0, (c .before .before .before .before .pre .1 .0, (c .before .before .before .before .pre .1 .1, (omega arith, c .before .loop .inv .0))))
+same-production-requires c κs =
+    let given = c .before .before .before .before .before .pre in
+    (given .0, (given .1 .0, (given .1 .1 .0, (given .1 .1 .1, (omega arith, c .before .loop .inv .0)))))
 
 returns : tie.Need-returns Inv-loop μ-loop
-returns c = sym (any-here (sameProduction (c .before .before .before .before .before .before .args .book .now) (c .before .before .before .before .before .before .args .p)) (c .before .before .before .loop .q) _ (c .before .before .loop-test .taken) (sym (c .before .same-production .ensures) ∙ c .if1 .taken))
+returns c =
+    let a = c .before .before .before .before .before .before .before .args in
+    sym (any-here (sameProduction (a .book .now) (a .p)) (c .before .before .before .loop .q) _ (c .before .before .loop-test .taken) (sym (c .before .same-production .ensures) ∙ c .if1 .taken))
 
 argument-count-requires : tie.Need-argument-count-requires Inv-loop μ-loop
-argument-count-requires c κs = (bodies-in (c .before .before .before .before .before .before .args .book .now) (c .before .before .before .before .before .before .pre .0), omega arith)
+argument-count-requires c κs = (bodies-in (c .before .before .before .before .before .before .before .args .book .now) (c .before .before .before .before .before .before .before .pre .0), omega (arith, c .before .before .before .before .before .before .before .pre .1 .1 .0))
 
 add-other : tie.Need-add-other Inv-loop μ-loop
-add-other c = omega (arith, c .argument-count .ensures, production-in (c .before .before .before .before .before .before .before .args .book .now) (c .before .before .before .before .before .before .before .pre .0) (c .before .before .before .before .loop .q) (omega arith))
+add-other c = omega (arith, c .argument-count .ensures, production-in (c .before .before .before .before .before .before .before .before .args .book .now) (c .before .before .before .before .before .before .before .before .pre .0) (c .before .before .before .before .loop .q) (omega (arith, c .before .before .before .before .before .before .before .before .pre .1 .1 .0)))
 
 add-other-2 : tie.Need-add-other-2 Inv-loop μ-loop
-add-other-2 c = omega (arith, c .argument-count .ensures, production-in (c .before .before .before .before .before .before .before .args .book .now) (c .before .before .before .before .before .before .before .pre .0) (c .before .before .before .before .loop .q) (omega arith))
+add-other-2 c = omega (arith, c .argument-count .ensures, production-in (c .before .before .before .before .before .before .before .before .args .book .now) (c .before .before .before .before .before .before .before .before .pre .0) (c .before .before .before .before .loop .q) (omega (arith, c .before .before .before .before .before .before .before .before .pre .1 .1 .0)))
 
 add-q : tie.Need-add-q Inv-loop μ-loop
 add-q c = omega arith
@@ -47,14 +53,16 @@ loop-less c = omega arith
 
 loop-again : tie.Need-loop-again Inv-loop μ-loop
 loop-again c =
-    let b = c .before .before .before .before .before .before .before .args .book .now in
-    (omega (arith, c .argument-count .ensures, production-next b (c .before .before .before .before .loop .q)), omega arith, any-more (sameProduction b (c .before .before .before .before .before .before .before .args .p)) (c .before .before .before .before .loop .q) (c .before .before .before .before .loop .inv .2) (sym (c .before .before .same-production .ensures) ∙ c .before .if1 .left))
+    let a = c .before .before .before .before .before .before .before .before .args in
+    let b = a .book .now in
+    let at = c .before .before .before .before .loop in
+    (omega (arith, c .argument-count .ensures, production-next b (at .q)), omega arith, any-more (sameProduction b (a .p)) (at .q) (at .inv .2) (sym (c .before .before .same-production .ensures) ∙ c .before .if1 .left))
 
 returns-2 : tie.Need-returns-2 Inv-loop μ-loop
 returns-2 c =
-    let b = c .before .before .before .before .args .book .now in
-    let e : c .before .loop .q ≡ c .before .before .before .before .args .p = omega arith in
-    sym (subst (λ (k : ℕ). anyBelow k (sameProduction b (c .before .before .before .before .args .p)) ≡ false) e (c .before .loop .inv .2))
+    let a = c .before .before .before .before .before .args in
+    let e : c .before .loop .q ≡ a .p = omega arith in
+    sym (subst (λ (k : ℕ). anyBelow k (sameProduction (a .book .now) (a .p)) ≡ false) e (c .before .loop .inv .2))
 
 pub repeats-spec : {M : Type 1} → statement M
 repeats-spec =

@@ -1,0 +1,203 @@
+-- Laws of one byte for all the argument bytes that are the same argument (02, [5]).
+use Prim.Native.Nat.{ℕ, _+_, _-_, _≤_, _<_}
+use mathlib.Core.Path.{_≡_, refl, sym, _∙_, subst}
+use mathlib.Core.Bool.{false, true, or-false}
+use mathlib.Core.List.{List, []}
+use mathlib.Core.Logic.{_⊎_, inl, inr, by-cases}
+use native.Mathlib.Omega.{arith}
+use native.Mathlib.Decide.{ℕ-discrete, decLt}
+use lib.Dec.{eqb}
+use lib.ListN.{length, getD, set, length-set, replicate, length-replicate, getD-replicate}
+use lib.Seq.{getD-set-same, getD-set-other}
+use borrow.Author.Tests.{eqb-true, eq-eqb, ne-eqb}
+use Rattle.charset.proofs.SameSetLaws.{has-words, same-set-self, same-set-sym, same-set-trans, same-set-like}
+use Rattle.charset.specs.Set.{characters, setWords, has, sameSet}
+use Rattle.charset.specs.Sought.{Sought}
+use Rattle.common.proofs.BoolLaws.{same-test, not-both, or-absorbed}
+use Rattle.common.specs.Bytes.{byteValues}
+use Rattle.grammar.proofs.ClassesLaws.{class-there, class-named, no-class-below, no-class-above}
+use Rattle.grammar.specs.Canonical.{SetsHeld, LowestSame, Canonical}
+use Rattle.grammar.specs.Check.{sameArgument}
+use Rattle.grammar.specs.Classes.{isClass, classHas, sameClass}
+use Rattle.grammar.specs.Formed.{Framed}
+use Rattle.grammar.specs.Layout.{classes}
+use Rattle.grammar.specs.Limits.{classLimit, classBase}
+
+-- ---- the rows of words
+
+-- there is a row for each class
+pub class-few : (b : List ℕ) → Framed b → (k : ℕ) → k < classes b → k < classLimit
+class-few b f k l = omega (arith, f .fewClasses)
+
+-- at first no class is held
+pub held-none : (b : List ℕ) → SetsHeld b 0 (replicate classLimit (replicate {A = ℕ} setWords 0))
+held-none b =
+    record {
+      rows = length-replicate classLimit (replicate {A = ℕ} setWords 0);
+      columns = λ j l. rw (getD-replicate classLimit j (replicate {A = ℕ} setWords 0) [] l) (length-replicate {A = ℕ} setWords 0);
+      held = λ j c l m. absurd (omega arith);
+    }
+
+-- Of row k the words below n are written, the other rows are as they were.
+pub record Writing (k n : ℕ) (words : List ℕ) (sets₀ sets : List (List ℕ)) : Type 0 where
+  pub rows : length sets ≡ classLimit
+  pub columns : (j : ℕ) → j < classLimit → length (getD sets j []) ≡ setWords
+  pub others : (j : ℕ) → (j ≡ k → ⊥) → getD sets j [] ≡ getD sets₀ j []
+  pub written : (w : ℕ) → w < n → getD (getD sets k []) w 0 ≡ getD words w 0
+
+module _ (b : List ℕ) (k : ℕ) (words : List ℕ) (sets₀ : List (List ℕ)) (there : k < classLimit) where
+  pub writing-none : SetsHeld b k sets₀ → Writing k 0 words sets₀ sets₀
+  writing-none h = record { rows = h .rows; columns = h .columns; others = λ j n. refl; written = λ w l. absurd (omega arith) }
+
+  pub writing-more : (n : ℕ) (sets : List (List ℕ)) → n < setWords → Writing k n words sets₀ sets
+      → Writing k (n + 1) words sets₀ (set sets k (set (getD sets k []) n (getD words n 0)))
+  writing-more n sets l h =
+      let row = set (getD sets k []) n (getD words n 0) in
+      let own : getD (set sets k row) k [] ≡ row = getD-set-same sets k row [] (omega (arith, h .rows)) in
+      record {
+        rows = length-set sets k row ∙ h .rows;
+        columns = λ j m. elim (ℕ-discrete j k) [
+          | yes e ↦ rw (e, own) (length-set (getD sets k []) n (getD words n 0) ∙ h .columns k there)
+          | no e ↦ rw (getD-set-other sets k j row [] e) (h .columns j m)
+        ];
+        others = λ j e. getD-set-other sets k j row [] e ∙ h .others j e;
+        written = λ w m. rw own (elim (ℕ-discrete w n) [
+          | yes e ↦ rw e (getD-set-same (getD sets k []) n (getD words n 0) 0 (omega (arith, h .columns k there)))
+          | no e ↦ getD-set-other (getD sets k []) n w (getD words n 0) 0 e ∙ h .written w (omega arith)
+        ]);
+      }
+
+  pub writing-all : (n : ℕ) (sets : List (List ℕ)) → setWords ≤ n → SetsHeld b k sets₀ → ((c : ℕ) → c < characters → has words c ≡ classHas b k c)
+      → Writing k n words sets₀ sets → SetsHeld b (k + 1) sets
+  writing-all n sets l before new h =
+      record {
+        rows = h .rows;
+        columns = h .columns;
+        held = λ j c m o. elim (ℕ-discrete j k) [
+          | yes e ↦ rw e (has-words (getD sets k []) words c o (λ w i. h .written w (omega arith)) ∙ new c o)
+          | no e ↦ rw (h .others j e) (before .held j c (omega arith) o)
+        ];
+      }
+
+-- ---- the lowest class of a set
+
+-- Class r is the lowest with the characters of class k: one before it, or k itself.
+abbrev Lowest : List ℕ → ℕ → ℕ → Type 0
+Lowest b k r = Sought k (sameClass b k) true 0 r
+
+-- the lowest row is the lowest class
+rows-lowest : (b : List ℕ) (sets : List (List ℕ)) (k r : ℕ) → SetsHeld b (k + 1) sets → LowestSame sets k r → Lowest b k r
+unfolding sameClass
+rows-lowest b sets k r h s =
+    let same : (j : ℕ) → j < k → sameClass b k j ≡ sameSet (has (getD sets k [])) (has (getD sets j [])) =
+    λ j l. sym (same-set-like _ _ _ _ (λ c m. h .held k c (omega arith) m) (λ c m. h .held j c (omega arith) m)) in
+    record {
+      after = s .after;
+      within = s .within;
+      passed = λ j l m. same j (omega (arith, s .within)) ∙ s .passed j l m;
+      found = λ l. same r l ∙ s .found l;
+    }
+
+module _ (b : List ℕ) where
+  -- it has the same characters
+  lowest-same : (k r : ℕ) → Lowest b k r → sameClass b k r ≡ true
+  unfolding sameClass
+  lowest-same k r s =
+      by-cases (decLt r k)
+      (λ l. s .found l)
+      (λ n. let e : r ≡ k = omega (arith, s .within) in rw e (same-set-self (classHas b k)))
+
+  -- no lower class has
+  lowest-below : (k r j : ℕ) → Lowest b k r → sameClass b k j ≡ true → r ≤ j
+  lowest-below k r j s e = by-cases (decLt j r) (λ l. not-both (sameClass b k j) e (s .passed j (omega arith) l)) (λ n. omega arith)
+
+  -- so two classes are one set exactly if the lowest of each is one class
+  lowest-decides : (j k r s : ℕ) → Lowest b j r → Lowest b k s → eqb r s ≡ sameClass b j k
+  unfolding sameClass
+  lowest-decides j k r s low low′ =
+      let f = classHas b in
+      let own = lowest-same j r low in
+      let other = lowest-same k s low′ in
+      same-test (eqb r s) (sameClass b j k)
+      (λ e. same-set-trans (f j) (f s) (f k) (subst (λ (n : ℕ). sameClass b j n ≡ true) (eqb-true r s e) own) (same-set-sym (f k) (f s) other))
+      (λ e. eq-eqb r s (omega (
+        arith,
+        lowest-below j r s low (same-set-trans (f j) (f k) (f s) e other),
+        lowest-below k s r low′ (same-set-trans (f k) (f j) (f r) (same-set-sym (f j) (f k) e) own),
+      )))
+
+-- ---- the table
+
+-- The lowest class stands for each of the first n classes, and every other byte for itself.
+pub record Filled (b : List ℕ) (n : ℕ) (table : List ℕ) : Type 0 where
+  pub long : length table ≡ byteValues
+  pub below : (x : ℕ) → x < classBase → getD table x 0 ≡ x
+  pub named : (k : ℕ) → k < n → (r : ℕ) × (getD table (classBase + k) 0 ≡ classBase + r) × Lowest b k r
+  pub above : (x : ℕ) → classBase + n ≤ x → x < byteValues → getD table x 0 ≡ x
+
+pub filled-none : (b table : List ℕ) → length table ≡ byteValues → ((x : ℕ) → x < byteValues → getD table x 0 ≡ x) → Filled b 0 table
+filled-none b table long own =
+    record { long = long; below = λ x l. own x (omega arith); named = λ k l. absurd (omega arith); above = λ x l m. own x m }
+
+pub filled-more : (b table : List ℕ) (sets : List (List ℕ)) (k r : ℕ) → k < classLimit → SetsHeld b (k + 1) sets → LowestSame sets k r → Filled b k table
+    → Filled b (k + 1) (set table (classBase + k) (classBase + r))
+filled-more b table sets k r there h s f =
+    let at = classBase + k in
+    let v = classBase + r in
+    record {
+      long = length-set table at v ∙ f .long;
+      below = λ x l. getD-set-other table at x v 0 (λ e. omega arith) ∙ f .below x l;
+      named = λ j l. elim (ℕ-discrete j k) [
+        | yes e ↦ rw e (r, getD-set-same table at v 0 (omega (arith, f .long)), rows-lowest b sets k r h s)
+        | no e ↦ let (t, g, low) = f .named j (omega arith) in (t, getD-set-other table at (classBase + j) v 0 (λ d. e (omega arith)) ∙ g, low)
+      ];
+      above = λ x l m. getD-set-other table at x v 0 (λ e. omega arith) ∙ f .above x (omega arith) m;
+    }
+
+module _ (b table : List ℕ) (f : Filled b (classes b) table) where
+  -- What the table says of a class, and of any other byte.
+  Says : ℕ → Type 0
+  Says x = ((isClass b x ≡ true) × ((r : ℕ) × (getD table x 0 ≡ classBase + r) × Lowest b (x - classBase) r)) ⊎ ((isClass b x ≡ false) × (getD table x 0 ≡ x))
+
+  says : (x : ℕ) → x < byteValues → Says x
+  unfolding Says
+  says x l =
+      by-cases (decLt x classBase)
+      (λ m. inr (no-class-below b x m, f .below x m))
+      (λ m. by-cases (decLt x (classBase + classes b))
+      (λ n. let e : classBase + (x - classBase) ≡ x = omega arith in
+      inl (class-named b x (omega arith) n, subst (λ (y : ℕ). (r : ℕ) × (getD table y 0 ≡ classBase + r) × Lowest b (x - classBase) r) e (f .named (x - classBase) (omega arith))))
+      (λ n. inr (no-class-above b x (omega arith), f .above x (omega arith) l)))
+
+  -- a class, and a byte that is none
+  apart : (x y r : ℕ) → isClass b x ≡ true → Lowest b (x - classBase) r → isClass b y ≡ false → (classBase + r ≡ y → ⊥) × (x ≡ y → ⊥)
+  apart x y r c low n =
+      let there = class-there b x c in (
+        (λ e. not-both (isClass b y) (class-named b y (omega arith) (omega (arith, low .within))) n),
+        (λ e. not-both (isClass b x) c (rw e n)),
+      )
+
+  -- a class of one set, and one of another
+  both-classes : (x y r s : ℕ) → isClass b x ≡ true → isClass b y ≡ true → Lowest b (x - classBase) r → Lowest b (y - classBase) s → eqb (classBase + r) (classBase + s) ≡ sameArgument b x y
+  unfolding sameArgument sameClass
+  both-classes x y r s c d low low′ =
+      let j = x - classBase in
+      let k = y - classBase in
+      let shift : eqb (classBase + r) (classBase + s) ≡ eqb r s =
+      same-test _ _ (λ e. eq-eqb r s (omega (arith, eqb-true (classBase + r) (classBase + s) e))) (λ e. eq-eqb (classBase + r) (classBase + s) (omega (arith, eqb-true r s e))) in
+      let own : eqb x y ≡ true → sameClass b j k ≡ true = λ e. subst (λ (z : ℕ). sameClass b j (z - classBase) ≡ true) (eqb-true x y e) (same-set-self (classHas b j)) in
+      rw (c, d) (shift ∙ lowest-decides b j k r s low low′ ∙ sym (or-absorbed (eqb x y) (sameClass b j k) own))
+
+  decide : (x y : ℕ) → Says x → Says y → eqb (getD table x 0) (getD table y 0) ≡ sameArgument b x y
+  unfolding Says sameArgument
+  decide x y (inl (c, (r, g, low))) (inl (d, (s, h, low′))) = rw (g, h) (both-classes x y r s c d low low′)
+  decide x y (inl (c, (r, g, low))) (inr (n, h)) =
+      let (m, o) = apart x y r c low n in
+      rw (g, h, c, n, ne-eqb (classBase + r) y m, ne-eqb x y o) refl
+  decide x y (inr (n, g)) (inl (d, (s, h, low))) =
+      let (m, o) = apart y x s d low n in
+      rw (g, h, d, n, ne-eqb x (classBase + s) (λ e. m (sym e)), ne-eqb x y (λ e. o (sym e))) refl
+  decide x y (inr (n, g)) (inr (m, h)) = rw (g, h, n) (sym (or-false (eqb x y)))
+
+  pub filled-all : Canonical b table
+  filled-all = record { long = f .long; decides = λ x y l m. decide x y (says x l) (says y m) }

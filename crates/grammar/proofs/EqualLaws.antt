@@ -1,0 +1,70 @@
+-- Laws of equal productions (02, [5]): what it is for two to be equal, and that it goes both ways.
+use Prim.Native.Nat.{ℕ, _-_, _<_}
+use mathlib.Core.Path.{_≡_, sym}
+use mathlib.Core.Bool.{true, _&&_}
+use mathlib.Core.List.{List}
+use mathlib.Core.Logic.{_↔_, _⊎_, inl, inr, ⊎-elim}
+use native.Mathlib.Omega.{arith}
+use lib.Dec.{eqb}
+use borrow.Author.Tests.{eqb-true, eq-eqb}
+use Rattle.charset.proofs.SameSetLaws.{same-when, same-has}
+use Rattle.charset.specs.Set.{characters}
+use Rattle.common.proofs.BelowLaws.{all-each, all-here}
+use Rattle.common.proofs.BoolLaws.{or-cases, or-first, or-second, and-both, and-first-true, and-second-true}
+use Rattle.grammar.specs.Check.{sameArgument, sameProduction}
+use Rattle.grammar.specs.Classes.{isClass, classHas, sameClass}
+use Rattle.grammar.specs.Layout.{argumentCount, result, argument}
+use Rattle.grammar.specs.Limits.{classBase}
+
+module _ (b : List ℕ) where
+  -- Two argument bytes are the same byte, or two classes with the same characters.
+  abbrev pub OneArgument : ℕ → ℕ → Type 0
+  OneArgument x y =
+      (x ≡ y) ⊎ ((isClass b x ≡ true) × (isClass b y ≡ true) × ((c : ℕ) → c < characters → classHas b (x - classBase) c ≡ classHas b (y - classBase) c))
+
+  one-argument-sym : (x y : ℕ) → OneArgument x y → OneArgument y x
+  one-argument-sym x y = ⊎-elim (λ e. inl (sym e)) (λ (i, j, same). inr (j, i, λ c l. sym (same c l)))
+
+  -- that is when they are the same argument
+  pub argument-exactly : (x y : ℕ) → (sameArgument b x y ≡ true) ↔ OneArgument x y
+  unfolding sameArgument sameClass
+  argument-exactly x y =
+      let own = classHas b (x - classBase) in
+      let other = classHas b (y - classBase) in
+      let classed = isClass b x && isClass b y in
+      let sets = sameClass b (x - classBase) (y - classBase) in (
+        (λ e. ⊎-elim
+            (λ f. inl (eqb-true x y f))
+            (λ f. let both = and-first-true classed sets f in
+            inr (and-first-true (isClass b x) (isClass b y) both, and-second-true (isClass b x) (isClass b y) both, same-has own other (and-second-true classed sets f)))
+            (or-cases (eqb x y) (classed && sets) e)),
+        ⊎-elim
+            (λ e. or-first (eqb x y) (classed && sets) (eq-eqb x y e))
+            (λ (i, j, same). or-second (eqb x y) (classed && sets) (and-both classed sets (and-both (isClass b x) (isClass b y) i j) (same-when own other same))),
+      )
+
+  -- Two productions have one result, as many arguments, and the same arguments.
+  abbrev pub OneProduction : ℕ → ℕ → Type 0
+  OneProduction p q =
+      (result b p ≡ result b q) × (argumentCount b p ≡ argumentCount b q) × ((i : ℕ) → i < argumentCount b p → OneArgument (argument b p i) (argument b q i))
+
+  -- that is when they are equal
+  pub equal-exactly : (p q : ℕ) → (sameProduction b p q ≡ true) ↔ OneProduction p q
+  unfolding sameProduction
+  equal-exactly p q =
+      let results = eqb (result b p) (result b q) in
+      let counts = eqb (argumentCount b p) (argumentCount b q) in (
+        (λ e. let ends = and-first-true (results && counts) _ e in (
+          eqb-true (result b p) (result b q) (and-first-true results counts ends),
+          eqb-true (argumentCount b p) (argumentCount b q) (and-second-true results counts ends),
+          λ i l. argument-exactly (argument b p i) (argument b q i) .0 (all-here _ (argumentCount b p) (and-second-true (results && counts) _ e) i l),
+        )),
+        (λ (e, f, same). and-both (results && counts) _
+            (and-both results counts (eq-eqb (result b p) (result b q) e) (eq-eqb (argumentCount b p) (argumentCount b q) f))
+            (all-each _ (argumentCount b p) (λ i l. argument-exactly (argument b p i) (argument b q i) .1 (same i l)))),
+      )
+
+  pub equal-sym : (p q : ℕ) → sameProduction b p q ≡ true → sameProduction b q p ≡ true
+  equal-sym p q h =
+      let (e, f, same) = equal-exactly p q .0 h in
+      equal-exactly q p .1 (sym e, sym f, λ i l. one-argument-sym (argument b p i) (argument b q i) (same i (omega arith)))

@@ -1,0 +1,107 @@
+-- `canonical_arguments` meets its contract: each class passed is held and has its lowest.
+use Prim.Native.Nat.{ℕ, _-_, _≤_}
+use mathlib.Core.Path.{_≡_, subst}
+use native.Mathlib.Omega.{arith}
+use Rattle.grammar.proofs.CanonicalLaws.{class-few, held-none, Filled, filled-none, filled-more, filled-all}
+use Rattle.grammar.proofs.FormedLaws.{class-in, bodies-in}
+use Rattle.grammar.proofs.LayoutLaws.{class-next}
+use Rattle.grammar.specs.Canonical.{SetsHeld}
+use Rattle.grammar.specs.Layout.{classes, classAt}
+use Rattle.grammar.proofs.canonical.canonical_arguments.Statement.{statement}
+use Rattle.grammar.proofs.canonical.canonical_arguments.Tie as tie
+
+abbrev Inv-loop : tie.InvT-loop
+Inv-loop book table₀ sets₀ count at₀ k₀ table sets at k = (k ≤ count) × (at ≡ classAt book k) × SetsHeld book k sets × Filled book k table
+
+abbrev μ-loop : tie.MeasureT-loop
+μ-loop book table₀ sets₀ count at₀ k₀ table sets at k = count - k
+
+every-byte-requires : tie.Need-every-byte-requires Inv-loop μ-loop
+every-byte-requires c κs = tt
+
+class-count-requires : tie.Need-class-count-requires Inv-loop μ-loop
+class-count-requires c κs = c .before .before .pre .header
+
+class-at-requires : tie.Need-class-at-requires Inv-loop μ-loop
+class-at-requires c κs = (bodies-in (c .before .before .before .args .book .now) (c .before .before .before .pre), omega arith)
+
+loop-holds : tie.Need-loop-holds Inv-loop μ-loop
+loop-holds c =
+    let b = c .before .before .before .before .args .book .now in
+    (omega arith, c .class-at .ensures, held-none b, filled-none b (c .before .before .every-byte .result) (c .before .before .every-byte .ensures .0) (c .before .before .every-byte .ensures .1))
+
+with-class-requires : tie.Need-with-class-requires Inv-loop μ-loop
+with-class-requires c κs =
+    let at = c .before .loop .inv in
+    (c .before .before .before .before .before .before .pre, (omega (arith, c .before .before .before .class-count .ensures), (at .1, at .2)))
+
+lowest-same-requires : tie.Need-lowest-same-requires Inv-loop μ-loop
+lowest-same-requires c κs = class-few (c .before .before .before .before .before .before .before .args .book .now) (c .before .before .before .before .before .before .before .pre) (c .before .before .loop .k) (omega (arith, c .before .before .before .before .class-count .ensures))
+
+add-table : tie.Need-add-table Inv-loop μ-loop
+add-table c = let few = class-few (c .before .before .before .before .before .before .before .before .args .book .now) (c .before .before .before .before .before .before .before .before .pre) (c .before .before .before .loop .k) (omega (arith, c .before .before .before .before .before .class-count .ensures)) in omega (arith, c .lowest-same .ensures .within)
+
+cast-table : tie.Need-cast-table Inv-loop μ-loop
+cast-table c = let few = class-few (c .before .before .before .before .before .before .before .before .args .book .now) (c .before .before .before .before .before .before .before .before .pre) (c .before .before .before .loop .k) (omega (arith, c .before .before .before .before .before .class-count .ensures)) in omega (arith, c .lowest-same .ensures .within)
+
+add-table-2 : tie.Need-add-table-2 Inv-loop μ-loop
+add-table-2 c = let few = class-few (c .before .before .before .before .before .before .before .before .args .book .now) (c .before .before .before .before .before .before .before .before .pre) (c .before .before .before .loop .k) (omega (arith, c .before .before .before .before .before .class-count .ensures)) in omega arith
+
+array-write-table : tie.Need-array-write-table Inv-loop μ-loop
+array-write-table c = let few = class-few (c .before .before .before .before .before .before .before .before .args .book .now) (c .before .before .before .before .before .before .before .before .pre) (c .before .before .before .loop .k) (omega (arith, c .before .before .before .before .before .class-count .ensures)) in omega arith
+
+range-count-requires : tie.Need-range-count-requires Inv-loop μ-loop
+range-count-requires c κs = (bodies-in (c .before .before .before .before .before .before .before .before .args .book .now) (c .before .before .before .before .before .before .before .before .pre), omega (arith, c .before .before .before .before .before .class-count .ensures))
+
+mul-at : tie.Need-mul-at Inv-loop μ-loop
+mul-at c = let within = class-in (c .before .before .before .before .before .before .before .before .before .args .book .now) (c .before .before .before .before .before .before .before .before .before .pre) (c .before .before .before .before .loop .k) (omega (arith, c .before .before .before .before .before .before .class-count .ensures)) in omega (arith, c .range-count .ensures)
+
+add-at : tie.Need-add-at Inv-loop μ-loop
+add-at c = let within = class-in (c .before .before .before .before .before .before .before .before .before .args .book .now) (c .before .before .before .before .before .before .before .before .before .pre) (c .before .before .before .before .loop .k) (omega (arith, c .before .before .before .before .before .before .class-count .ensures)) in omega (arith, c .range-count .ensures, c .before .before .before .before .loop .inv .1)
+
+add-k : tie.Need-add-k Inv-loop μ-loop
+add-k c = omega arith
+
+loop-less : tie.Need-loop-less Inv-loop μ-loop
+loop-less c = omega arith
+
+loop-again : tie.Need-loop-again Inv-loop μ-loop
+loop-again c =
+    let s = c .before .before .before .before .before .before .before .before .before in
+    let b = s .args .book .now in
+    let at = c .before .before .before .before .loop in
+    let k = at .k in
+    let few = class-few b (s .pre) k (omega (arith, c .before .before .before .before .before .before .class-count .ensures)) in
+    let held = c .before .before .with-class in
+    (omega arith, omega (arith, c .range-count .ensures, at .inv .1, class-next b k), held .ensures, filled-more b (at .table) (held .result) k (c .before .lowest-same .result) few (held .ensures) (c .before .lowest-same .ensures) (at .inv .3))
+
+returns : tie.Need-returns Inv-loop μ-loop
+returns c =
+    let b = c .before .before .before .before .before .before .args .book .now in
+    let at = c .before .loop in
+    let all : at .k ≡ classes b = omega (arith, c .before .before .before .class-count .ensures) in
+    filled-all b (at .table) (subst (λ (n : ℕ). Filled b n (at .table)) all (at .inv .3))
+
+pub canonical-arguments-spec : {M : Type 1} → statement M
+canonical-arguments-spec =
+    tie.close
+    (tie.spec
+    Inv-loop
+    μ-loop
+    every-byte-requires
+    class-count-requires
+    class-at-requires
+    loop-holds
+    with-class-requires
+    lowest-same-requires
+    add-table
+    cast-table
+    add-table-2
+    array-write-table
+    range-count-requires
+    mul-at
+    add-at
+    add-k
+    loop-less
+    loop-again
+    returns)
