@@ -1,4 +1,7 @@
 -- The theorems of the page hold.
+pub mod AnsweredLaws
 pub mod OneRightLaws
 pub mod TurnedLaws
+pub mod PartLaws
+pub mod TwinLaws
 pub mod Theorems

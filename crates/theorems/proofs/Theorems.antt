@@ -23,6 +23,8 @@ use Rattle.flatten.specs.Flat.{flatGrammar, plainClass}
 use Rattle.engine.proofs.AnswerLaws.{none-exactly, none-buffer, several-exactly, several-buffer, one-exactly, one-buffer, long-exactly, long-buffer, refused-is-long}
 use Rattle.numbers.specs.Written.{room}
 use Rattle.grammar.specs.Layout.{startSort}
+use Rattle.theorems.proofs.PartLaws.{readings-part, several-part}
+use Rattle.theorems.proofs.TwinLaws.{refused-twins, still-refused, refused-now, judged-as-before}
 use Rattle.theorems.proofs.OneRightLaws.{one-right}
 use Rattle.theorems.proofs.TurnedLaws.{turned-question, turned-listing, turned-page, turned-row, turned-part}
 use Rattle.listing.proofs.RefusedLaws.{grammar-exactly as listing-grammar, ten-exactly as listing-ten, eleven-exactly, right-exactly}
@@ -32,6 +34,8 @@ use Rattle.page.proofs.LinesLaws.{line-says, page-beyond, part-spelled, row-non
 use Rattle.page.proofs.RightLaws.{RightListing}
 use Rattle.page.proofs.UniqueLaws.{one-listed, page-one, row-one, part-one}
 use Rattle.page.specs.Answer.{pageLength, PageAfter, PageOutcome}
+use Rattle.engine.specs.declared.Answer.{Answer}
+use Rattle.parse.specs.Outcome.{Outcome}
 use Rattle.parse.proofs.AnswerLaws.{parsed-outcome, refused-unchanged, grammar-exactly, ten-exactly, twenty-exactly, text-numbers}
 use Rattle.parse.proofs.OutcomeLaws.{outcome-unique}
 use Rattle.parse.proofs.TurnedLaws.{turned-outcome}
@@ -45,6 +49,7 @@ use Rattle.flatten.proofs.SpelledGrammarLaws.{spelled-flat, spelled-reading}
 use Rattle.flatten.proofs.TurnedLaws.{turned-flat, turned-flat-answer, turned-reading}
 use Rattle.grammar.proofs.FormedLaws.{pair-judged}
 use Rattle.grammar.proofs.RisenLaws.{risen-turned, risen-rises, risen-small}
+use Rattle.grammar.proofs.EqualLaws.{equal-exactly}
 use Rattle.grammar.proofs.TurnedLaws.{turned-back, rising-characters, rising-passed}
 use Rattle.grammar.specs.Limits.{groupStep}
 use Rattle.priority.specs.Priorities.{Kind, left, right, nonassoc, kindNumber, eitherWay, declarationOf, declarationsOf}
@@ -63,7 +68,7 @@ use Rattle.sheet.proofs.TurnedLaws.{turned-sheet, turned-step}
 use Rattle.sheet.proofs.WalkLaws.{walk-summary}
 use Rattle.writing.specs.declared.WriteAnswer.{WriteAnswer}
 use Rattle.writing.specs.declared.WriteAnswer.the-variants.{Written, Refused as NotWritten}
-use Rattle.theorems.specs.Theorems.{Bytes, AcceptedExactly, RefusedExactly, ConflictExactly, FlatExactly, Refuses, OneOutcome, ListingExactly, OneIsRight, Declares, FlatIsVisser, FlatIsCompleted, FlatTrees, FlatArguments, ReadingsAreFlat, Read, TextDetermines, Archived, FlatIsWritten, ListingDetermines, OneListed, PageExactly, PageSays, Pages, Parts, SaysOfGroup, GroupsSay, Spells, GroupsAreTheirPairs, SpelledBooks, PairsAsBefore, RangesSay, TurnedRangesSame, RangesCanRise, RisingRangesAsBefore, NeverSix, LinesSay, Sheets, LinesAlone, EachStep, WalkersGoDown, MarkedCases}
+use Rattle.theorems.specs.Theorems.{Bytes, AcceptedExactly, RefusedExactly, ConflictExactly, FlatExactly, Refuses, OneOutcome, ListingExactly, OneIsRight, Declares, FlatIsVisser, FlatIsCompleted, FlatTrees, FlatArguments, ReadingsAreFlat, Read, TextDetermines, Archived, FlatIsWritten, ListingDetermines, OneListed, PageExactly, PageSays, Pages, Parts, SaysOfGroup, GroupsSay, Spells, GroupsAreTheirPairs, SpelledBooks, PairsAsBefore, RangesSay, TurnedRangesSame, RangesCanRise, RisingRangesAsBefore, NeverSix, LinesSay, Sheets, LinesAlone, EachStep, WalkersGoDown, EqualExactly, ReadingsPart, SeveralPart, TwinsRefused, EqualAsBefore, MarkedCases}
 
 -- ---- demand 1
 
@@ -371,6 +376,23 @@ pub walkers-go-down : WalkersGoDown
 walkers-go-down b s chart₀ m₀ n chart m o rs next chart′ u =
     let gave = walk-summary b s chart₀ m₀ n chart m o rs next chart′ u in
     record { gives = gave .0; inTurn = gave .1; whole = gave .2 }
+
+-- ---- request 5
+
+pub equal-productions-exactly : EqualExactly
+equal-productions-exactly = equal-exactly
+
+pub two-readings-part : ReadingsPart
+two-readings-part = readings-part
+
+pub several-readings-part : SeveralPart
+several-readings-part b w chart₀ l₀ r chart l o e = several-part b w chart₀ l₀ chart l (subst (λ (a : Answer). Outcome b w chart₀ l₀ a chart l) e o)
+
+pub twins-refused : TwinsRefused
+twins-refused b bytes place e = refused-twins b bytes (refused-first b e)
+
+pub equal-as-before : (b : List ℕ) → EqualAsBefore b
+equal-as-before b = record { stillRefused = still-refused b; refusedNow = refused-now b; judged = judged-as-before b }
 
 -- ---- the marked cases
 

@@ -21,12 +21,12 @@
 -- `Listed b w l t`: t is the reading of w whose listing l is (page/specs/Answer); `rows 0 0 t`: for each number of its listing depth, number, start and end
 -- (rows/specs/Rows). `LineBy b w chart₀ v chart`: the line w is read, has summary byte v, and leaves the chart so; `InTurn`: lines are read in turn, the chart handed on
 -- (sheet/specs/Outcome). `Only P t`: P holds of t and of nothing else; `Two P`: of two different things; `Counts P v`: of none, one or two, as v is 0, 1 or 2 (theory/specs/Counts).
-use Prim.Native.Nat.{ℕ, _+_, _*_, _/_, _%_, _≤_, _<_}
+use Prim.Native.Nat.{ℕ, _+_, _-_, _*_, _/_, _%_, _≤_, _<_}
 use mathlib.Core.Path.{_≡_}
-use mathlib.Core.Bool.{false, true}
+use mathlib.Core.Bool.{Bool, false, true, _&&_}
 use mathlib.Core.List.{List, [], _∷_, _++_}
 use mathlib.Core.Logic.{_↔_, _⊎_}
-use lib.Dec.{leb, ltb}
+use lib.Dec.{leb, ltb, eqb}
 use lib.ListN.{length, getD, take, drop}
 use lib.Seq.{slice}
 use Rattle.ccg.specs.Ccg.{Class, Line, OwnNumbers, Generated}
@@ -40,14 +40,15 @@ use Rattle.writing.specs.declared.WriteAnswer.the-variants.{Written, Refused as
 use Rattle.charset.specs.Set.{characters, spans}
 use Rattle.chart.specs.Counted.{entryOf}
 use Rattle.chart.specs.Layout.{textLimit, chartBytes}
+use Rattle.common.specs.Below.{allBelow, anyBelow}
 use Rattle.common.specs.Lists.{All}
 use Rattle.engine.specs.declared.Answer.{Answer}
 use Rattle.engine.specs.declared.Answer.the-variants.{None, One, Several, Refused as NotRead}
 use Rattle.numbers.specs.Written.{bytesOf}
-use Rattle.grammar.specs.Layout.{productions, classes, declarations, startSort, argumentCount, rangeCount, result, argument, rangeAt, low, high, declarationAt, kind, first, second}
-use Rattle.grammar.specs.Check.{outside, shortHeader, badHeader, shortContents, badArgumentCounts, badRangeCounts, badLength, badProductions, isGroup, badDeclaration, badDeclarations, repeatedProductions}
-use Rattle.grammar.specs.Classes.{classHas}
-use Rattle.grammar.specs.Limits.{pairKindLimit}
+use Rattle.grammar.specs.Layout.{productions, classes, declarations, startSort, argumentCount, rangeCount, productionAt, result, argument, rangeAt, low, high, declarationAt, kind, first, second}
+use Rattle.grammar.specs.Check.{outside, shortHeader, badHeader, shortContents, badArgumentCounts, badRangeCounts, badLength, badProductions, isGroup, badDeclaration, badDeclarations, sameProduction, repeatedProductions}
+use Rattle.grammar.specs.Classes.{isClass, classHas, sameClass}
+use Rattle.grammar.specs.Limits.{pairKindLimit, classBase}
 use Rattle.grammar.specs.Turned.{TurnedRound, RangesRise, risen}
 use Rattle.grammar.specs.Verdict.{refuseIf, firstRefusal, inOrder}
 use Rattle.grammar.specs.declared.Verdict.{Verdict}
@@ -370,8 +371,8 @@ pub record Rises (b : List ℕ) : Type 0 where
 abbrev pub RangesCanRise : Type 0
 RangesCanRise = (b : List ℕ) → checked b ≡ Accepted → Rises b
 
--- Of a grammar whose ranges rise nothing has changed: a class has the characters that it had, and the grammar is judged as it was while 6 stood between 5 and 7. (No other
--- definition knows of ranges.)
+-- Of a grammar whose ranges rise nothing has changed by this request: a class has the characters that it had, and the grammar is judged as it was while 6 stood between 5
+-- and 7.
 abbrev pub formerSix : List ℕ → Verdict
 formerSix b = firstRefusal (classes b) (λ k. firstRefusal (rangeCount b k) (λ r. refuseIf (ltb (high b k r) (low b k r)) 6 (rangeAt b k r)))
 
@@ -472,6 +473,83 @@ abbrev pub WalkersGoDown : Type 0
 WalkersGoDown =
     (b s chart₀ m₀ : List ℕ) (n : ℕ) (chart m : List ℕ) → SheetOutcome b s chart₀ m₀ (Written n) chart m
     → (rs : List Step) (next : ℕ) (chart′ : List ℕ) → Steps b s 0 chart₀ rs next chart′ → WalksDown b s chart₀ (take n m) chart rs chart′
+
+-- ---- Request 5. "In the source a grammar is a set of rules, so two rules are equal when results are equal and each argument is the same sort or the same set of
+-- characters. A user who gets 'several' then has truly different readings: the listings of any two of them first part at two rules of one result that are not equal."
+
+-- Two argument bytes are the same byte, or two classes with the same characters: classes with no character too.
+abbrev pub OneArgument : List ℕ → ℕ → ℕ → Type 0
+OneArgument b x y =
+    (x ≡ y) ⊎ ((isClass b x ≡ true) × (isClass b y ≡ true) × ((c : ℕ) → c < characters → classHas b (x - classBase) c ≡ classHas b (y - classBase) c))
+
+-- Productions are equal exactly if they have one result, as many arguments, and the same arguments. This is the test of refusal 8.
+abbrev pub EqualExactly : Type 0
+EqualExactly =
+    (b : List ℕ) (p q : ℕ) → (sameProduction b p q ≡ true)
+    ↔ ((result b p ≡ result b q) × (argumentCount b p ≡ argumentCount b q) × ((i : ℕ) → i < argumentCount b p → OneArgument b (argument b p i) (argument b q i)))
+
+-- Listings l and m are the same up to an index, where `same` ends. There l has production p and m has production q, of one result and not equal.
+pub record PartAt (b l m same : List ℕ) (p q : ℕ) : Type 0 where
+  pub own : (rest : List ℕ) × (l ≡ same ++ productionNumber p ∷ rest)
+  pub other : (rest : List ℕ) × (m ≡ same ++ productionNumber q ∷ rest)
+  pub there : (p < productions b) × (q < productions b)
+  pub oneResult : result b p ≡ result b q
+  pub notEqual : sameProduction b p q ≡ false
+
+abbrev pub Part : List ℕ → List ℕ → List ℕ → Type 0
+Part b l m = (same : List ℕ) × (p : ℕ) × (q : ℕ) × PartAt b l m same p q
+
+-- The listings of any two readings part so, whatever their size.
+abbrev pub ReadingsPart : Type 0
+ReadingsPart = (b : List ℕ) → checked b ≡ Accepted → (w : List ℕ) (t u : Tree) → Reading b w t → Reading b w u → (t ≡ u → ⊥) → Part b (listing t) (listing u)
+
+-- So whoever gets "several" has two readings whose listings part so.
+abbrev pub SeveralPart : Type 0
+SeveralPart =
+    (b w chart₀ l₀ : List ℕ) (r : Answer) (chart l : List ℕ) → Outcome b w chart₀ l₀ r chart l → r ≡ Several
+    → (t : Tree) × (u : Tree) × Reading b w t × Reading b w u × Part b (listing t) (listing u)
+
+-- Refusal 8 names a production p with an earlier one q that takes a line in no other way: over the same arguments f there is a tree with p exactly if there is one with q.
+-- (They spell the same, and their listings differ in the first number alone.) If the priorities tell them not apart, the same holds of the trees without a conflict.
+pub record TwinsAt (b : List ℕ) (place p q : ℕ) : Type 0 where
+  pub at : place ≡ productionAt b p
+  pub there : p < productions b
+  pub earlier : q < p
+  pub equal : sameProduction b p q ≡ true
+  pub trees : (x : ℕ) (f : Forest) → Built b x (node p f) ↔ Built b x (node q f)
+  pub conflictFree : ((i r : ℕ) → Conflict b p i r ↔ Conflict b q i r) → (f : Forest) → ConflictFree b (node p f) ↔ ConflictFree b (node q f)
+
+abbrev pub TwinsRefused : Type 0
+TwinsRefused = (b : List ℕ) → Bytes b → (place : ℕ) → checked b ≡ Refused 8 place → (p : ℕ) × (q : ℕ) × TwinsAt b place p q
+
+-- The former refusal 8, by which productions were equal if their bytes were; and the check with it in its place.
+abbrev pub formerEqual : List ℕ → ℕ → ℕ → Bool
+formerEqual b p q = eqb (result b p) (result b q) && eqb (argumentCount b p) (argumentCount b q) && allBelow (argumentCount b p) (λ i. eqb (argument b p i) (argument b q i))
+
+abbrev pub formerEight : List ℕ → Verdict
+formerEight b = firstRefusal (productions b) (λ p. refuseIf (anyBelow p (formerEqual b p)) 8 (productionAt b p))
+
+abbrev pub formerChecked : List ℕ → Verdict
+formerChecked b =
+    inOrder
+    (shortHeader b
+    ∷ badHeader b
+    ∷ shortContents b
+    ∷ badArgumentCounts b
+    ∷ badRangeCounts b
+    ∷ badLength b
+    ∷ badProductions b
+    ∷ badDeclarations b
+    ∷ formerEight b
+    ∷ circles b
+    ∷ [])
+
+-- No grammar is accepted that was refused; one that was accepted still is, or it is refused by 8 (`TwinsRefused`). Where no two classes are the same set, the check gives
+-- what it gave. (No other definition has changed.)
+pub record EqualAsBefore (b : List ℕ) : Type 0 where
+  pub stillRefused : checked b ≡ Accepted → formerChecked b ≡ Accepted
+  pub refusedNow : formerChecked b ≡ Accepted → (checked b ≡ Accepted) ⊎ ((place : ℕ) × (checked b ≡ Refused 8 place))
+  pub judged : ((j k : ℕ) → j < k → k < classes b → sameClass b j k ≡ false) → checked b ≡ formerChecked b
 
 -- ---- The paper's marked cases: any outcome of reading each of them, whatever chart and buffer held, is the one marked.
 abbrev pub MarkedCases : Type 0
