@@ -32,7 +32,8 @@ extern "C" {
  *   5    a result or argument names nothing. Place: its byte.
  *   7    a declaration has no such kind or names no rule, or a group's first rule is above its last. Place: its byte; for the group that of the first rule.
  *        For the conflict question also: there is no such rule or no such argument. Place: 0.
- *   8    two rules are equal. Place: the byte at which the later one starts.
+ *   8    two rules are equal: their results are, and each argument is the same sort or the same set of characters, whatever class names it. Place: the byte at which the
+ *        later one starts.
  *   9    a rule is ranked above itself. Place: the rule, the lowest such.
  *   10   the text has more than 200 bytes. Place: how many.
  *   11   the listing has an odd count of bytes, or more than 8,192. Place: how many.

@@ -28,7 +28,7 @@ check_book() {
     sh "$dir/script" | sed '/^$/d' | cmp - "$dir/body" || fail "$1.txt is not what its script makes"
 }
 
-# A text, a line an argument, and what becomes of it: numbers, or words.
+# A text, a line an argument, and what becomes of it: numbers and perhaps a note, or words.
 try() {
     printf '%s\n' "$@" | sed 's/^/| /'
     printf '%s\n' "$@" > "$dir/text"
@@ -38,10 +38,9 @@ try() {
 outcome() {
     if "$tool" - - < "$dir/text" > "$dir/bytes" 2> "$dir/words"; then
         echo $(od -An -v -tu1 "$dir/bytes")
-        "$tool" --show "$dir/bytes" | "$tool" | cmp - "$dir/bytes"
-    else
-        cat "$dir/words"
+        "$tool" --show "$dir/bytes" | "$tool" 2> "$dir/note" | cmp - "$dir/bytes"
     fi
+    cat "$dir/words"
 }
 
 # A text with N lines that differ by their number, too long to print: FORMAT with each number.
@@ -102,6 +101,12 @@ transcript() {
     try "start s" "a: s = 'a'" "b: s = 'b'" "c: s = 'c'" "left c..a" "right b..a, a..b" "not-together c .. b"
     try "start s" "left: s = 'a'" "right: s = 'b'" "left left..right" "right left..left"
     try "start s" "a-: s = 'a'" "_1: s = 'b'" "left a-.._1" "left _1.._1"
+
+    echo '# equal rules'
+    try "start s" "class digit '0'-'9'" "class number '0'-'4' '9'-'5'" "one: s = digit" "two: s = number"
+    try "start s" "class a" "class b" "s = a s" "s = b s" "s = b a"
+    try "start s" "class a 'a' 'a'" "s = 'b' a" "t = 'b' 'a'" "ba: s = 'b' 'a'" "s = a 'b'"
+    try "start s" "s =" "none: s =" "s ="
 
     echo '# wrong texts'
     try "s = 'a'"
@@ -212,6 +217,11 @@ transcript() {
     explain - 1 2 0 4 0 0 0 1 0 0 0 5 2 0 6 0 2 7 3 2 5 1
     explain 11 1 2 0 1 0 0 0 1 0 0 0
     explain 12 1 2 0 1 0 0 0 1 0 0 0 5
+    explain 12 1 2 2 0 0 0 1 1 1 2 0 64 0 65 48 57 48 52 57 53
+    explain 12 1 2 2 0 0 0 1 1 1 2 0 64 0 65 48 57 48 52 57 54
+    explain - 1 3 4 0 0 0 2 2 2 1 1 1 0 0 64 65 0 66 65 0 66 64 97 97 98 98 97 97
+    explain 12 1 2 2 0 0 0 1 1 0 0 0 64 0 65
+    explain 12 1 2 2 0 0 0 1 1 0 0 0 64 0 65 0
     explain 255 255 255 255 255 255 255
     explain x 1 1 0 0 0 0 0 0
     explain -1 1 1 0 0 0 0 0 0

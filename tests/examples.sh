@@ -98,6 +98,19 @@ downwards() {
     explain down.book 23
 }
 
+# The digits under two names: the rules are equal. With one character more in one of them they are not, and a line can have several readings.
+equal() {
+    echo '# equal rules'
+    printf 'start e\nclass digit 48-57\nclass number 53-57 52-48\none: e = digit\ntwo: e = number\n' > twice.txt
+    "$tool" --names twice.names twice.txt twice.book 2>&1
+    run viewer --names twice.names twice.book 8
+    explain twice.book 13
+    printf 'start e\nclass digit 48-57\nclass number 53-57 52-48 46\none: e = digit\ntwo: e = number\n' > near.txt
+    "$tool" --names near.names near.txt near.book 2>&1
+    run viewer --names near.names near.book 8
+    run viewer --names near.names near.book .
+}
+
 # One, none and several; empty parts in the middle; bytes from 32 to 126 and others; 54 bytes of a text and more; what has too many numbers.
 pages() {
     echo '# pages'
@@ -260,6 +273,7 @@ everything() {
     trees
     groups
     downwards
+    equal
     pages
     sheets
     lengths

@@ -121,7 +121,7 @@ fn worst(folder: &str) {
 // Checking the book, closing its ranks, the flat tables and the answer: what an empty text costs.
 fn fixed_cost(folder: &str) {
     println!("\nfixed cost: an empty text");
-    for name in ["pairs", "arithmetic", "ladder", "words", "dense", "limits", "groups"] {
+    for name in ["pairs", "arithmetic", "ladder", "words", "dense", "limits", "groups", "names"] {
         let book = book(folder, name);
         let mut buffers = Buffers::for_text(&book, 0);
         let mut number = 0;

@@ -1,6 +1,7 @@
 //! What stands at each byte of a book, whether it is accepted or not.
 
-use crate::grammar::{kind, Reach, DECLARATION, FIRST_CLASS, HEADER};
+use crate::equal::{repeats, Repeat};
+use crate::grammar::{decode, kind, Reach, DECLARATION, FIRST_CLASS, HEADER};
 use crate::tokens::character;
 
 // Their limits, as those below, are the library's.
@@ -115,12 +116,28 @@ impl Part {
     }
 }
 
+// Of a rule that is equal to an earlier one: which that is, and which classes are one set.
+fn equal_words(repeat: &Repeat) -> String {
+    let sets: Vec<String> = repeat.classes.iter().map(|(own, other)| format!("class {own} is the set of class {other}")).collect();
+    let why = if sets.is_empty() { String::new() } else { format!(": {}", sets.join(", ")) };
+    format!("; rule {} is equal to rule {}{why}", repeat.rule, repeat.earlier)
+}
+
+// What is to be said of a byte beside what it says itself, if the book can be read so far.
+fn remark(bytes: &[u8], part: Part) -> Option<String> {
+    let RuleResult(rule) = part else {
+        return None;
+    };
+    repeats(&decode(bytes).ok()?).iter().find(|repeat| repeat.rule == rule).map(equal_words)
+}
+
 // The line of a byte: its place, its value, what it is, and what it says.
 fn line(bytes: &[u8], parts: &[Part], place: usize) -> Result<String, String> {
     match (parts.get(place), bytes.get(place)) {
         (Some(part), Some(value)) => {
             let meaning = part.meaning(bytes, place).map_or(String::new(), |meaning| format!(": {meaning}"));
-            Ok(format!("{place:>4} {value:>3}  {}{meaning}\n", part.words()))
+            let remark = remark(bytes, *part).unwrap_or_default();
+            Ok(format!("{place:>4} {value:>3}  {}{meaning}{remark}\n", part.words()))
         }
         (Some(part), None) if place == bytes.len() => Ok(format!("{place:>4}   -  missing: {}\n", part.words())),
         (None, Some(value)) => Ok(format!("{place:>4} {value:>3}  too many: the counts call for {} bytes\n", parts.len())),

@@ -28,7 +28,10 @@
 // one, it is made, behind those of the lines. Without a `sorts` line the sorts are numbered as the rules first name them, and each must be the result of a rule,
 // so that a slip of the pen is found; with one, those are the sorts.
 //
-// Whether the book is accepted is for the library to say: only what no byte could hold is refused here.
+// Whether the book is accepted is for the library to say: only what no byte could hold is refused here. Of two equal rules, for which the library refuses a book, a
+// note gives the names and lines: the library knows no more than a byte. The book is made all the same. Rules are equal when their results are and each argument is the
+// same sort or the same set of characters, whatever its name and however its ranges are written.
+mod equal;
 mod explain;
 mod files;
 mod grammar;
@@ -48,7 +51,11 @@ fn make(text: &str, book: &str, names: Option<&str>) -> Result<(), String> {
     let bytes = read_all(text)?;
     let in_words = |f: Fault| format!("{}: line {}: {}", input_name(text), f.line, f.what);
     let source = parse(&bytes).map_err(in_words)?;
-    write_all(book, &source.grammar().map_err(in_words)?.bytes())?;
+    let grammar = source.grammar().map_err(in_words)?;
+    if let Some(note) = source.equal_rule(&grammar) {
+        eprintln!("book: {}", in_words(note));
+    }
+    write_all(book, &grammar.bytes())?;
     if let Some(path) = names {
         let lines: String = source.productions.iter().map(|p| format!("{}\n", p.label.name)).collect();
         write_all(path, lines.as_bytes())?;

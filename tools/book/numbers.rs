@@ -1,5 +1,6 @@
 //! From the names of a text to the numbers of a grammar.
 
+use crate::equal::repeats;
 use crate::grammar::{limit, Grammar, CLASSES_MOST, FIRST_CLASS};
 use crate::statements::{fault, Argument, Fault, Production, Source};
 
@@ -26,6 +27,18 @@ impl Source {
             grammar.priorities.push([p.kind, self.production_number(&p.first, p.line)?, self.production_number(&p.second, p.line)?]);
         }
         Ok(grammar)
+    }
+
+    // A note on the first rule that is equal to an earlier one.
+    pub fn equal_rule(&self, grammar: &Grammar) -> Option<Fault> {
+        let repeat = repeats(grammar).into_iter().next()?;
+        let named = |rule: usize, else_so: &str| match &self.productions[rule].label.name {
+            name if name.is_empty() => else_so.to_string(),
+            name => format!("rule `{name}`"),
+        };
+        let line = |rule: usize| self.productions[rule].label.line;
+        let (rule, earlier) = (named(repeat.rule, "the rule"), named(repeat.earlier, "that"));
+        Some(Fault { line: line(repeat.rule), what: format!("{rule} is equal to {earlier} of line {}; the library will refuse the book", line(repeat.earlier)) })
     }
 
     fn class_number(&self, name: &str) -> Option<usize> {
