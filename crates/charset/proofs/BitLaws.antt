@@ -6,7 +6,7 @@ use mathlib.Core.List.{List, [], _∷_}
 use mathlib.Core.Logic.{by-cases}
 use native.Mathlib.Omega.{arith}
 use native.Mathlib.Decide.{decLe, decLt}
-use native.Mathlib.Nat.{mul-assoc, not-le-of-lt, div-eq-of-lt}
+use native.Mathlib.Nat.{add-zero, mul-assoc, not-le-of-lt, div-eq-of-lt}
 use lib.Dec.{leb, ltb, eqb}
 use lib.ListN.{getD}
 use lib.Pow.{pow-pos, pow-mono, pow-add, field, mod-mod-pow, shl-exact, shl-shr, shr-shr, high as high-part, ones-lt, ones-split}
@@ -180,6 +180,19 @@ module _ (words : List ℕ) (low high m₀ m₁ m₂ m₃ : ℕ)
   pub has-or : (b : ℕ) → b < characters → has (bitOr (getD words 0 0) m₀ ∷ bitOr (getD words 1 0) m₁ ∷ bitOr (getD words 2 0) m₂ ∷ bitOr (getD words 3 0) m₃ ∷ []) b ≡ (has words b || inRange low high b)
   unfolding has words′
   has-or b h = by-word b (b / wordBits) refl (omega arith)
+
+-- four words of a longer list, read one by one
+pub has-four : (words : List ℕ) (at c : ℕ) → c < characters
+    → has (getD words at 0 ∷ getD words (at + 1) 0 ∷ getD words (at + 2) 0 ∷ getD words (at + 3) 0 ∷ []) c ≡ bit (getD words (at + c / wordBits) 0) (c % wordBits)
+unfolding has
+has-four words at c l = ap (λ (v : ℕ). bit v (c % wordBits)) (word (c / wordBits) (omega arith))
+  where
+    word : (i : ℕ) → i < setWords → getD (getD words at 0 ∷ getD words (at + 1) 0 ∷ getD words (at + 2) 0 ∷ getD words (at + 3) 0 ∷ []) i 0 ≡ getD words (at + i) 0
+    word zero h = ap (λ (n : ℕ). getD words n 0) (sym (add-zero at))
+    word (suc zero) h = refl
+    word (suc (suc zero)) h = refl
+    word (suc (suc (suc zero))) h = refl
+    word (suc (suc (suc (suc i)))) h = absurd (omega arith)
 
 pub has-empty : (c : ℕ) → c < characters → has (0 ∷ 0 ∷ 0 ∷ 0 ∷ []) c ≡ false
 unfolding has

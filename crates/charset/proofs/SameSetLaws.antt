@@ -71,10 +71,6 @@ same-word v w l m =
 
 -- ---- and the words say which set it is
 
-pub has-words : (v w : List ℕ) (c : ℕ) → c < characters → ((i : ℕ) → i < setWords → getD v i 0 ≡ getD w i 0) → has v c ≡ has w c
-unfolding has
-has-words v w c l e = ap (λ (n : ℕ). bit n (c % wordBits)) (e (c / wordBits) (omega arith))
-
 module _ (v w : List ℕ) where
   -- two sets are the same if each word has the bits of the other's
   pub same-by-words : sameSet (has v) (has w) ≡ allBelow setWords (λ i. sameBits (getD v i 0) (getD w i 0))

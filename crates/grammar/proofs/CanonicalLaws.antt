@@ -1,81 +1,78 @@
 -- Laws of one byte for all the argument bytes that are the same argument (02, [5]).
-use Prim.Native.Nat.{ℕ, _+_, _-_, _≤_, _<_}
-use mathlib.Core.Path.{_≡_, refl, sym, _∙_, subst}
+use Prim.Native.Nat.{ℕ, _+_, _-_, _*_, _/_, _%_, _≤_, _<_}
+use mathlib.Core.Path.{_≡_, refl, sym, _∙_, ap, ap₂, subst}
 use mathlib.Core.Bool.{false, true, or-false}
-use mathlib.Core.List.{List, []}
+use mathlib.Core.List.{List}
 use mathlib.Core.Logic.{_⊎_, inl, inr, by-cases}
 use native.Mathlib.Omega.{arith}
 use native.Mathlib.Decide.{ℕ-discrete, decLt}
 use lib.Dec.{eqb}
-use lib.ListN.{length, getD, set, length-set, replicate, length-replicate, getD-replicate}
+use lib.ListN.{length, getD, set, length-set, replicate, length-replicate}
 use lib.Seq.{getD-set-same, getD-set-other}
 use borrow.Author.Tests.{eqb-true, eq-eqb, ne-eqb}
-use Rattle.charset.proofs.SameSetLaws.{has-words, same-set-self, same-set-sym, same-set-trans, same-set-like}
-use Rattle.charset.specs.Set.{characters, setWords, has, sameSet}
+use Rattle.charset.proofs.SameSetLaws.{same-set-self, same-set-sym, same-set-trans, same-set-like}
+use Rattle.charset.specs.Set.{characters, wordBits, setWords, bit, has, sameSet}
 use Rattle.charset.specs.Sought.{Sought}
 use Rattle.common.proofs.BoolLaws.{same-test, not-both, or-absorbed}
 use Rattle.common.specs.Bytes.{byteValues}
 use Rattle.grammar.proofs.ClassesLaws.{class-there, class-named, no-class-below, no-class-above}
-use Rattle.grammar.specs.Canonical.{SetsHeld, LowestSame, Canonical}
+use Rattle.grammar.specs.Canonical.{setHas, SetsHeld, LowestSame, Canonical}
 use Rattle.grammar.specs.Check.{sameArgument}
 use Rattle.grammar.specs.Classes.{isClass, classHas, sameClass}
 use Rattle.grammar.specs.Formed.{Framed}
 use Rattle.grammar.specs.Layout.{classes}
 use Rattle.grammar.specs.Limits.{classLimit, classBase}
 
--- ---- the rows of words
+-- ---- the sets
 
--- there is a row for each class
+-- there is room for each class
 pub class-few : (b : List ℕ) → Framed b → (k : ℕ) → k < classes b → k < classLimit
 class-few b f k l = omega (arith, f .fewClasses)
 
 -- at first no class is held
-pub held-none : (b : List ℕ) → SetsHeld b 0 (replicate classLimit (replicate {A = ℕ} setWords 0))
-held-none b =
-    record {
-      rows = length-replicate classLimit (replicate {A = ℕ} setWords 0);
-      columns = λ j l. rw (getD-replicate classLimit j (replicate {A = ℕ} setWords 0) [] l) (length-replicate {A = ℕ} setWords 0);
-      held = λ j c l m. absurd (omega arith);
-    }
+pub held-none : (b : List ℕ) → SetsHeld b 0 (replicate {A = ℕ} (classLimit * setWords) 0)
+held-none b = record { long = length-replicate {A = ℕ} (classLimit * setWords) 0; held = λ k c l m. absurd (omega arith) }
 
--- Of row k the words below n are written, the other rows are as they were.
-pub record Writing (k n : ℕ) (words : List ℕ) (sets₀ sets : List (List ℕ)) : Type 0 where
-  pub rows : length sets ≡ classLimit
-  pub columns : (j : ℕ) → j < classLimit → length (getD sets j []) ≡ setWords
-  pub others : (j : ℕ) → (j ≡ k → ⊥) → getD sets j [] ≡ getD sets₀ j []
-  pub written : (w : ℕ) → w < n → getD (getD sets k []) w 0 ≡ getD words w 0
+-- a character's word and bit are those of its set
+pub held-word : (words : List ℕ) (k c : ℕ) → setHas words k c ≡ bit (getD words (setWords * k + c / wordBits) 0) (c % wordBits)
+unfolding has
+held-word words k c =
+    let word : (characters * k + c) / wordBits ≡ setWords * k + c / wordBits = omega arith in
+    let at : (characters * k + c) % wordBits ≡ c % wordBits = omega arith in
+    ap₂ (λ (n i : ℕ). bit (getD words n 0) i) word at
 
-module _ (b : List ℕ) (k : ℕ) (words : List ℕ) (sets₀ : List (List ℕ)) (there : k < classLimit) where
-  pub writing-none : SetsHeld b k sets₀ → Writing k 0 words sets₀ sets₀
-  writing-none h = record { rows = h .rows; columns = h .columns; others = λ j n. refl; written = λ w l. absurd (omega arith) }
+-- Of set k the words below n are written, the sets before it are as they were.
+pub record Writing (k n : ℕ) (own words₀ words : List ℕ) : Type 0 where
+  pub long : length words ≡ classLimit * setWords
+  pub before : (i : ℕ) → i < setWords * k → getD words i 0 ≡ getD words₀ i 0
+  pub written : (w : ℕ) → w < n → getD words (setWords * k + w) 0 ≡ getD own w 0
 
-  pub writing-more : (n : ℕ) (sets : List (List ℕ)) → n < setWords → Writing k n words sets₀ sets
-      → Writing k (n + 1) words sets₀ (set sets k (set (getD sets k []) n (getD words n 0)))
-  writing-more n sets l h =
-      let row = set (getD sets k []) n (getD words n 0) in
-      let own : getD (set sets k row) k [] ≡ row = getD-set-same sets k row [] (omega (arith, h .rows)) in
+module _ (b : List ℕ) (k : ℕ) (own words₀ : List ℕ) (there : k < classLimit) where
+  pub writing-none : SetsHeld b k words₀ → Writing k 0 own words₀ words₀
+  writing-none h = record { long = h .long; before = λ i l. refl; written = λ w l. absurd (omega arith) }
+
+  pub writing-more : (n : ℕ) (words : List ℕ) → n < setWords → Writing k n own words₀ words → Writing k (n + 1) own words₀ (set words (setWords * k + n) (getD own n 0))
+  writing-more n words l h =
+      let at = setWords * k + n in
+      let v = getD own n 0 in
       record {
-        rows = length-set sets k row ∙ h .rows;
-        columns = λ j m. elim (ℕ-discrete j k) [
-          | yes e ↦ rw (e, own) (length-set (getD sets k []) n (getD words n 0) ∙ h .columns k there)
-          | no e ↦ rw (getD-set-other sets k j row [] e) (h .columns j m)
+        long = length-set words at v ∙ h .long;
+        before = λ i m. getD-set-other words at i v 0 (λ e. omega arith) ∙ h .before i m;
+        written = λ w m. elim (ℕ-discrete w n) [
+          | yes e ↦ rw e (getD-set-same words at v 0 (omega (arith, h .long)))
+          | no e ↦ getD-set-other words at (setWords * k + w) v 0 (λ d. e (omega arith)) ∙ h .written w (omega arith)
         ];
-        others = λ j e. getD-set-other sets k j row [] e ∙ h .others j e;
-        written = λ w m. rw own (elim (ℕ-discrete w n) [
-          | yes e ↦ rw e (getD-set-same (getD sets k []) n (getD words n 0) 0 (omega (arith, h .columns k there)))
-          | no e ↦ getD-set-other (getD sets k []) n w (getD words n 0) 0 e ∙ h .written w (omega arith)
-        ]);
       }
 
-  pub writing-all : (n : ℕ) (sets : List (List ℕ)) → setWords ≤ n → SetsHeld b k sets₀ → ((c : ℕ) → c < characters → has words c ≡ classHas b k c)
-      → Writing k n words sets₀ sets → SetsHeld b (k + 1) sets
-  writing-all n sets l before new h =
+  pub writing-all : (n : ℕ) (words : List ℕ) → setWords ≤ n → SetsHeld b k words₀ → ((c : ℕ) → c < characters → has own c ≡ classHas b k c)
+      → Writing k n own words₀ words → SetsHeld b (k + 1) words
+  unfolding has
+  writing-all n words l before new h =
       record {
-        rows = h .rows;
-        columns = h .columns;
-        held = λ j c m o. elim (ℕ-discrete j k) [
-          | yes e ↦ rw e (has-words (getD sets k []) words c o (λ w i. h .written w (omega arith)) ∙ new c o)
-          | no e ↦ rw (h .others j e) (before .held j c (omega arith) o)
+        long = h .long;
+        held = λ j c m o. held-word words j c ∙ elim (ℕ-discrete j k) [
+          | yes e ↦ rw e (ap (λ (v : ℕ). bit v (c % wordBits)) (h .written (c / wordBits) (omega arith)) ∙ new c o)
+          | no e ↦ ap (λ (v : ℕ). bit v (c % wordBits)) (h .before (setWords * j + c / wordBits) (omega arith)) ∙ sym (held-word words₀ j c) ∙ before .held j c (omega arith) o
         ];
       }
 
@@ -85,11 +82,11 @@ module _ (b : List ℕ) (k : ℕ) (words : List ℕ) (sets₀ : List (List ℕ))
 abbrev Lowest : List ℕ → ℕ → ℕ → Type 0
 Lowest b k r = Sought k (sameClass b k) true 0 r
 
--- the lowest row is the lowest class
-rows-lowest : (b : List ℕ) (sets : List (List ℕ)) (k r : ℕ) → SetsHeld b (k + 1) sets → LowestSame sets k r → Lowest b k r
+-- the lowest set is that of the lowest class
+held-lowest : (b words : List ℕ) (k r : ℕ) → SetsHeld b (k + 1) words → LowestSame words k r → Lowest b k r
 unfolding sameClass
-rows-lowest b sets k r h s =
-    let same : (j : ℕ) → j < k → sameClass b k j ≡ sameSet (has (getD sets k [])) (has (getD sets j [])) =
+held-lowest b words k r h s =
+    let same : (j : ℕ) → j < k → sameClass b k j ≡ sameSet (setHas words k) (setHas words j) =
     λ j l. sym (same-set-like _ _ _ _ (λ c m. h .held k c (omega arith) m) (λ c m. h .held j c (omega arith) m)) in
     record {
       after = s .after;
@@ -139,16 +136,16 @@ pub filled-none : (b table : List ℕ) → length table ≡ byteValues → ((x :
 filled-none b table long own =
     record { long = long; below = λ x l. own x (omega arith); named = λ k l. absurd (omega arith); above = λ x l m. own x m }
 
-pub filled-more : (b table : List ℕ) (sets : List (List ℕ)) (k r : ℕ) → k < classLimit → SetsHeld b (k + 1) sets → LowestSame sets k r → Filled b k table
+pub filled-more : (b table words : List ℕ) (k r : ℕ) → k < classLimit → SetsHeld b (k + 1) words → LowestSame words k r → Filled b k table
     → Filled b (k + 1) (set table (classBase + k) (classBase + r))
-filled-more b table sets k r there h s f =
+filled-more b table words k r there h s f =
     let at = classBase + k in
     let v = classBase + r in
     record {
       long = length-set table at v ∙ f .long;
       below = λ x l. getD-set-other table at x v 0 (λ e. omega arith) ∙ f .below x l;
       named = λ j l. elim (ℕ-discrete j k) [
-        | yes e ↦ rw e (r, getD-set-same table at v 0 (omega (arith, f .long)), rows-lowest b sets k r h s)
+        | yes e ↦ rw e (r, getD-set-same table at v 0 (omega (arith, f .long)), held-lowest b words k r h s)
         | no e ↦ let (t, g, low) = f .named j (omega arith) in (t, getD-set-other table at (classBase + j) v 0 (λ d. e (omega arith)) ∙ g, low)
       ];
       above = λ x l m. getD-set-other table at x v 0 (λ e. omega arith) ∙ f .above x (omega arith) m;

@@ -11,10 +11,11 @@ use charset::SET_WORDS;
 use common::BYTE_VALUES;
 use common::wide;
 ghost use mathlib.Core.Path.{_≡_};
-ghost use Prim.Native.Nat.{ℕ, _+_, _<_};
+ghost use Prim.Native.Nat.{ℕ, _+_, _*_, _<_};
 ghost use lib.ListN.{length, getD};
+ghost use Rattle.charset.specs.Set.{characters, setWords, has};
 ghost use Rattle.common.specs.Bytes.{byteValues};
-ghost use Rattle.grammar.specs.Canonical.{SetsHeld, LowestSame, Canonical};
+ghost use Rattle.grammar.specs.Canonical.{setHas, SetsHeld, LowestSame, Canonical};
 ghost use Rattle.grammar.specs.Formed.{Framed};
 ghost use Rattle.grammar.specs.Layout.{classes, classAt};
 ghost use Rattle.grammar.specs.Limits.{classLimit};
@@ -25,14 +26,13 @@ pub fn canonical_arguments(book: &[u8]) -> [u8; BYTE_VALUES]
     ensures { λ r. ⌜ Canonical (now (book .entry)) r ⌝ }
 {
     let mut table = every_byte();
-    let mut sets = [[0u64; SET_WORDS]; CLASS_LIMIT];
+    let mut sets = [0u64; CLASS_LIMIT * SET_WORDS];
     let count = class_count(book);
     let mut at = class_at(book, 0);
     let mut k = 0;
     while k < count {
-        let more = with_class(sets, book, k, at);
-        sets = more;
-        table[CLASS_BASE + k] = (CLASS_BASE + lowest_same(sets, k)) as u8;
+        hold_set(&mut sets, book, k, at);
+        table[CLASS_BASE + k] = (CLASS_BASE + lowest_same(&sets, k)) as u8;
         at += 2 * range_count(book, k);
         k += 1;
     }
@@ -60,38 +60,42 @@ fn every_byte() -> [u8; BYTE_VALUES]
     table
 }
 
-// The rows with that of class k more, whose ranges stand at `at`.
-fn with_class(
-    sets: [[u64; SET_WORDS]; CLASS_LIMIT],
-    book: &[u8],
-    k: usize,
-    at: usize,
-) -> [[u64; SET_WORDS]; CLASS_LIMIT]
+// Writes the set of class k, whose ranges stand at `at`, behind those of the classes before it.
+fn hold_set(sets: &mut [u64], book: &[u8], k: usize, at: usize)
     requires { ⌜ Framed (now book) ⌝ }
     requires { ⌜ k < classes (now book) ⌝ }
     requires { ⌜ at ≡ classAt (now book) k ⌝ }
-    requires { ⌜ SetsHeld (now book) k sets ⌝ }
-    ensures { λ r. ⌜ SetsHeld (now (book .entry)) (k + 1) r ⌝ }
+    requires { ⌜ SetsHeld (now book) k (now sets) ⌝ }
+    ensures { λ _. ⌜ SetsHeld (now (book .entry)) (k + 1) (now (sets .exit)) ⌝ }
 {
     let own = ranges_set(book, k, at);
-    let mut more = sets;
     let mut w = 0;
     while w < SET_WORDS {
-        more[k][w] = own.words[w];
+        sets[SET_WORDS * k + w] = own.words[w];
         w += 1;
     }
-    more
 }
 
-// The lowest row that holds the set of row k.
-fn lowest_same(sets: [[u64; SET_WORDS]; CLASS_LIMIT], k: usize) -> usize
-    requires { ⌜ k < classLimit ⌝ }
-    ensures { λ r. ⌜ LowestSame sets k r ⌝ }
+// Set k.
+fn held_set(sets: &[u64], k: usize) -> CharSet
+    requires { ⌜ (length (now sets) ≡ classLimit * setWords) × (k < classLimit) ⌝ }
+    ensures { λ r. ⌜ ((c : ℕ) → c < characters → has (r .words) c ≡ setHas (now (sets .entry)) k c) ⌝ }
 {
-    let own = CharSet { words: sets[k] };
+    let at = SET_WORDS * k;
+    CharSet {
+        words: [sets[at], sets[at + 1], sets[at + 2], sets[at + 3]],
+    }
+}
+
+// The lowest set that is the same as set k.
+fn lowest_same(sets: &[u64], k: usize) -> usize
+    requires { ⌜ (length (now sets) ≡ classLimit * setWords) × (k < classLimit) ⌝ }
+    ensures { λ r. ⌜ LowestSame (now (sets .entry)) k r ⌝ }
+{
+    let own = held_set(sets, k);
     let mut j = 0;
     while j < k {
-        if own.same(CharSet { words: sets[j] }) {
+        if own.same(held_set(sets, j)) {
             return j;
         }
         j += 1;

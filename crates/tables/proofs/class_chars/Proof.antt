@@ -1,28 +1,15 @@
 -- `class_chars` meets its contract: the four words of the slot.
-use Prim.Native.Nat.{ℕ, zero, suc, _+_, _/_, _%_, _<_}
-use mathlib.Core.List.{List, [], _∷_}
-use mathlib.Core.Path.{_≡_, refl, sym, ap}
-use native.Mathlib.Nat.{add-zero}
+use Prim.Native.Nat.{ℕ, _+_, _/_, _%_}
+use mathlib.Core.Path.{_∙_, ap}
 use native.Mathlib.Omega.{arith}
 use lib.ListN.{getD}
 use borrow.Author.Needs.{needs}
-use Rattle.charset.specs.Set.{characters, bit, has, setWords, wordBits}
+use Rattle.charset.proofs.BitLaws.{has-four}
+use Rattle.charset.specs.Set.{bit, wordBits}
 use Rattle.tables.proofs.LayoutLaws.{class-in}
-use Rattle.tables.specs.Layout.{slotAt, takesChar}
+use Rattle.tables.specs.Layout.{takesChar}
 use Rattle.tables.proofs.class_chars.Statement.{statement}
 use Rattle.tables.proofs.class_chars.Tie as tie
-
-four-words : (t : List ℕ) (s at c : ℕ) → at ≡ slotAt s → c < characters
-    → has (getD t at 0 ∷ getD t (at + 1) 0 ∷ getD t (at + 2) 0 ∷ getD t (at + 3) 0 ∷ []) c ≡ takesChar t s c
-unfolding has takesChar
-four-words t s at c e l = rw (← e) (ap (λ (v : ℕ). bit v (c % wordBits)) (word (c / wordBits) (omega arith)))
-  where
-    word : (k : ℕ) → k < setWords → getD (getD t at 0 ∷ getD t (at + 1) 0 ∷ getD t (at + 2) 0 ∷ getD t (at + 3) 0 ∷ []) k 0 ≡ getD t (at + k) 0
-    word zero h = ap (λ (n : ℕ). getD t n 0) (sym (add-zero at))
-    word (suc zero) h = refl
-    word (suc (suc zero)) h = refl
-    word (suc (suc (suc zero))) h = refl
-    word (suc (suc (suc (suc k)))) h = absurd (omega arith)
 
 slot-at-requires : tie.Need-slot-at-requires
 slot-at-requires c κs = search needs
@@ -83,10 +70,11 @@ shared-slice-read-t18 c =
     omega (arith, c .before .before .before .before .slot-at .ensures, class-in (start .args .s) (start .pre .1))
 
 returns : tie.Need-returns
+unfolding takesChar
 returns c =
     let start = c .before .before .before .before .before .before in
     let slot-at = c .before .before .before .before .slot-at in
-    λ x l. four-words (start .args .tables .now) (start .args .s) (slot-at .result) x (slot-at .ensures) l
+    λ x l. has-four (start .args .tables .now) (slot-at .result) x l ∙ ap (λ (at : ℕ). bit (getD (start .args .tables .now) (at + x / wordBits) 0) (x % wordBits)) (slot-at .ensures)
 
 pub class-chars-spec : {M : Type 1} → statement M
 class-chars-spec =
