@@ -104,7 +104,7 @@ equal() {
     printf 'start e\nclass digit 48-57\nclass number 53-57 52-48\none: e = digit\ntwo: e = number\n' > twice.txt
     "$tool" --names twice.names twice.txt twice.book 2>&1
     run viewer --names twice.names twice.book 8
-    explain twice.book 13
+    explain twice.book 12
     printf 'start e\nclass digit 48-57\nclass number 53-57 52-48 46\none: e = digit\ntwo: e = number\n' > near.txt
     "$tool" --names near.names near.txt near.book 2>&1
     run viewer --names near.names near.book 8

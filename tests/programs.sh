@@ -145,14 +145,16 @@ flat_refusals() {
     flat 'a group whose first is above its second' 'refused 7 32'
     given 1 3 0 0 0 0 1 0 1 0 0 0 0 0
     flat 'a rule equal to an earlier one' 'refused 8 12'
+    given 1 2 2 0 0 0 1 1 1 2 0 64 0 65 48 57 48 52 57 53
+    flat 'a rule equal to an earlier one by its set' 'refused 8 12'
     given $(book_t 1 1 2 1 2 1)
     flat 'case (h)' 'refused 9 1'
 }
 
 # A flat book of 64 lines of 1,024 bytes: it fits exactly. Its classes are named below by what they hold beside 13 ranges from \110-\112 to \170-\172:
-# A has 10 to 12, B has 10 and 20, and C has 97 to 100. In the flat book A takes 2 + 7 + 13 × 9 = 126 bytes, B a byte less, C a byte more.
+# A has a range from 10 + k to 12 + k, B has 10 and 20, and C has 97 to 100. In the flat book A takes 2 + 7 + 13 × 9 = 126 bytes, B a byte less, C a byte more.
 # A rule has six of A and two of B: 6 × 126 + 2 × 125, 8 spaces, and `-> [\258]` with its line feed: 1,024 bytes.
-# So that no two rules are equal, the classes 0 to 61 are all A, and rule r begins with class r; class 62 is what the argument says, and stands in one rule alone.
+# So that no two rules are equal, class k from 0 to 61 is A with this k, and rule r begins with class r; class 62 is what the argument says, and stands in one rule alone.
 wide_book() { # A or C
     awk -v last="$1" '
         function thirteen(i) { for (i = 0; i < 13; i++) print 110 + 5 * i, 112 + 5 * i }
@@ -163,9 +165,9 @@ wide_book() { # A or C
             print 15
             for (r = 0; r < 63; r++) print 0, 64 + r, 64, 64, 64, 64, 64, 127, 127
             print 0, 64, 64, 64, 64, 64, 127, 64, 127
-            for (k = 0; k < 62; k++) { thirteen(); print 10, 12 }
+            for (k = 0; k < 62; k++) { thirteen(); print 10 + k, 12 + k }
             thirteen()
-            if (last == "A") print 10, 12; else print 97, 100
+            if (last == "A") print 72, 74; else print 97, 100
             thirteen()
             print 20, 20, 10, 10
         }'
@@ -174,9 +176,10 @@ wide_book() { # A or C
 wide_text() {
     awk 'BEGIN {
         for (i = 0; i < 13; i++) thirteen = thirteen sprintf("\\%d-\\%d", 110 + 5 * i, 112 + 5 * i)
-        a = "[\\10-\\12" thirteen "] "
+        for (k = 0; k < 63; k++) own[k] = sprintf("[\\%d-\\%d", 10 + k, 12 + k) thirteen "] "
+        a = own[0]
         b = "[\\10\\20" thirteen "] "
-        for (r = 0; r < 63; r++) printf "%s%s%s%s%s%s%s%s-> [\\%d]\n", a, a, a, a, a, a, b, b, 258 + r
+        for (r = 0; r < 63; r++) printf "%s%s%s%s%s%s%s%s-> [\\%d]\n", own[r], a, a, a, a, a, b, b, 258 + r
         printf "%s%s%s%s%s%s%s%s-> [\\321]\n", a, a, a, a, a, b, a, b
     }'
 }

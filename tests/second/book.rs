@@ -1,8 +1,7 @@
-//! Reading a book's bytes by document 01 and requests [2] and [3] of 02, with the number and place of the first refusal in
-//! 01's order. No refusal has the number 6 any more.
+//! Reading a book's bytes by document 01 and requests [2], [3] and [5] of 02, with the number and place of the first refusal
+//! in 01's order. No refusal has the number 6 any more.
 
 use crate::ranks::Ranks;
-use std::collections::HashSet;
 use std::ops::Range;
 
 /// Rule r has the number 258 + r.
@@ -37,6 +36,16 @@ impl Declaration {
     pub fn is_group(&self) -> bool {
         (5..=7).contains(&self.kind)
     }
+}
+
+/// What a book's bytes hold if none of refusals 1 to 7 is met.
+pub struct Bodies {
+    start: usize,
+    pub rules: Vec<Rule>,
+    /// Where the result of each rule stands.
+    pub places: Vec<usize>,
+    classes: Vec<[bool; 256]>,
+    pub declarations: Vec<Declaration>,
 }
 
 pub struct Book {
@@ -137,7 +146,7 @@ fn rule(bytes: &[u8], at: usize, count: usize, head: &Header) -> Result<Rule, Re
 }
 
 /// The characters of some ranges, two bytes to a range: its ends, in either order.
-fn class(ranges: &[u8]) -> [bool; 256] {
+pub fn class(ranges: &[u8]) -> [bool; 256] {
     let mut set = [false; 256];
     for ends in ranges.chunks(2) {
         let (low, high) = (ends[0].min(ends[1]), ends[0].max(ends[1]));
@@ -179,26 +188,15 @@ fn declaration(bytes: &[u8], at: usize, head: &Header) -> Result<Declaration, Re
     Ok(found)
 }
 
-/// Refusal 8: the first rule whose bytes an earlier rule has already.
-fn unlike(bodies: &[(usize, &[u8])]) -> Result<(), Refusal> {
-    let mut seen = HashSet::new();
-    for &(at, body) in bodies {
-        if !seen.insert(body) {
-            return refuse(8, at);
-        }
-    }
-    Ok(())
-}
-
-/// The book in these bytes, or its first refusal.
-pub fn read_book(bytes: &[u8]) -> Result<Book, Refusal> {
+/// The bodies in these bytes, or the first of refusals 1 to 7.
+pub fn bodies(bytes: &[u8]) -> Result<Bodies, Refusal> {
     let head = header(bytes)?;
     let (argument_counts, range_counts) = contents(bytes, &head)?;
     let mut at = 6 + head.rules + head.classes;
-    let (mut rules, mut bodies, mut classes, mut declarations) = (vec![], vec![], vec![], vec![]);
+    let (mut rules, mut places, mut classes, mut declarations) = (vec![], vec![], vec![], vec![]);
     for &count in argument_counts {
         rules.push(rule(bytes, at, count as usize, &head)?);
-        bodies.push((at, &bytes[at..at + 1 + count as usize]));
+        places.push(at);
         at += 1 + count as usize;
     }
     for &count in range_counts {
@@ -209,12 +207,45 @@ pub fn read_book(bytes: &[u8]) -> Result<Book, Refusal> {
         declarations.push(declaration(bytes, at, &head)?);
         at += 3;
     }
-    unlike(&bodies)?;
+    Ok(Bodies { start: head.start, rules, places, classes, declarations })
+}
+
+impl Bodies {
+    /// Are two arguments the same sort, or classes that have each byte both or neither, whatever their names?
+    fn same_argument(&self, a: Argument, b: Argument) -> bool {
+        match (a, b) {
+            (Argument::Sort(s), Argument::Sort(t)) => s == t,
+            (Argument::Class(k), Argument::Class(l)) => self.classes[k] == self.classes[l],
+            _ => false,
+        }
+    }
+
+    /// Request [5]: the results are the same, and so is each argument.
+    fn equal(&self, a: &Rule, b: &Rule) -> bool {
+        let same_arguments = || a.arguments.iter().zip(&b.arguments).all(|(&x, &y)| self.same_argument(x, y));
+        a.result == b.result && a.arguments.len() == b.arguments.len() && same_arguments()
+    }
+
+    /// Refusal 8: the first rule that is equal to an earlier one.
+    fn unlike(&self) -> Result<(), Refusal> {
+        let is_twin = |r: usize| self.rules[..r].iter().any(|earlier| self.equal(earlier, &self.rules[r]));
+        match (0..self.rules.len()).find(|&r| is_twin(r)) {
+            Some(r) => refuse(8, self.places[r]),
+            None => Ok(()),
+        }
+    }
+}
+
+/// The book in these bytes, or its first refusal.
+pub fn read_book(bytes: &[u8]) -> Result<Book, Refusal> {
+    let found = bodies(bytes)?;
+    found.unlike()?;
+    let Bodies { start, rules, classes, declarations, .. } = found;
     let ranks = Ranks::new(rules.len(), &declarations);
     if let Some(lowest) = ranks.circle() {
         return refuse(9, lowest);
     }
-    Ok(Book { start: head.start, rules, classes, declarations, ranks })
+    Ok(Book { start, rules, classes, declarations, ranks })
 }
 
 impl Book {

@@ -1,12 +1,14 @@
 //! The two methods of this program against each other, on cases small enough to keep all trees: the verdict, the listing,
 //! every chart entry; and on the way the patterns against the clash question, and the listing check and the page against the
-//! trees.
+//! trees, and where every two readings part.
 
 use crate::book::Book;
+use crate::cases::Case;
 use crate::compare::Mismatch;
 use crate::counter::{Item, Layout, ENDLESS};
 use crate::listing::{check, to_bytes, Judgement};
 use crate::pages;
+use crate::parting;
 use crate::reading::Study;
 use crate::tally::Tally;
 use crate::trees::Forest;
@@ -117,7 +119,7 @@ fn own_listing(book: &Book, study: &Study) -> Result<(), Mismatch> {
     wrong("listing check", format!("right: {bytes:?}"), "wrong".into())
 }
 
-pub fn both_methods(study: &Study, tally: &mut Tally) -> Result<(), Mismatch> {
+pub fn both_methods(case: &Case, study: &Study, tally: &mut Tally) -> Result<(), Mismatch> {
     let Ok(book) = &study.book else {
         return Ok(());
     };
@@ -133,5 +135,6 @@ pub fn both_methods(study: &Study, tally: &mut Tally) -> Result<(), Mismatch> {
     let forest = Forest::grow(book, &study.text, 1500);
     verdicts_agree(study, &forest, tally)?;
     charts_agree(book, study, &forest, tally)?;
-    listings_agree(book, study, &forest)
+    listings_agree(book, study, &forest)?;
+    parting::check(&case.book, book, &forest, tally)
 }

@@ -251,11 +251,17 @@ fn bad_book(book: &[u8], dice: &mut Dice, tally: &mut Tally) -> Result<(), Misma
     others::check(book, &study.book, dice, tally)
 }
 
-/// The flat texts that the papers give: T's, and one of 75,904 bytes.
-fn flat_texts(dice: &mut Dice, tally: &mut Tally) -> Result<(), Mismatch> {
-    let ranges: Vec<(u8, u8)> = (0..16).map(|k| (100 + 3 * k, 101 + 3 * k)).collect();
+/// 64 rules with eight classes each. A class is 16 ranges of 9 bytes in brackets, so a line has 8 * 147 + 10 bytes. The first
+/// class of rule r starts at 100 + r, so no two rules are equal.
+fn wide() -> Plan {
+    let class = |k: u8| (0..16).map(|j| (100 + k + 3 * j, 101 + k + 3 * j)).collect();
     let rules = (0..64).map(|r| (0, vec![64 + r, 64, 64, 64, 64, 64, 64, 64])).collect();
-    let wide = Plan { sorts: 1, start: 0, rules, classes: vec![ranges; 64], declarations: vec![] }.bytes();
+    Plan { sorts: 1, start: 0, rules, classes: (0..64).map(class).collect(), declarations: vec![] }
+}
+
+/// The flat text of T that 01 gives, and one of 64 * 1,186 = 75,904 bytes.
+fn flat_texts(dice: &mut Dice, tally: &mut Tally) -> Result<(), Mismatch> {
+    let wide = wide().bytes();
     let text_of = |book: &[u8]| crate::book::read_book(book).map(|b| crate::flat::text(&b)).unwrap_or_default();
     if text_of(&book_t(&T)) != FLAT_T.as_bytes() || text_of(&wide).len() != 75_904 {
         let found = String::from_utf8_lossy(&text_of(&book_t(&T))).into();
@@ -283,6 +289,9 @@ pub fn run(tally: &mut Tally) -> Result<(), Mismatch> {
     crate::fixed_clashes::run(&mut dice, tally)?;
     crate::fixed_ranges::run(&mut dice, tally)?;
     crate::fixed_turned::run(&mut dice, tally)?;
+    crate::fixed_equal::run(&mut dice, tally)?;
+    crate::fixed_twins::run(&mut dice, tally)?;
+    crate::fixed_equal_calls::run(&mut dice, tally)?;
     crate::fixed_sheets::run(&mut dice, tally)?;
     crate::fixed_limits::run(&mut dice, tally)?;
     crate::fixed_steps::run(&mut dice, tally)?;

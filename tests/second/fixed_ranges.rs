@@ -141,7 +141,8 @@ fn among_sixteen() -> Vec<Worked> {
     ]
 }
 
-/// Two and more classes. Rules that differ in the class's name are not equal, whatever its characters, until request [5].
+/// Two and more classes. By request [5] rules with the same characters are equal, whatever the name of the class and the way
+/// it is written: of two classes, rule 0 is at byte 10 and rule 1 at byte 12. One character more or less, and they are not.
 fn several_classes() -> Vec<Worked> {
     let of = |name, classes: &[&[(u8, u8)]], text, hand| worked(name, rule_to_each(classes), text, hand);
     let in_turn = |name, text, hand| {
@@ -149,20 +150,31 @@ fn several_classes() -> Vec<Worked> {
         let plan = Plan { sorts: 1, start: 0, rules: vec![(0, vec![64, 65])], classes, declarations: vec![] };
         worked(name, plan.bytes(), text, hand)
     };
+    // Class k is the character 100 + k.
+    let characters: Vec<Vec<(u8, u8)>> = (0..63).map(|k| vec![(100 + k, 100 + k)]).collect();
+    let singles: Vec<&[(u8, u8)]> = characters.iter().map(|class| &class[..]).collect();
     // Rule 0 has the first class; no rule has the second.
     let unused = vec![1, 1, 2, 0, 0, 0, 1, 1, 1, 0, 64, 56, 56, 9, 0];
     vec![
-        of("48 57 and 57 48", &[&[(48, 57)], &[(57, 48)]], b"8", Hand::Several),
-        of("57 48 and 48 57", &[&[(57, 48)], &[(48, 57)]], b"0", Hand::Several),
-        of("57 48 twice", &[&[(57, 48)], &[(57, 48)]], b"9", Hand::Several),
-        of("57 48 twice, one above", &[&[(57, 48)], &[(57, 48)]], b":", Hand::None),
+        of("48 57 and 57 48", &[&[(48, 57)], &[(57, 48)]], b"8", Hand::Refused(8, 12)),
+        of("57 48 and 48 57", &[&[(57, 48)], &[(48, 57)]], b"0", Hand::Refused(8, 12)),
+        of("57 48 twice", &[&[(57, 48)], &[(57, 48)]], b"9", Hand::Refused(8, 12)),
+        of("57 48 twice, one above", &[&[(57, 48)], &[(57, 48)]], b":", Hand::Refused(8, 12)),
+        of("48 57 and 57 49, in both", &[&[(48, 57)], &[(57, 49)]], b"8", Hand::Several),
+        of("48 57 and 57 49, in one", &[&[(48, 57)], &[(57, 49)]], b"0", Hand::One(&[258, 48])),
+        of("57 48 and 48 56, low end", &[&[(57, 48)], &[(48, 56)]], b"0", Hand::Several),
+        of("57 48 and 58 48, high end", &[&[(57, 48)], &[(58, 48)]], b"9", Hand::Several),
+        of("57 48 and 58 48, one above", &[&[(57, 48)], &[(58, 48)]], b":", Hand::One(&[259, 58])),
+        of("57 48 and 58 48, two above", &[&[(57, 48)], &[(58, 48)]], b";", Hand::None),
         of("57 48 and 56 56, in both", &[&[(57, 48)], &[(56, 56)]], b"8", Hand::Several),
         of("57 48 and 56 56, in one", &[&[(57, 48)], &[(56, 56)]], b"7", Hand::One(&[258, 55])),
         of("53 48 and 57 52, in the first", &[&[(53, 48)], &[(57, 52)]], b"3", Hand::One(&[258, 51])),
         of("53 48 and 57 52, in both", &[&[(53, 48)], &[(57, 52)]], b"4", Hand::Several),
         of("53 48 and 57 52, at an end", &[&[(53, 48)], &[(57, 52)]], b"5", Hand::Several),
         of("53 48 and 57 52, in the second", &[&[(53, 48)], &[(57, 52)]], b"6", Hand::One(&[259, 54])),
-        of("the last of 64 classes", &[&[&[(97, 97)][..]; 63][..], &[&[(57, 48)]]].concat(), b"8", Hand::One(&[321, 56])),
+        of("the last of 64 classes", &[&singles[..], &[&[(57, 48)]]].concat(), b"8", Hand::One(&[321, 56])),
+        // Rule 1 is at byte 6 + 64 + 64 + 2.
+        of("63 alike, and the last of 64", &[&[&[(97, 97)][..]; 63][..], &[&[(57, 48)]]].concat(), b"8", Hand::Refused(8, 136)),
         in_turn("2 to 5, then a to f", b"3c", Hand::One(&[258, 51, 99])),
         in_turn("2 to 5, then a to f, turned", b"c3", Hand::None),
         in_turn("2 to 5, then a to f, at their ends", b"2f", Hand::One(&[258, 50, 102])),

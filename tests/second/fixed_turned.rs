@@ -57,12 +57,14 @@ fn flat_neighbours() -> Vec<Flat> {
 
 /// More than one rule.
 fn flat_books() -> Vec<Flat> {
-    let [down, up]: [&[(u8, u8)]; 2] = [&[(57, 48)], &[(48, 57)]];
-    let twice = "[\\48-\\57] -> [\\258]\n[\\48-\\57] -> [\\259]\n";
+    // Not quite the same digits: with the same ones the second rule would be equal to the first.
+    let [down, up]: [&[(u8, u8)]; 2] = [&[(57, 49)], &[(49, 57)]];
+    let [all_down, all_up]: [&[(u8, u8)]; 2] = [&[(57, 48)], &[(48, 57)]];
+    let nearly_twice = "[\\48-\\57] -> [\\258]\n[\\49-\\57] -> [\\259]\n";
     vec![
         Flat { book: down_t(&T), other: Some(book_t(&T)), text: FLAT_T.into() },
         Flat { book: down_t(&[[5, 1, 2]]), other: Some(book_t(&[[5, 1, 2]])), text: FLAT_T.into() },
-        Flat { book: rule_to_each(&[up, down]), other: Some(rule_to_each(&[down, up])), text: twice.into() },
+        Flat { book: rule_to_each(&[all_up, down]), other: Some(rule_to_each(&[all_down, up])), text: nearly_twice.into() },
     ]
 }
 

@@ -8,15 +8,15 @@
 //! spelled out, if that has no more than 255 declarations. A book with ranges of two characters or more, accepted or refused,
 //! is also compared with the same book with some of its ranges turned round, or all of them. Sheets are compared whole and
 //! line by line: the count of lines, every byte of chart and summary, a walker's steps from line to line and from any start,
-//! and each line read alone.
+//! and each line read alone. Of every two readings of a small case it is seen where their listings part.
 //!
 //! The proved parser fills a chart by columns with counts that stop at 2. This program has neither a column nor a chart
 //! that is filled in order. It has two other methods, checked against each other on all small cases:
 //!   trees.rs    keeps all trees as data, blind to priorities, and filters whole trees by the patterns of Definition 2.6;
 //!   counter.rs  finds which items derive anything with an agenda, finds loops as strongly connected components
 //!               (endlessly many), and counts the rest exactly.
-//! Ranks are closed by depth-first search, clashes come in two forms, listings are checked with a stack, and pages are made
-//! from trees that are put together from the last number to the first.
+//! Ranks are closed by depth-first search, clashes and equal rules come in two forms, listings are checked with a stack, and
+//! pages are made from trees that are put together from the last number to the first.
 //!
 //! It was written from the papers alone, without reading the library's sources.
 //!
@@ -34,8 +34,13 @@ mod cases;
 mod compare;
 mod counter;
 mod crosscheck;
+mod equal;
+mod equal_notes;
+mod equal_plans;
 mod fixed;
 mod fixed_clashes;
+mod fixed_equal;
+mod fixed_equal_calls;
 mod fixed_groups;
 mod fixed_limits;
 mod fixed_pages;
@@ -43,6 +48,7 @@ mod fixed_ranges;
 mod fixed_sheets;
 mod fixed_steps;
 mod fixed_turned;
+mod fixed_twins;
 mod flat;
 mod group_plans;
 mod groups;
@@ -52,6 +58,7 @@ mod loops;
 mod others;
 mod page_calls;
 mod pages;
+mod parting;
 mod plans;
 mod prng;
 mod range_plans;
@@ -80,7 +87,8 @@ use tally::Tally;
 /// One case through both methods and through every call that is linked.
 pub fn all_calls(case: &Case, study: &Study, dice: &mut Dice, tally: &mut Tally) -> Result<(), Mismatch> {
     tally.note_sizes(case, study);
-    crosscheck::both_methods(study, tally)?;
+    equal::ways_agree(&case.book, &study.book)?;
+    crosscheck::both_methods(case, study, tally)?;
     compare::reading(&case.book, study, dice, tally)?;
     others::check(&case.book, &study.book, dice, tally)?;
     others::conflicts(&case.book, &study.book, dice, tally)?;
@@ -88,12 +96,13 @@ pub fn all_calls(case: &Case, study: &Study, dice: &mut Dice, tally: &mut Tally)
     tries::listings(case, study, dice, tally)
 }
 
-/// One random case, its book with the groups spelled out, and with ranges turned round. Groups and downward ranges are
-/// counted here alone, so that random books must have them whatever the fixed ones have.
+/// One random case, its book with the groups spelled out, and with ranges turned round. Groups, downward ranges and equal or
+/// nearly equal rules are counted here alone, so that random books must have them whatever the fixed ones have.
 fn random_case(case: &Case, dice: &mut Dice, tally: &mut Tally) -> Result<(), Mismatch> {
     let study = Study::new(&case.book, &case.text);
     groups::note(&case.book, &study.book, tally);
     ranges::note(case, &study, tally);
+    equal_notes::note(case, &study, tally);
     all_calls(case, &study, dice, tally)?;
     groups::same_answers(case, &study, "spelled out", dice, tally)?;
     turned::same_answers(case, &study, "turned", dice, tally)?;

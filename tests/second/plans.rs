@@ -1,15 +1,19 @@
 //! Random books, biased to trouble: loops, rules that vanish, unit chains, all kinds of ranks on one pair, groups, ranges
-//! written downwards, and each limit from both sides.
+//! written downwards, one set of characters under two class names, and each limit from both sides.
 
+use crate::equal_plans::{perhaps_equal, Unlike};
 use crate::group_plans::{only_groups, perhaps_groups};
 use crate::prng::Dice;
 use crate::range_plans::perhaps_downward;
+
+/// A rule's result, and its argument bytes.
+pub type Rule = (u8, Vec<u8>);
 
 /// A book before it is bytes. Nothing here is checked: plans may break every limit.
 pub struct Plan {
     pub sorts: usize,
     pub start: usize,
-    pub rules: Vec<(u8, Vec<u8>)>,
+    pub rules: Vec<Rule>,
     pub classes: Vec<Vec<(u8, u8)>>,
     pub declarations: Vec<[u8; 3]>,
 }
@@ -29,15 +33,10 @@ impl Plan {
         out
     }
 
-    /// Takes out rules that equal an earlier one, so that refusal 8 is met only when wanted.
+    /// Takes out rules that equal an earlier one, be it under other class names, so that refusal 8 is met only when wanted.
     fn without_twins(mut self) -> Plan {
-        let mut kept: Vec<(u8, Vec<u8>)> = vec![];
-        for rule in self.rules {
-            if !kept.contains(&rule) {
-                kept.push(rule);
-            }
-        }
-        self.rules = kept;
+        let mut unlike = Unlike::new(&self.classes);
+        self.rules.retain(|rule| unlike.insert(rule));
         self
     }
 }
@@ -232,11 +231,15 @@ pub fn tower(size: usize) -> Plan {
 
 /// Adds different rules until there are `count`. A small book has too few different ones, so sorts are added on the way.
 fn fill_up(dice: &mut Dice, plan: &mut Plan, count: usize) {
+    let mut unlike = Unlike::new(&plan.classes);
+    for rule in &plan.rules {
+        unlike.insert(rule);
+    }
     while plan.rules.len() < count {
         let length = dice.below(5);
         let arguments = (0..length).map(|_| some_argument(dice, plan.sorts, plan.classes.len(), 40)).collect();
         let rule = (dice.below(plan.sorts) as u8, arguments);
-        if !plan.rules.contains(&rule) {
+        if unlike.insert(&rule) {
             plan.rules.push(rule);
         } else if plan.sorts < 32 {
             plan.sorts += 1;
@@ -288,5 +291,6 @@ fn upward_plan(dice: &mut Dice) -> Plan {
 pub fn some_plan(dice: &mut Dice) -> Plan {
     let mut plan = upward_plan(dice);
     plan.classes = perhaps_downward(dice, plan.classes);
+    perhaps_equal(dice, &mut plan);
     plan
 }

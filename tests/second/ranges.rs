@@ -36,13 +36,18 @@ impl Written {
         self.has(c) && !self.has_as_end(c)
     }
 
+    /// The two bytes as they stand.
+    pub fn bytes(&self) -> (u8, u8) {
+        (self.first, self.second)
+    }
+
     /// The low end and the high end.
-    fn ends(&self) -> (i32, i32) {
+    pub fn ends(&self) -> (i32, i32) {
         (self.first.min(self.second) as i32, self.first.max(self.second) as i32)
     }
 
     /// How many characters are between this range and another; -1 or less if they overlap.
-    fn gap(&self, other: &Written) -> i32 {
+    pub fn gap(&self, other: &Written) -> i32 {
         let ((low, high), (other_low, other_high)) = (self.ends(), other.ends());
         low.max(other_low) - high.min(other_high) - 1
     }

@@ -61,6 +61,22 @@ fn of_books() -> Vec<(&'static str, Vec<String>)> {
     ]
 }
 
+/// Kinds of equal rules, of rules that are nearly equal, and of readings that part.
+fn of_equal_rules() -> Vec<(&'static str, Vec<String>)> {
+    vec![
+        ("equal rules", words(&["by bytes", "by sets alone", "by sets, bytes behind", "two arguments renamed"])),
+        ("equal rules", words(&["the last of 64 rules", "the last of 64 classes"])),
+        ("equal rules", words(&["beside a circle", "a text over 200 bytes", "refused 7 before"])),
+        ("equal sets", words(&["no character", "all characters", "same ranges", "turned round", "another order"])),
+        ("equal sets", words(&["other ranges", "overlapping ranges", "in an accepted book"])),
+        ("nearly equal", words(&["one character apart", "0 apart", "255 apart", "an edge of 64 apart"])),
+        ("nearly equal", words(&["the only one apart", "the lowest apart", "the highest apart", "one between apart"])),
+        ("nearly equal", words(&["read none", "read one", "read several"])),
+        ("nearly equal", words(&["a sort for a class", "another order", "another result", "an argument more"])),
+        ("readings part", words(&["pairs looked at", "at the root", "below the root", "one character apart"])),
+    ]
+}
+
 /// Kinds of sheets, their lines, and a walker's steps.
 fn of_sheets() -> Vec<(&'static str, Vec<String>)> {
     vec![
@@ -85,7 +101,12 @@ impl Tally {
     }
 
     pub fn add(&mut self, call: &'static str, kind: impl Into<String>) {
-        *self.met.entry((call, kind.into())).or_insert(0) += 1;
+        self.add_times(call, kind, 1);
+    }
+
+    /// Once or more.
+    pub fn add_times(&mut self, call: &'static str, kind: impl Into<String>, times: u64) {
+        *self.met.entry((call, kind.into())).or_insert(0) += times;
     }
 
     /// How long the text is, and which limits an accepted book just keeps.
@@ -122,7 +143,7 @@ impl Tally {
 
     /// Every kind of answer that a long run must meet.
     fn wanted() -> Vec<(&'static str, String)> {
-        let lists = [of_calls(), of_books(), of_sheets()];
+        let lists = [of_calls(), of_books(), of_equal_rules(), of_sheets()];
         lists.into_iter().flatten().flat_map(|(call, kinds)| kinds.into_iter().map(move |k| (call, k))).collect()
     }
 
