@@ -334,6 +334,34 @@ static void downward_ranges(void) {
     expect(meadowsink_check(down, sizeof down) == 4 * 7 + 3 && meadowsink_check_place(down, sizeof down) == 28, "9-0 and kind 9: 7, where 6 was");
 }
 
+/* The digits under two names: each call refuses the book by 8 and changes nothing. With a character less in one of them the book is accepted, and `8` has two readings. */
+static void equal_rules(void) {
+    uint8_t twice[] = {1, 2, 2, 0, 0, 0, 1, 1, 1, 2, 0, 64, 0, 65, 48, 57, 57, 53, 48, 52};
+    const size_t length = sizeof twice;
+    const uint8_t eight[] = {56}, its_listing[] = {2, 1, 56, 0};
+    const uint64_t refused = 4 * 8 + 3, place = 12;
+    fill();
+    memset(page, 0x5a, sizeof page);
+    expect(meadowsink_check(twice, length) == refused && meadowsink_check_place(twice, length) == place, "8: checking");
+    expect(meadowsink_conflict(twice, length, 0, 0, 1) == refused && meadowsink_conflict_place(twice, length, 0, 0, 1) == place, "8: a conflict");
+    expect(meadowsink_flat(twice, length, page, sizeof page) == refused && meadowsink_flat_place(twice, length, page, sizeof page) == place, "8: the flat book");
+    expect(meadowsink_read(twice, length, eight, 1, chart, sizeof chart, listing, sizeof listing) == refused, "8: reading");
+    expect(meadowsink_read_place(twice, length, eight, 1, chart, sizeof chart, listing, sizeof listing) == place, "8: its place");
+    expect(meadowsink_check_listing(twice, length, eight, 1, its_listing, 4) == refused, "8: a listing");
+    expect(meadowsink_check_listing_place(twice, length, eight, 1, its_listing, 4) == place, "8: its place");
+    expect(meadowsink_page(twice, length, eight, 1, its_listing, 4, page, sizeof page) == refused, "8: a page");
+    expect(meadowsink_page_place(twice, length, eight, 1, its_listing, 4, page, sizeof page) == place, "8: its place");
+    expect(meadowsink_text_under(twice, length, eight, 1, its_listing, 4, 0) == 0, "8: no text under a number");
+    expect(meadowsink_sheet(twice, length, eight, 1, chart, sizeof chart, listing, 1) == refused, "8: a sheet");
+    expect(meadowsink_sheet_place(twice, length, eight, 1, chart, sizeof chart, listing, 1) == place, "8: its place");
+    expect(meadowsink_sheet_step(twice, length, eight, 1, 0, chart, sizeof chart) == refused, "8: a step");
+    expect(meadowsink_sheet_step_place(twice, length, eight, 1, 0, chart, sizeof chart) == place, "8: its place");
+    expect(untouched(chart, 0, sizeof chart, 0xa5) && untouched(listing, 0, sizeof listing, 0x5a) && untouched(page, 0, sizeof page, 0x5a), "8 changes nothing");
+    twice[length - 1] = 51;
+    expect(meadowsink_check(twice, length) == 0, "other sets are accepted");
+    expect(meadowsink_read(twice, length, eight, 1, chart, sizeof chart, listing, sizeof listing) == 2, "and 8 has several readings");
+}
+
 /* ---- a sheet */
 
 static const char four[] = "8/4*2\n\n88\n8"; /* one, none, none, one */
@@ -435,6 +463,7 @@ int main(void) {
     refuse_page();
     empty_areas();
     downward_ranges();
+    equal_rules();
     read_sheet();
     refuse_sheet();
     walk_sheet();
