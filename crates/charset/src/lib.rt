@@ -2,8 +2,9 @@
 // (01, "The book": a class of characters is a set of bytes held as one record.)
 ghost use mathlib.Core.Path.{_≡_};
 ghost use mathlib.Core.Bool.{false, _||_};
-ghost use Prim.Native.Nat.{ℕ, _+_, _-_, _<_, _≤_, min};
-ghost use Rattle.charset.specs.Set.{characters, wordBits, bit, has, inRange, spans, sameBits, sameSet};
+ghost use Prim.Native.Nat.{ℕ, _+_, _-_, _/_, _%_, _<_, _≤_, min};
+ghost use lib.ListN.{length, getD};
+ghost use Rattle.charset.specs.Set.{characters, wordBits, setWords, bit, has, inRange, spans, sameBits, sameSet};
 ghost use Rattle.charset.specs.Runs.{runs, firstRun};
 ghost use Rattle.charset.specs.Sought.{Sought};
 
@@ -31,6 +32,16 @@ impl CharSet {
     {
         CharSet {
             words: [0u64; SET_WORDS],
+        }
+    }
+
+    // The set whose words stand at `at`.
+    pub fn read(words: &[u64], at: usize) -> Self
+        requires { ⌜ at + setWords ≤ length (now words) ⌝ }
+        ensures { λ r. ⌜ ((c : ℕ) → c < characters → has (r .words) c ≡ bit (getD (now (words .entry)) (at + c / wordBits) 0) (c % wordBits)) ⌝ }
+    {
+        CharSet {
+            words: [words[at], words[at + 1], words[at + 2], words[at + 3]],
         }
     }
 

@@ -15,6 +15,7 @@ use Rattle.charset.specs.Set.{characters, wordBits, setWords, bit, has, sameSet
 use Rattle.charset.specs.Sought.{Sought}
 use Rattle.common.proofs.BoolLaws.{same-test, not-both, or-absorbed}
 use Rattle.common.specs.Bytes.{byteValues}
+use Rattle.common.specs.Region.{Region}
 use Rattle.grammar.proofs.ClassesLaws.{class-there, class-named, no-class-below, no-class-above}
 use Rattle.grammar.specs.Canonical.{setHas, SetsHeld, LowestSame, Canonical}
 use Rattle.grammar.specs.Check.{sameArgument}
@@ -41,40 +42,18 @@ held-word words k c =
     let at : (characters * k + c) % wordBits ≡ c % wordBits = omega arith in
     ap₂ (λ (n i : ℕ). bit (getD words n 0) i) word at
 
--- Of set k the words below n are written, the sets before it are as they were.
-pub record Writing (k n : ℕ) (own words₀ words : List ℕ) : Type 0 where
-  pub long : length words ≡ classLimit * setWords
-  pub before : (i : ℕ) → i < setWords * k → getD words i 0 ≡ getD words₀ i 0
-  pub written : (w : ℕ) → w < n → getD words (setWords * k + w) 0 ≡ getD own w 0
-
-module _ (b : List ℕ) (k : ℕ) (own words₀ : List ℕ) (there : k < classLimit) where
-  pub writing-none : SetsHeld b k words₀ → Writing k 0 own words₀ words₀
-  writing-none h = record { long = h .long; before = λ i l. refl; written = λ w l. absurd (omega arith) }
-
-  pub writing-more : (n : ℕ) (words : List ℕ) → n < setWords → Writing k n own words₀ words → Writing k (n + 1) own words₀ (set words (setWords * k + n) (getD own n 0))
-  writing-more n words l h =
-      let at = setWords * k + n in
-      let v = getD own n 0 in
-      record {
-        long = length-set words at v ∙ h .long;
-        before = λ i m. getD-set-other words at i v 0 (λ e. omega arith) ∙ h .before i m;
-        written = λ w m. elim (ℕ-discrete w n) [
-          | yes e ↦ rw e (getD-set-same words at v 0 (omega (arith, h .long)))
-          | no e ↦ getD-set-other words at (setWords * k + w) v 0 (λ d. e (omega arith)) ∙ h .written w (omega arith)
-        ];
-      }
-
-  pub writing-all : (n : ℕ) (words : List ℕ) → setWords ≤ n → SetsHeld b k words₀ → ((c : ℕ) → c < characters → has own c ≡ classHas b k c)
-      → Writing k n own words₀ words → SetsHeld b (k + 1) words
-  unfolding has
-  writing-all n words l before new h =
-      record {
-        long = h .long;
-        held = λ j c m o. held-word words j c ∙ elim (ℕ-discrete j k) [
-          | yes e ↦ rw e (ap (λ (v : ℕ). bit v (c % wordBits)) (h .written (c / wordBits) (omega arith)) ∙ new c o)
-          | no e ↦ ap (λ (v : ℕ). bit v (c % wordBits)) (h .before (setWords * j + c / wordBits) (omega arith)) ∙ sym (held-word words₀ j c) ∙ before .held j c (omega arith) o
-        ];
-      }
+-- one set more
+pub held-more : (b own words₀ words : List ℕ) (k : ℕ) → length own ≡ setWords → ((c : ℕ) → c < characters → has own c ≡ classHas b k c)
+    → SetsHeld b k words₀ → Region (λ (i v : ℕ). v ≡ getD own i 0) 0 (setWords * k) (length own) words₀ words → SetsHeld b (k + 1) words
+unfolding has
+held-more b own words₀ words k long new before r =
+    record {
+      long = r .long ∙ before .long;
+      held = λ j c m o. held-word words j c ∙ elim (ℕ-discrete j k) [
+        | yes e ↦ rw e (ap (λ (v : ℕ). bit v (c % wordBits)) (r .inside (c / wordBits) (omega arith)) ∙ new c o)
+        | no e ↦ ap (λ (v : ℕ). bit v (c % wordBits)) (r .below (setWords * j + c / wordBits) (omega arith)) ∙ sym (held-word words₀ j c) ∙ before .held j c (omega arith) o
+      ];
+    }
 
 -- ---- the lowest class of a set
 

@@ -1,32 +1,27 @@
 -- Laws of equal productions (02, [5]): what it is for two to be equal, and that it goes both ways.
-use Prim.Native.Nat.{ℕ, _-_, _<_}
+use Prim.Native.Nat.{ℕ, _-_}
 use mathlib.Core.Path.{_≡_, sym}
 use mathlib.Core.Bool.{true, _&&_}
 use mathlib.Core.List.{List}
-use mathlib.Core.Logic.{_↔_, _⊎_, inl, inr, ⊎-elim}
+use mathlib.Core.Logic.{_↔_, inl, inr, ⊎-elim}
 use native.Mathlib.Omega.{arith}
 use lib.Dec.{eqb}
 use borrow.Author.Tests.{eqb-true, eq-eqb}
 use Rattle.charset.proofs.SameSetLaws.{same-when, same-has}
-use Rattle.charset.specs.Set.{characters}
 use Rattle.common.proofs.BelowLaws.{all-each, all-here}
 use Rattle.common.proofs.BoolLaws.{or-cases, or-first, or-second, and-both, and-first-true, and-second-true}
 use Rattle.grammar.specs.Check.{sameArgument, sameProduction}
 use Rattle.grammar.specs.Classes.{isClass, classHas, sameClass}
+use Rattle.grammar.specs.Equal.{OneArgument, OneProduction}
 use Rattle.grammar.specs.Layout.{argumentCount, result, argument}
 use Rattle.grammar.specs.Limits.{classBase}
 
 module _ (b : List ℕ) where
-  -- Two argument bytes are the same byte, or two classes with the same characters.
-  abbrev pub OneArgument : ℕ → ℕ → Type 0
-  OneArgument x y =
-      (x ≡ y) ⊎ ((isClass b x ≡ true) × (isClass b y ≡ true) × ((c : ℕ) → c < characters → classHas b (x - classBase) c ≡ classHas b (y - classBase) c))
-
-  one-argument-sym : (x y : ℕ) → OneArgument x y → OneArgument y x
+  one-argument-sym : (x y : ℕ) → OneArgument b x y → OneArgument b y x
   one-argument-sym x y = ⊎-elim (λ e. inl (sym e)) (λ (i, j, same). inr (j, i, λ c l. sym (same c l)))
 
-  -- that is when they are the same argument
-  pub argument-exactly : (x y : ℕ) → (sameArgument b x y ≡ true) ↔ OneArgument x y
+  -- two argument bytes are the same argument by the test
+  pub argument-exactly : (x y : ℕ) → (sameArgument b x y ≡ true) ↔ OneArgument b x y
   unfolding sameArgument sameClass
   argument-exactly x y =
       let own = classHas b (x - classBase) in
@@ -43,13 +38,8 @@ module _ (b : List ℕ) where
             (λ (i, j, same). or-second (eqb x y) (classed && sets) (and-both classed sets (and-both (isClass b x) (isClass b y) i j) (same-when own other same))),
       )
 
-  -- Two productions have one result, as many arguments, and the same arguments.
-  abbrev pub OneProduction : ℕ → ℕ → Type 0
-  OneProduction p q =
-      (result b p ≡ result b q) × (argumentCount b p ≡ argumentCount b q) × ((i : ℕ) → i < argumentCount b p → OneArgument (argument b p i) (argument b q i))
-
-  -- that is when they are equal
-  pub equal-exactly : (p q : ℕ) → (sameProduction b p q ≡ true) ↔ OneProduction p q
+  -- and two productions are equal
+  pub equal-exactly : (p q : ℕ) → (sameProduction b p q ≡ true) ↔ OneProduction b p q
   unfolding sameProduction
   equal-exactly p q =
       let results = eqb (result b p) (result b q) in

@@ -95,7 +95,7 @@ badDeclaration b d = declarationBytes (declarationAt b d) (productions b) (kind 
 abbrev pub badDeclarations : List ℕ → Verdict
 badDeclarations b = firstRefusal (declarations b) (badDeclaration b)
 
--- two argument bytes are the same argument: the same sort, or classes that are the same set of characters (02, [5])
+-- two argument bytes are the same argument: one byte, so the same sort or class; or two classes that are the same set of characters (02, [5])
 unfoldable pub sameArgument : List ℕ → ℕ → ℕ → Bool
 sameArgument b x y = eqb x y || (isClass b x && isClass b y && sameClass b (x - classBase) (y - classBase))
 

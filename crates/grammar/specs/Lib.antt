@@ -5,5 +5,6 @@ pub mod Classes
 pub mod Verdict
 pub mod Check
 pub mod Canonical
+pub mod Equal
 pub mod Formed
 pub mod Turned

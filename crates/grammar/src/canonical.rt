@@ -9,6 +9,7 @@ use crate::limits::CLASS_LIMIT;
 use charset::CharSet;
 use charset::SET_WORDS;
 use common::BYTE_VALUES;
+use common::put_words;
 use common::wide;
 ghost use mathlib.Core.Path.{_≡_};
 ghost use Prim.Native.Nat.{ℕ, _+_, _*_, _<_};
@@ -68,12 +69,8 @@ fn hold_set(sets: &mut [u64], book: &[u8], k: usize, at: usize)
     requires { ⌜ SetsHeld (now book) k (now sets) ⌝ }
     ensures { λ _. ⌜ SetsHeld (now (book .entry)) (k + 1) (now (sets .exit)) ⌝ }
 {
-    let own = ranges_set(book, k, at);
-    let mut w = 0;
-    while w < SET_WORDS {
-        sets[SET_WORDS * k + w] = own.words[w];
-        w += 1;
-    }
+    let own = ranges_set(book, k, at).words;
+    put_words(sets, SET_WORDS * k, &own);
 }
 
 // Set k.
@@ -81,10 +78,7 @@ fn held_set(sets: &[u64], k: usize) -> CharSet
     requires { ⌜ (length (now sets) ≡ classLimit * setWords) × (k < classLimit) ⌝ }
     ensures { λ r. ⌜ ((c : ℕ) → c < characters → has (r .words) c ≡ setHas (now (sets .entry)) k c) ⌝ }
 {
-    let at = SET_WORDS * k;
-    CharSet {
-        words: [sets[at], sets[at + 1], sets[at + 2], sets[at + 3]],
-    }
+    CharSet::read(sets, SET_WORDS * k)
 }
 
 // The lowest set that is the same as set k.

@@ -2,6 +2,7 @@
 // First how many productions there are; then for each how many arguments it has; for each its first row; and a class for each slot.
 use charset::CharSet;
 use charset::SET_WORDS;
+use common::put_words;
 use common::wide;
 use grammar::limits::ARGUMENT_LIMIT;
 use grammar::limits::PRODUCTION_LIMIT;
@@ -10,7 +11,6 @@ ghost use mathlib.Core.Bool.{false, not, _&&_};
 ghost use Prim.Native.Nat.{ℕ, _+_, _*_, _/_, _%_, _<_, _≤_};
 ghost use lib.ListN.{length, getD};
 ghost use Rattle.charset.specs.Set.{characters, wordBits, bit, has};
-ghost use Rattle.common.specs.Region.{Region};
 ghost use Rattle.common.specs.Bytes.{byteValues};
 ghost use Rattle.grammar.specs.Limits.{productionLimit};
 ghost use Rattle.tables.specs.Layout.{slots, countsOf, arityIn, rowCount, slotAt, productionWords, productionOctets, productionOctet, tableWords, takesChar, takesProduction, ParserTables};
@@ -143,10 +143,7 @@ pub fn class_chars(tables: &[u64], s: usize) -> CharSet
     requires { ⌜ (length (now tables) ≡ tableWords) × (s ≤ slots) ⌝ }
     ensures { λ r. ⌜ ((c : ℕ) → c < characters → has (r .words) c ≡ takesChar (now (tables .entry)) s c) ⌝ }
 {
-    let at = slot_at(s);
-    CharSet {
-        words: [tables[at], tables[at + 1], tables[at + 2], tables[at + 3]],
-    }
+    CharSet::read(tables, slot_at(s))
 }
 
 // Eight of the productions that may stand at slot s, from 8 k on: a bit for each.
@@ -188,18 +185,6 @@ pub fn put_class(tables: &mut [u64], s: usize, chars: CharSet, productions: Prod
     let numbers = productions.words;
     put_words(tables, at, &characters);
     put_words(tables, at + SET_WORDS, &numbers);
-}
-
-// Copies words to a place of the tables.
-fn put_words(tables: &mut [u64], at: usize, words: &[u64])
-    requires { ⌜ at + length (now words) ≤ length (now tables) ⌝ }
-    ensures { λ _. ⌜ Region (λ (k : ℕ) (v : ℕ). v ≡ getD (now (words .entry)) k 0) 0 at (length (now (words .entry))) (now (tables .entry)) (now (tables .exit)) ⌝ }
-{
-    let mut k = 0;
-    while k < words.len() {
-        tables[at + k] = words[k];
-        k += 1;
-    }
 }
 
 // ---- sets of productions

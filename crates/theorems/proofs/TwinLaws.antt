@@ -20,6 +20,7 @@ use Rattle.grammar.proofs.EqualLaws.{argument-exactly, equal-exactly, equal-sym
 use Rattle.grammar.proofs.VerdictLaws.{refuse-accepted, refuse-case, and-first, and-second, accepted-last, first-all, first-pass, first-same, first-of, order-append}
 use Rattle.grammar.specs.Check.{shortHeader, badHeader, shortContents, badArgumentCounts, badRangeCounts, badLength, badProductions, badDeclarations, sameArgument, sameProduction, repeatedProduction, repeatedProductions}
 use Rattle.grammar.specs.Classes.{isClass, classHas, sameClass}
+use Rattle.grammar.specs.Equal.{OneArgument}
 use Rattle.grammar.specs.Layout.{sorts, productions, classes, argumentCount, productionAt, result, argument}
 use Rattle.grammar.specs.Limits.{sortLimit, classBase}
 use Rattle.grammar.specs.Verdict.{refuseIf, andThen, inOrder}
@@ -29,7 +30,7 @@ use Rattle.priority.specs.Check.{circles, checked}
 use Rattle.priority.specs.Conflict.{Conflict}
 use Rattle.priority.specs.Priorities.{declarationsOf}
 use Rattle.priority.specs.Refusals.{badSorts, noResult, Holds, refusal1, refusal1′, refusal2, refusal3, refusal4, refusal5, refusal7, refusal8, refusal9, First}
-use Rattle.theorems.specs.Theorems.{OneArgument, TwinsAt, formerEqual, formerEight, formerChecked}
+use Rattle.theorems.specs.Theorems.{TwinsAt, formerEqual, formerEight, formerChecked}
 use Rattle.theory.specs.Tree.{Tree, leaf, node, Forest, none, _▷_, Subtree, itself, below}
 
 -- ---- trees under equal productions
@@ -56,7 +57,7 @@ module _ (b : List ℕ) (bytes : (k : ℕ) → getD b k 0 < characters) (named :
       let (r, n, same) = equal-exactly b p q .0 e in
       (l, sym r ∙ h .1, subst (λ (d : ℕ). Arguments b q f d) n (trees-moved p q f (argumentCount b p) same (h .2)))
 
--- ---- and those without a conflict, if the priorities tell the productions not apart
+-- ---- and those without a conflict, if the priorities don't tell the productions apart
 
 module _ (b : List ℕ) (p q : ℕ) (alike : (i r : ℕ) → Conflict b p i r → Conflict b q i r) (f : Forest) where
   twin-root : RootConflict b (node p f) → RootConflict b (node q f)

@@ -21,7 +21,7 @@
 -- `Listed b w l t`: t is the reading of w whose listing l is (page/specs/Answer); `rows 0 0 t`: for each number of its listing depth, number, start and end
 -- (rows/specs/Rows). `LineBy b w chart₀ v chart`: the line w is read, has summary byte v, and leaves the chart so; `InTurn`: lines are read in turn, the chart handed on
 -- (sheet/specs/Outcome). `Only P t`: P holds of t and of nothing else; `Two P`: of two different things; `Counts P v`: of none, one or two, as v is 0, 1 or 2 (theory/specs/Counts).
-use Prim.Native.Nat.{ℕ, _+_, _-_, _*_, _/_, _%_, _≤_, _<_}
+use Prim.Native.Nat.{ℕ, _+_, _*_, _/_, _%_, _≤_, _<_}
 use mathlib.Core.Path.{_≡_}
 use mathlib.Core.Bool.{Bool, false, true, _&&_}
 use mathlib.Core.List.{List, [], _∷_, _++_}
@@ -47,8 +47,9 @@ use Rattle.engine.specs.declared.Answer.the-variants.{None, One, Several, Refus
 use Rattle.numbers.specs.Written.{bytesOf}
 use Rattle.grammar.specs.Layout.{productions, classes, declarations, startSort, argumentCount, rangeCount, productionAt, result, argument, rangeAt, low, high, declarationAt, kind, first, second}
 use Rattle.grammar.specs.Check.{outside, shortHeader, badHeader, shortContents, badArgumentCounts, badRangeCounts, badLength, badProductions, isGroup, badDeclaration, badDeclarations, sameProduction, repeatedProductions}
-use Rattle.grammar.specs.Classes.{isClass, classHas, sameClass}
-use Rattle.grammar.specs.Limits.{pairKindLimit, classBase}
+use Rattle.grammar.specs.Classes.{classHas, sameClass}
+use Rattle.grammar.specs.Equal.{OneProduction}
+use Rattle.grammar.specs.Limits.{pairKindLimit}
 use Rattle.grammar.specs.Turned.{TurnedRound, RangesRise, risen}
 use Rattle.grammar.specs.Verdict.{refuseIf, firstRefusal, inOrder}
 use Rattle.grammar.specs.declared.Verdict.{Verdict}
@@ -477,16 +478,10 @@ WalkersGoDown =
 -- ---- Request 5. "In the source a grammar is a set of rules, so two rules are equal when results are equal and each argument is the same sort or the same set of
 -- characters. A user who gets 'several' then has truly different readings: the listings of any two of them first part at two rules of one result that are not equal."
 
--- Two argument bytes are the same byte, or two classes with the same characters: classes with no character too.
-abbrev pub OneArgument : List ℕ → ℕ → ℕ → Type 0
-OneArgument b x y =
-    (x ≡ y) ⊎ ((isClass b x ≡ true) × (isClass b y ≡ true) × ((c : ℕ) → c < characters → classHas b (x - classBase) c ≡ classHas b (y - classBase) c))
-
--- Productions are equal exactly if they have one result, as many arguments, and the same arguments. This is the test of refusal 8.
+-- Productions are equal by the test of refusal 8 exactly if they are one production (grammar/specs/Equal): one result, as many arguments, and each argument is the same byte,
+-- or both are classes with the same characters, classes with no character too.
 abbrev pub EqualExactly : Type 0
-EqualExactly =
-    (b : List ℕ) (p q : ℕ) → (sameProduction b p q ≡ true)
-    ↔ ((result b p ≡ result b q) × (argumentCount b p ≡ argumentCount b q) × ((i : ℕ) → i < argumentCount b p → OneArgument b (argument b p i) (argument b q i)))
+EqualExactly = (b : List ℕ) (p q : ℕ) → (sameProduction b p q ≡ true) ↔ OneProduction b p q
 
 -- Listings l and m are the same up to an index, where `same` ends. There l has production p and m has production q, of one result and not equal.
 pub record PartAt (b l m same : List ℕ) (p q : ℕ) : Type 0 where
@@ -510,7 +505,7 @@ SeveralPart =
     → (t : Tree) × (u : Tree) × Reading b w t × Reading b w u × Part b (listing t) (listing u)
 
 -- Refusal 8 names a production p with an earlier one q that takes a line in no other way: over the same arguments f there is a tree with p exactly if there is one with q.
--- (They spell the same, and their listings differ in the first number alone.) If the priorities tell them not apart, the same holds of the trees without a conflict.
+-- (They spell the same, and their listings differ in the first number alone.) If the priorities don't tell the two apart, the same holds of trees without a conflict.
 pub record TwinsAt (b : List ℕ) (place p q : ℕ) : Type 0 where
   pub at : place ≡ productionAt b p
   pub there : p < productions b

@@ -1,68 +1,18 @@
--- `held_set` meets its contract: the four words of the set.
-use Prim.Native.Nat.{_*_}
+-- `held_set` meets its contract: the words of the set.
 use mathlib.Core.Path.{sym, _∙_}
-use Rattle.charset.proofs.BitLaws.{has-four}
-use Rattle.charset.specs.Set.{setWords}
 use Rattle.grammar.proofs.CanonicalLaws.{held-word}
 use borrow.Author.Needs.{needs}
 use Rattle.grammar.proofs.canonical.held_set.Statement.{statement}
 use Rattle.grammar.proofs.canonical.held_set.Tie as tie
 
-mul-at : tie.Need-mul-at
-mul-at c = search needs
+mul-read : tie.Need-mul-read
+mul-read c = search needs
 
-mul-t4 : tie.Need-mul-t4
-mul-t4 c = search needs
-
-shared-slice-read-t6 : tie.Need-shared-slice-read-t6
-shared-slice-read-t6 c = search needs
-
-add-t7 : tie.Need-add-t7
-add-t7 c = search needs
-
-mul-t8 : tie.Need-mul-t8
-mul-t8 c = search needs
-
-shared-slice-read-t10 : tie.Need-shared-slice-read-t10
-shared-slice-read-t10 c = search needs
-
-add-t11 : tie.Need-add-t11
-add-t11 c = search needs
-
-mul-t12 : tie.Need-mul-t12
-mul-t12 c = search needs
-
-shared-slice-read-t14 : tie.Need-shared-slice-read-t14
-shared-slice-read-t14 c = search needs
-
-add-t15 : tie.Need-add-t15
-add-t15 c = search needs
-
-mul-t16 : tie.Need-mul-t16
-mul-t16 c = search needs
-
-shared-slice-read-t18 : tie.Need-shared-slice-read-t18
-shared-slice-read-t18 c = search needs
+read-requires : tie.Need-read-requires
+read-requires c κs = search needs
 
 returns : tie.Need-returns
-returns c x l =
-    let a = c .before .before .before .before .args in
-    has-four (a .sets .now) (setWords * a .k) x l ∙ sym (held-word (a .sets .now) (a .k) x)
+returns c = λ x l. c .read .ensures x l ∙ sym (held-word (c .before .before .args .sets .now) (c .before .before .args .k) x)
 
 pub held-set-spec : {M : Type 1} → statement M
-held-set-spec =
-    tie.close
-    (tie.spec
-    mul-at
-    mul-t4
-    shared-slice-read-t6
-    add-t7
-    mul-t8
-    shared-slice-read-t10
-    add-t11
-    mul-t12
-    shared-slice-read-t14
-    add-t15
-    mul-t16
-    shared-slice-read-t18
-    returns)
+held-set-spec = tie.close (tie.spec mul-read read-requires returns)
