@@ -7,4 +7,5 @@ pub mod LineLaws
 pub mod RunPutLaws
 pub mod TextUniqueLaws
 pub mod WrittenLaws
+pub mod NamedLaws
 pub mod ListingLaws

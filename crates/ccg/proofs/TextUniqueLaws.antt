@@ -1,12 +1,11 @@
 -- What a text of the written form says is known by the text: numerals, ranges, classes and lines can be read off its front.
-use Prim.Native.Nat.{ℕ, zero, suc, _+_, _/_, _%_, _≤_, _<_}
+use Prim.Native.Nat.{ℕ, suc, _≤_, _<_}
 use mathlib.Core.Path.{_≡_, refl, sym, _∙_, ap, fun-ext}
 use mathlib.Core.Bool.{Bool, false, true, cond}
 use mathlib.Core.List.{List, [], _∷_, _++_, append-assoc, append-nil, append-cancel-left, head-eq-of-cons-eq, tail-eq-of-cons-eq}
 use mathlib.Core.Logic.{by-cases}
 use native.Mathlib.Omega.{arith}
 use native.Mathlib.Decide.{ℕ-discrete, decLt}
-use native.Mathlib.Nat.{le-refl}
 use lib.Dec.{eqb}
 use lib.ListN.{length, getD, length-append}
 use borrow.Author.Tests.{eq-eqb, ne-eqb}
@@ -15,65 +14,31 @@ use Rattle.ccg.specs.Text.{dash, bracketOpen, backslash, bracketClose, r
 use Rattle.charset.proofs.RunLaws.{runs-covered}
 use Rattle.charset.specs.Runs.{Range, runs, covered}
 use Rattle.common.specs.Lists.{joined}
-use Rattle.writing.proofs.NumeralLaws.{numeral-small, numeral-more, numeral-value}
+use Rattle.writing.proofs.DigitsLaws.{NoDigit, numerals-first}
+use Rattle.writing.proofs.NumeralLaws.{numeral-value}
 use Rattle.writing.specs.Bytes.{space}
-use Rattle.writing.specs.Numeral.{digitZero, numeralBase, numeral, valueOf}
+use Rattle.writing.specs.Digits.{digitNine, numeralsIn}
+use Rattle.writing.specs.Numeral.{numeral, valueOf}
 
 -- ---- numerals
-
--- the byte behind the last digit
-abbrev digitEnd : ℕ
-digitEnd = digitZero + numeralBase
-
--- digits only
-abbrev Digits : List ℕ → Type 0
-Digits [] = Unit {0}
-Digits (c ∷ x) = (digitZero ≤ c) × (c < digitEnd) × Digits x
-
--- what may follow a numeral: nothing, or no digit
-abbrev NoDigit : List ℕ → Type 0
-NoDigit [] = Unit {0}
-NoDigit (c ∷ s) = digitZero ≤ c → c < digitEnd → ⊥
-
--- digits in front of what is no digit can be read off
-digits-part : (x y s t : List ℕ) → Digits x → Digits y → NoDigit s → NoDigit t → x ++ s ≡ y ++ t → (x ≡ y) × (s ≡ t)
-digits-part [] [] s t h k m n e = (refl, e)
-digits-part [] (d ∷ y) s t h k m n e = absurd ((rw e at m) (k .0) (k .1))
-digits-part (c ∷ x) [] s t h k m n e = absurd ((rw (← e) at n) (h .0) (h .1))
-digits-part (c ∷ x) (d ∷ y) s t h k m n e =
-    let (same, rest) = digits-part x y s t (h .2) (k .2) m n (tail-eq-of-cons-eq e) in
-    (λ i. head-eq-of-cons-eq e i ∷ same i, rest)
-
--- numerals grow at the end
-digits-append : (x y : List ℕ) → Digits x → Digits y → Digits (x ++ y)
-digits-append [] y h k = k
-digits-append (c ∷ x) y h k = (h .0, h .1, digits-append x y (h .2) k)
-
--- a numeral has only digits; fuel for the recursion
-numeral-digits : (fuel n : ℕ) → n ≤ fuel → Digits (numeral n)
-numeral-digits zero n l = rw (numeral-small n (omega arith)) (omega arith)
-numeral-digits (suc fuel) n l =
-    by-cases (decLt n numeralBase)
-    (λ h. rw (numeral-small n h) (omega arith))
-    (λ h. rw (numeral-more n (omega arith)) (digits-append (numeral (n / numeralBase)) ((digitZero + n % numeralBase) ∷ []) (numeral-digits fuel (n / numeralBase) (omega arith)) (omega arith)))
 
 -- a numeral can be read off
 numeral-part : (n m : ℕ) (s t : List ℕ) → NoDigit s → NoDigit t → numeral n ++ s ≡ numeral m ++ t → (n ≡ m) × (s ≡ t)
 numeral-part n m s t a b e =
-    let (same, rest) = digits-part (numeral n) (numeral m) s t (numeral-digits n n (le-refl n)) (numeral-digits m m (le-refl m)) a b e in
-    (sym (numeral-value n) ∙ ap valueOf same ∙ numeral-value m, rest)
+    let same : numeral n ≡ numeral m = head-eq-of-cons-eq (sym (numerals-first n s a) ∙ ap numeralsIn e ∙ numerals-first m t b) in
+    (sym (numeral-value n) ∙ ap valueOf same ∙ numeral-value m, append-cancel-left (numeral m) s t (rw same at e))
 
 -- ---- ranges
 
 -- what may follow a range: nothing, or a byte above the digits
 abbrev Above : List ℕ → Type 0
 Above [] = Unit {0}
-Above (c ∷ s) = digitEnd ≤ c
+Above (c ∷ s) = digitNine < c
 
 -- such a text may follow a numeral too
 above-no-digit : (s : List ℕ) → Above s → NoDigit s
 above-no-digit [] h = tt
-above-no-digit (c ∷ s) h = omega arith
+above-no-digit (c ∷ s) h = λ d. omega arith
 
 -- the part of a range's text behind its low end
 highText : ℕ → ℕ → List ℕ
@@ -107,7 +72,7 @@ high-no-digit : (l h : ℕ) (s : List ℕ) → Above s → NoDigit (highText l h
 high-no-digit l h s a =
     elim (ℕ-discrete l h) [
       | yes e ↦ rw (high-one l h e) (above-no-digit s a)
-      | no n ↦ rw (high-more l h n) (omega arith)
+      | no n ↦ rw (high-more l h n) (λ d. omega arith)
     ]
 
 -- behind a known low end, a high end can be read off

@@ -2,4 +2,5 @@
 pub mod Ccg
 pub mod Text
 pub mod Written
+pub mod Named
 pub mod Tables

@@ -1,6 +1,6 @@
 -- A row can be read back from its line, and a line from the page.
 use Prim.Native.Nat.{ℕ, zero, suc, _+_, _*_, _^_, _<_}
-use mathlib.Core.List.{List, [], _∷_, _++_, append-assoc}
+use mathlib.Core.List.{List, [], _∷_, _++_, append-assoc, append-nil, map}
 use mathlib.Core.Path.{_≡_, refl, sym, _∙_, ap}
 use native.Mathlib.Omega.{arith}
 use lib.ListN.{length, getD, take, drop, length-append, List·getD-append}
@@ -11,9 +11,11 @@ use Rattle.lines.proofs.TextLaws.{columns-length, row-length}
 use Rattle.lines.specs.Read.{ReadBack}
 use Rattle.lines.specs.Text.{numberWidth, placeWidth, textWidth, lineLength, shown, column, rowText, pageText, RowFits}
 use Rattle.rows.specs.declared.Row.{Row}
+use Rattle.writing.proofs.DigitsLaws.{numerals-none, numerals-pass, numerals-right}
 use Rattle.writing.proofs.NumeralLaws.{numeral-fits, set-right-length, set-right-value}
 use Rattle.writing.specs.Bytes.{space, lineFeed}
-use Rattle.writing.specs.Numeral.{numeralBase, setRight, valueOf}
+use Rattle.writing.specs.Digits.{numeralsIn}
+use Rattle.writing.specs.Numeral.{numeralBase, numeral, setRight, valueOf}
 
 -- ---- a part of a list
 
@@ -39,7 +41,34 @@ column-read a c k n i h e =
     let after = getD-at (a ++ v) space c 0 (i + suc k) (length-append a v ∙ long) in
     (rw (parts, digits) (set-right-value (suc k) n), rw parts after)
 
+-- Its numeral is found, whatever follows.
+column-numeral : (width n : ℕ) (s : List ℕ) → numeralsIn (column width n ++ s) ≡ numeral n ∷ numeralsIn s
+unfolding column
+column-numeral width n s =
+    ap numeralsIn (append-snoc (setRight width n) space s) ∙ numerals-right width n (space ∷ s) (λ d. omega arith)
+    ∙ ap (λ (l : List (List ℕ)). numeral n ∷ l) (numerals-pass space s (λ d. omega arith))
+
 -- ---- a line
+
+-- the four columns have the four numerals
+columns-numerals : (r : Row)
+    → numeralsIn (column numberWidth (r .depth) ++ column numberWidth (r .number) ++ column placeWidth (r .start) ++ column placeWidth (r .end))
+    ≡ map numeral (r .depth ∷ r .number ∷ r .start ∷ r .end ∷ [])
+columns-numerals r =
+    let a = column numberWidth (r .depth) in
+    let b = column numberWidth (r .number) in
+    let c = column placeWidth (r .start) in
+    let d = column placeWidth (r .end) in
+    let parts : a ++ b ++ c ++ d ≡ a ++ (b ++ (c ++ (d ++ []))) =
+    sym (append-nil (a ++ b ++ c ++ d)) ∙ append-assoc (a ++ b ++ c) d [] ∙ append-assoc (a ++ b) c (d ++ []) ∙ append-assoc a b (c ++ (d ++ [])) in
+    rw (
+      parts,
+      column-numeral numberWidth (r .depth) (b ++ (c ++ (d ++ []))),
+      column-numeral numberWidth (r .number) (c ++ (d ++ [])),
+      column-numeral placeWidth (r .start) (d ++ []),
+      column-numeral placeWidth (r .end) [],
+      numerals-none,
+    ) refl
 
 pub row-read : (w : List ℕ) (r : Row) → RowFits w r → ReadBack w r (rowText w r)
 unfolding rowText
@@ -70,6 +99,7 @@ row-read w r fits =
       number = rw cut2 (number .0);
       start = rw cut3 (start .0);
       end = rw cut4 (end .0);
+      numerals = ap numeralsIn (ap (take 18) cut4 ∙ take-at (a ++ b ++ c ++ d) rest 18 four) ∙ columns-numerals r;
       spaces = (rw cut1 (depth .1), rw cut2 (number .1), rw cut3 (start .1), rw cut4 (end .1));
       text = λ k l.
           List·getD-append (a ++ b ++ c ++ d ++ text) (lineFeed ∷ []) 0 (18 + k) (omega (arith, five))

@@ -2,4 +2,5 @@
 
 pub mod PutLaws
 pub mod NumeralLaws
+pub mod DigitsLaws
 pub mod AnswerLaws

@@ -2,4 +2,5 @@
 pub mod Put
 pub mod Bytes
 pub mod Numeral
+pub mod Digits
 pub mod Answer
