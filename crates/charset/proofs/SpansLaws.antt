@@ -2,9 +2,11 @@
 use Prim.Native.Nat.{ℕ, min, max, _≤_, _<_}
 use mathlib.Core.Path.{_≡_, refl, sym, _∙_, ap₂}
 use mathlib.Core.Bool.{true}
+use mathlib.Core.Logic.{_↔_, _⊎_, inl, inr, ⊎-elim, by-cases}
+use native.Mathlib.Decide.{decLt}
 use native.Mathlib.Omega.{arith}
 use Rattle.charset.specs.Set.{inRange, spans}
-use Rattle.common.proofs.BelowLaws.{between-ends}
+use Rattle.common.proofs.BelowLaws.{between-in, between-ends}
 
 module _ (low high c : ℕ) where
   -- a range has the characters from its lower end to its higher one
@@ -12,7 +14,16 @@ module _ (low high c : ℕ) where
   unfolding spans
   spans-between = refl
 
-  -- so one whose ends are known in order is that rising one
+  -- so it has a character exactly if that lies between its ends, either way round
+  pub spans-exactly : (spans low high c ≡ true) ↔ (((low ≤ c) × (c ≤ high)) ⊎ ((high ≤ c) × (c ≤ low)))
+  unfolding inRange
+  spans-exactly = (
+    (λ e. let (l, h) = between-ends (min low high) (max low high) c (sym spans-between ∙ e) in
+        by-cases (decLt high low) (λ f. inr (omega arith, omega arith)) (λ f. inl (omega arith, omega arith))),
+    (λ h. spans-between ∙ ⊎-elim (λ (l, m). between-in (min low high) (max low high) c (omega arith) (omega arith)) (λ (l, m). between-in (min low high) (max low high) c (omega arith) (omega arith)) h),
+  )
+
+  -- one whose ends are known in order is that rising one
   spans-ordered : (least most : ℕ) → min low high ≡ least → max low high ≡ most → spans low high c ≡ inRange least most c
   spans-ordered least most l m = spans-between ∙ ap₂ (λ (x y : ℕ). inRange x y c) l m
 

@@ -1,19 +1,19 @@
 -- Laws of the character classes of a grammar.
 use Prim.Native.Nat.{ℕ, _+_, _-_, _≤_, _<_}
 use mathlib.Core.Path.{_≡_, refl}
-use mathlib.Core.Bool.{false, true, and-false}
+use mathlib.Core.Bool.{Bool, false, true, and-false}
 use mathlib.Core.List.{List}
-use mathlib.Core.Logic.{⊎-elim}
+use mathlib.Core.Logic.{_↔_, ⊎-elim}
 use native.Mathlib.Omega.{arith}
 use lib.Dec.{leb, ltb}
 use lib.ListN.{getD}
 use borrow.Author.Tests.{leb-true, ltb-true, lt-leb, le-leb, lt-ltb, le-ltb}
-use Rattle.charset.proofs.SpansLaws.{spans-below}
+use Rattle.charset.proofs.SpansLaws.{spans-exactly, spans-below}
 use Rattle.charset.specs.Set.{characters, spans}
-use Rattle.common.proofs.BelowLaws.{any-found}
+use Rattle.common.proofs.BelowLaws.{any-here, any-found}
 use Rattle.common.proofs.BoolLaws.{and-first-true, and-second-true, or-cases}
 use Rattle.grammar.specs.Check.{namesArgument}
-use Rattle.grammar.specs.Classes.{isClass, classHas}
+use Rattle.grammar.specs.Classes.{isClass, classHas, SomeRangeHas}
 use Rattle.grammar.specs.Formed.{Framed, WellFormed}
 use Rattle.grammar.specs.Layout.{sorts, productions, classes, argumentCount, rangeCount, argument, rangeAt, low, high}
 use Rattle.grammar.specs.Limits.{classBase}
@@ -41,6 +41,15 @@ module _ (b : List ℕ) (x : ℕ) where
 -- a sort is no class
 pub sort-no-class : (b : List ℕ) → WellFormed b → (x : ℕ) → x < sorts b → isClass b x ≡ false
 sort-no-class b w x l = no-class-below b x (omega (arith, w .framed .fewSorts))
+
+-- a class has a character exactly if some range of it has
+pub class-passes : (b : List ℕ) (k c : ℕ) → (classHas b k c ≡ true) ↔ SomeRangeHas b k c
+unfolding classHas
+class-passes b k c =
+    let f : ℕ → Bool = λ r. spans (low b k r) (high b k r) c in (
+      (λ e. let (r, l, h) = any-found f (rangeCount b k) e in (r, l, spans-exactly (low b k r) (high b k r) c .0 h)),
+      (λ (r, l, h). any-here f r (rangeCount b k) l (spans-exactly (low b k r) (high b k r) c .1 h)),
+    )
 
 -- the ends of a range are bytes, so the characters of a class are
 pub class-character : (b : List ℕ) → ((k : ℕ) → getD b k 0 < characters) → (k c : ℕ) → classHas b k c ≡ true → c < characters

@@ -3,9 +3,8 @@ use crate::layout::class_at;
 use crate::layout::range_count;
 use charset::CharSet;
 ghost use mathlib.Core.Path.{_≡_};
-ghost use Prim.Native.Nat.{ℕ, _<_};
-ghost use Rattle.charset.specs.Set.{characters, has};
-ghost use Rattle.grammar.specs.Classes.{classHas};
+ghost use Prim.Native.Nat.{_<_};
+ghost use Rattle.grammar.specs.Classes.{SetOf};
 ghost use Rattle.grammar.specs.Layout.{classes, classAt};
 ghost use Rattle.grammar.specs.Formed.{Framed};
 
@@ -13,7 +12,7 @@ ghost use Rattle.grammar.specs.Formed.{Framed};
 pub fn class_set(book: &[u8], k: usize) -> CharSet
     requires { ⌜ Framed (now book) ⌝ }
     requires { ⌜ k < classes (now book) ⌝ }
-    ensures { λ r. ⌜ ((c : ℕ) → c < characters → has (r .words) c ≡ classHas (now (book .entry)) k c) ⌝ }
+    ensures { λ r. ⌜ SetOf (now (book .entry)) k (r .words) ⌝ }
 {
     ranges_set(book, k, class_at(book, k))
 }
@@ -23,7 +22,7 @@ pub fn ranges_set(book: &[u8], k: usize, at: usize) -> CharSet
     requires { ⌜ Framed (now book) ⌝ }
     requires { ⌜ k < classes (now book) ⌝ }
     requires { ⌜ at ≡ classAt (now book) k ⌝ }
-    ensures { λ r. ⌜ ((c : ℕ) → c < characters → has (r .words) c ≡ classHas (now (book .entry)) k c) ⌝ }
+    ensures { λ r. ⌜ SetOf (now (book .entry)) k (r .words) ⌝ }
 {
     let mut set = CharSet::empty();
     let count = range_count(book, k);
