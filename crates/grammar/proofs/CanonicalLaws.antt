@@ -13,11 +13,12 @@ use borrow.Author.Tests.{eqb-true, eq-eqb, ne-eqb}
 use Rattle.charset.proofs.SameSetLaws.{same-set-self, same-set-sym, same-set-trans, same-set-like}
 use Rattle.charset.specs.Set.{characters, wordBits, setWords, bit, has, sameSet}
 use Rattle.charset.specs.Sought.{Sought}
+use Rattle.common.proofs.ZeroLaws.{all-zero}
 use Rattle.common.proofs.BoolLaws.{same-test, not-both, or-absorbed}
 use Rattle.common.specs.Bytes.{byteValues}
 use Rattle.common.specs.Region.{Region}
 use Rattle.grammar.proofs.ClassesLaws.{class-there, class-named, no-class-below, no-class-above}
-use Rattle.grammar.specs.Canonical.{setHas, SetsHeld, LowestSame, Canonical}
+use Rattle.grammar.specs.Canonical.{setHas, SetsHeld, LowestSame, standsFor, Canonical}
 use Rattle.grammar.specs.Check.{sameArgument}
 use Rattle.grammar.specs.Classes.{isClass, classHas, sameClass}
 use Rattle.grammar.specs.Formed.{Framed}
@@ -107,19 +108,20 @@ module _ (b : List ℕ) where
 -- The lowest class stands for each of the first n classes, and every other byte for itself.
 pub record Filled (b : List ℕ) (n : ℕ) (table : List ℕ) : Type 0 where
   pub long : length table ≡ byteValues
-  pub below : (x : ℕ) → x < classBase → getD table x 0 ≡ x
-  pub named : (k : ℕ) → k < n → (r : ℕ) × (getD table (classBase + k) 0 ≡ classBase + r) × Lowest b k r
-  pub above : (x : ℕ) → classBase + n ≤ x → x < byteValues → getD table x 0 ≡ x
+  pub below : (x : ℕ) → x < classBase → getD table x 0 ≡ 0
+  pub named : (k : ℕ) → k < n → (r : ℕ) × (getD table (classBase + k) 0 ≡ k - r) × Lowest b k r
+  pub above : (x : ℕ) → classBase + n ≤ x → getD table x 0 ≡ 0
 
-pub filled-none : (b table : List ℕ) → length table ≡ byteValues → ((x : ℕ) → x < byteValues → getD table x 0 ≡ x) → Filled b 0 table
-filled-none b table long own =
-    record { long = long; below = λ x l. own x (omega arith); named = λ k l. absurd (omega arith); above = λ x l m. own x m }
+pub filled-none : (b : List ℕ) → Filled b 0 (replicate {A = ℕ} byteValues 0)
+filled-none b =
+    let z = all-zero byteValues in
+    record { long = z .long; below = λ x l. z .zeros x; named = λ k l. absurd (omega arith); above = λ x l. z .zeros x }
 
 pub filled-more : (b table words : List ℕ) (k r : ℕ) → k < classLimit → SetsHeld b (k + 1) words → LowestSame words k r → Filled b k table
-    → Filled b (k + 1) (set table (classBase + k) (classBase + r))
+    → Filled b (k + 1) (set table (classBase + k) (k - r))
 filled-more b table words k r there h s f =
     let at = classBase + k in
-    let v = classBase + r in
+    let v = k - r in
     record {
       long = length-set table at v ∙ f .long;
       below = λ x l. getD-set-other table at x v 0 (λ e. omega arith) ∙ f .below x l;
@@ -127,23 +129,36 @@ filled-more b table words k r there h s f =
         | yes e ↦ rw e (r, getD-set-same table at v 0 (omega (arith, f .long)), held-lowest b words k r h s)
         | no e ↦ let (t, g, low) = f .named j (omega arith) in (t, getD-set-other table at (classBase + j) v 0 (λ d. e (omega arith)) ∙ g, low)
       ];
-      above = λ x l m. getD-set-other table at x v 0 (λ e. omega arith) ∙ f .above x (omega arith) m;
+      above = λ x l. getD-set-other table at x v 0 (λ e. omega arith) ∙ f .above x (omega arith);
     }
 
 module _ (b table : List ℕ) (f : Filled b (classes b) table) where
-  -- What the table says of a class, and of any other byte.
+  -- What stands for a class, and for any other byte.
   Says : ℕ → Type 0
-  Says x = ((isClass b x ≡ true) × ((r : ℕ) × (getD table x 0 ≡ classBase + r) × Lowest b (x - classBase) r)) ⊎ ((isClass b x ≡ false) × (getD table x 0 ≡ x))
+  Says x = ((isClass b x ≡ true) × ((r : ℕ) × (standsFor table x ≡ classBase + r) × Lowest b (x - classBase) r)) ⊎ ((isClass b x ≡ false) × (standsFor table x ≡ x))
 
-  says : (x : ℕ) → x < byteValues → Says x
-  unfolding Says
-  says x l =
+  says : (x : ℕ) → Says x
+  unfolding Says standsFor
+  says x =
       by-cases (decLt x classBase)
-      (λ m. inr (no-class-below b x m, f .below x m))
+      (λ m. inr (no-class-below b x m, omega (arith, f .below x m)))
       (λ m. by-cases (decLt x (classBase + classes b))
       (λ n. let e : classBase + (x - classBase) ≡ x = omega arith in
-      inl (class-named b x (omega arith) n, subst (λ (y : ℕ). (r : ℕ) × (getD table y 0 ≡ classBase + r) × Lowest b (x - classBase) r) e (f .named (x - classBase) (omega arith))))
-      (λ n. inr (no-class-above b x (omega arith), f .above x (omega arith) l)))
+      let (r, g, low) = f .named (x - classBase) (omega arith) in
+      let own : getD table x 0 ≡ x - classBase - r = subst (λ (y : ℕ). getD table y 0 ≡ x - classBase - r) e g in
+      inl (class-named b x (omega arith) n, (r, omega (arith, own, low .within), low)))
+      (λ n. inr (no-class-above b x (omega arith), omega (arith, f .above x (omega arith)))))
+
+  -- it is no higher
+  no-higher : (x : ℕ) → getD table x 0 ≤ x
+  no-higher x =
+      by-cases (decLt x classBase)
+      (λ m. omega (arith, f .below x m))
+      (λ m. by-cases (decLt x (classBase + classes b))
+      (λ n. let e : classBase + (x - classBase) ≡ x = omega arith in
+      let (r, g, low) = f .named (x - classBase) (omega arith) in
+      omega (arith, subst (λ (y : ℕ). getD table y 0 ≡ x - classBase - r) e g))
+      (λ n. omega (arith, f .above x (omega arith))))
 
   -- a class, and a byte that is none
   apart : (x y r : ℕ) → isClass b x ≡ true → Lowest b (x - classBase) r → isClass b y ≡ false → (classBase + r ≡ y → ⊥) × (x ≡ y → ⊥)
@@ -164,7 +179,7 @@ module _ (b table : List ℕ) (f : Filled b (classes b) table) where
       let own : eqb x y ≡ true → sameClass b j k ≡ true = λ e. subst (λ (z : ℕ). sameClass b j (z - classBase) ≡ true) (eqb-true x y e) (same-set-self (classHas b j)) in
       rw (c, d) (shift ∙ lowest-decides b j k r s low low′ ∙ sym (or-absorbed (eqb x y) (sameClass b j k) own))
 
-  decide : (x y : ℕ) → Says x → Says y → eqb (getD table x 0) (getD table y 0) ≡ sameArgument b x y
+  decide : (x y : ℕ) → Says x → Says y → eqb (standsFor table x) (standsFor table y) ≡ sameArgument b x y
   unfolding Says sameArgument
   decide x y (inl (c, (r, g, low))) (inl (d, (s, h, low′))) = rw (g, h) (both-classes x y r s c d low low′)
   decide x y (inl (c, (r, g, low))) (inr (n, h)) =
@@ -176,4 +191,4 @@ module _ (b table : List ℕ) (f : Filled b (classes b) table) where
   decide x y (inr (n, g)) (inr (m, h)) = rw (g, h, n) (sym (or-false (eqb x y)))
 
   pub filled-all : Canonical b table
-  filled-all = record { long = f .long; decides = λ x y l m. decide x y (says x l) (says y m) }
+  filled-all = record { long = f .long; small = no-higher; decides = λ x y l m. decide x y (says x) (says y) }

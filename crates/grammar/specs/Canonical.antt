@@ -1,5 +1,5 @@
 -- One byte for all the argument bytes that are the same argument (02, [5]): how the check compares sets of characters once, and bytes after that.
-use Prim.Native.Nat.{ℕ, _+_, _*_, _<_}
+use Prim.Native.Nat.{ℕ, _+_, _-_, _*_, _≤_, _<_}
 use mathlib.Core.Path.{_≡_}
 use mathlib.Core.Bool.{Bool, true}
 use mathlib.Core.List.{List}
@@ -25,7 +25,12 @@ pub record SetsHeld (b : List ℕ) (n : ℕ) (words : List ℕ) : Type 0 where
 abbrev pub LowestSame : List ℕ → ℕ → ℕ → Type 0
 LowestSame words k r = Sought k (λ j. sameSet (setHas words k) (setHas words j)) true 0 r
 
--- The table has one number for two argument bytes exactly if they are the same argument.
+-- What stands for argument byte x. The table says how far below x that is, so 0 of a byte that stands for itself.
+unfoldable pub standsFor : List ℕ → ℕ → ℕ
+standsFor table x = x - getD table x 0
+
+-- The same byte stands for two argument bytes exactly if they are the same argument.
 pub record Canonical (b table : List ℕ) : Type 0 where
   pub long : length table ≡ byteValues
-  pub decides : (x y : ℕ) → x < byteValues → y < byteValues → eqb (getD table x 0) (getD table y 0) ≡ sameArgument b x y
+  pub small : (x : ℕ) → getD table x 0 ≤ x
+  pub decides : (x y : ℕ) → x < byteValues → y < byteValues → eqb (standsFor table x) (standsFor table y) ≡ sameArgument b x y

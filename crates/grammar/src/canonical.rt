@@ -12,28 +12,28 @@ use common::BYTE_VALUES;
 use common::put_words;
 use common::wide;
 ghost use mathlib.Core.Path.{_≡_};
-ghost use Prim.Native.Nat.{ℕ, _+_, _*_, _<_};
+ghost use Prim.Native.Nat.{ℕ, _+_, _*_, _<_, _≤_};
 ghost use lib.ListN.{length, getD};
 ghost use Rattle.charset.specs.Set.{characters, setWords, has};
 ghost use Rattle.common.specs.Bytes.{byteValues};
-ghost use Rattle.grammar.specs.Canonical.{setHas, SetsHeld, LowestSame, Canonical};
+ghost use Rattle.grammar.specs.Canonical.{setHas, SetsHeld, LowestSame, standsFor, Canonical};
 ghost use Rattle.grammar.specs.Formed.{Framed};
 ghost use Rattle.grammar.specs.Layout.{classes, classAt};
 ghost use Rattle.grammar.specs.Limits.{classLimit};
 
-// The table of the bytes that stand for others.
+// A table that says of each byte how far below it the byte is that stands for it: 0 for one that stands for itself. So it starts as zeros.
 pub fn canonical_arguments(book: &[u8]) -> [u8; BYTE_VALUES]
     requires { ⌜ Framed (now book) ⌝ }
     ensures { λ r. ⌜ Canonical (now (book .entry)) r ⌝ }
 {
-    let mut table = every_byte();
+    let mut table = [0u8; BYTE_VALUES];
     let mut sets = [0u64; CLASS_LIMIT * SET_WORDS];
     let count = class_count(book);
     let mut at = class_at(book, 0);
     let mut k = 0;
     while k < count {
         hold_set(&mut sets, book, k, at);
-        table[CLASS_BASE + k] = (CLASS_BASE + lowest_same(&sets, k)) as u8;
+        table[CLASS_BASE + k] = (k - lowest_same(&sets, k)) as u8;
         at += 2 * range_count(book, k);
         k += 1;
     }
@@ -42,23 +42,10 @@ pub fn canonical_arguments(book: &[u8]) -> [u8; BYTE_VALUES]
 
 // What stands for argument byte x.
 pub fn stands_for(table: &[u8], x: u8) -> u8
-    requires { ⌜ length (now table) ≡ byteValues ⌝ }
-    ensures { λ r. ⌜ r ≡ getD (now (table .entry)) x 0 ⌝ }
+    requires { ⌜ (length (now table) ≡ byteValues) × (getD (now table) x 0 ≤ x) ⌝ }
+    ensures { λ r. ⌜ r ≡ standsFor (now (table .entry)) x ⌝ }
 {
-    table[wide(x)]
-}
-
-// Each byte stands for itself.
-fn every_byte() -> [u8; BYTE_VALUES]
-    ensures { λ r. ⌜ (length r ≡ byteValues) × ((x : ℕ) → x < byteValues → getD r x 0 ≡ x) ⌝ }
-{
-    let mut table = [0u8; BYTE_VALUES];
-    let mut x = 0;
-    while x < BYTE_VALUES {
-        table[x] = x as u8;
-        x += 1;
-    }
-    table
+    x - table[wide(x)]
 }
 
 // Writes the set of class k, whose ranges stand at `at`, behind those of the classes before it.

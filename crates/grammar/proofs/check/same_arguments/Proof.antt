@@ -31,7 +31,7 @@ shared-slice-read-stands-for : tie.Need-shared-slice-read-stands-for Inv-loop μ
 shared-slice-read-stands-for c = omega (arith, c .before .before .before .before .before .pre .1 .0)
 
 stands-for-requires : tie.Need-stands-for-requires Inv-loop μ-loop
-stands-for-requires c κs = c .before .before .before .before .before .pre .0 .long
+stands-for-requires c κs = let canonical = c .before .before .before .before .before .pre .0 in (canonical .long, canonical .small _)
 
 add-stands-for-2 : tie.Need-add-stands-for-2 Inv-loop μ-loop
 add-stands-for-2 c = omega (arith, c .before .before .before .before .before .before .pre .1 .1)
@@ -40,7 +40,7 @@ shared-slice-read-stands-for-2 : tie.Need-shared-slice-read-stands-for-2 Inv-loo
 shared-slice-read-stands-for-2 c = omega (arith, c .before .before .before .before .before .before .before .pre .1 .1)
 
 stands-for-requires-2 : tie.Need-stands-for-requires-2 Inv-loop μ-loop
-stands-for-requires-2 c κs = c .before .before .before .before .before .before .before .pre .0 .long
+stands-for-requires-2 c κs = let canonical = c .before .before .before .before .before .before .before .pre .0 in (canonical .long, canonical .small _)
 
 returns : tie.Need-returns Inv-loop μ-loop
 unfolding same
