@@ -1,10 +1,11 @@
 -- Arguments that are taken up one after the other.
-use Prim.Native.Nat.{ℕ, _+_, _<_}
+use Prim.Native.Nat.{ℕ, _+_, _≤_, _<_}
 use mathlib.Core.Path.{_≡_, refl, sym, _∙_, ap, ap₂}
 use mathlib.Core.Bool.{Bool, false, not, _||_}
 use mathlib.Core.List.{List}
+use mathlib.Core.Logic.{by-cases}
 use native.Mathlib.Omega.{arith}
-use native.Mathlib.Decide.{ℕ-discrete}
+use native.Mathlib.Decide.{ℕ-discrete, decLt}
 use native.Mathlib.Nat.{le-refl}
 use lib.Dec.{eqb}
 use lib.ListN.{length, getD, set}
@@ -54,11 +55,11 @@ module _ {before args : List ℕ} {i : ℕ} {after : List ℕ} {changed : Bool} 
       here : getD after i 0 ≡ getD before i 0
       here = f .filled .rest i (le-refl i)
 
-  -- all of them
-  pub following-all : length before ≡ i → length args ≡ i → Followed before args after changed
-  following-all l m =
+  -- all of them, if the others are the same
+  pub following-all : length before ≡ length args → ((k : ℕ) → i ≤ k → getD before k 0 ≡ getD args k 0) → Followed before args after changed
+  following-all l beyond =
       record {
-        taken = ext-getD 0 after args (f .filled .long ∙ l ∙ sym m) (λ k o. f .filled .done k (omega (arith, f .filled .long)));
-        stayed = λ e. ext-getD 0 before args (l ∙ sym m) (λ k o. f .stayed e k (omega arith));
+        taken = ext-getD 0 after args (f .filled .long ∙ l) (λ k o. by-cases (decLt k i) (λ m. f .filled .done k m) (λ m. f .filled .rest k (omega arith) ∙ beyond k (omega arith)));
+        stayed = λ e. ext-getD 0 before args l (λ k o. by-cases (decLt k i) (λ m. f .stayed e k m) (λ m. beyond k (omega arith)));
         still = λ e. f .still (λ k o. ap (λ (x : List ℕ). getD x k 0) e);
       }

@@ -9,21 +9,22 @@ use native.Mathlib.Decide.{decLt}
 use native.Mathlib.Nat.{zero-add}
 use lib.ListN.{length, getD, List·getD-eq-default}
 use lib.Seq.{ext-getD}
-use Rattle.chart.proofs.LayoutLaws.{row-shift}
+use Rattle.chart.proofs.LayoutLaws.{row-shift, rows-few}
 use Rattle.chart.specs.Layout.{rowLimit, rowOf}
-use Rattle.tables.specs.Layout.{arityIn}
+use Rattle.tables.specs.Layout.{arityIn, rowCount}
 use Rattle.tables.specs.Theory.{grammarOf}
-use Rattle.common.proofs.BelowLaws.{sum-same}
+use Rattle.common.proofs.BelowLaws.{sum-bound, sum-same}
 use Rattle.common.specs.Below.{sumBelow, bitOf}
 use Rattle.common.specs.Zeros.{AllZero}
 use Rattle.empty.proofs.GrowLaws.{spare-grows, spare-tight, heldSpan, exact-held, exact-empty, step-held, grown-right}
 use Rattle.empty.proofs.RightLaws.{Right, begun-right}
 use Rattle.empty.proofs.RowLaws.{row-room}
+use Rattle.empty.proofs.SumLaws.{sum-less}
 use Rattle.empty.specs.Empty.{EmptyRight}
 use Rattle.empty.specs.Turns.{emptySpan, Begun, Followed}
 use Rattle.span.proofs.SpanLaws.{argument-same}
 use Rattle.span.specs.Span.{whole, usedSum, argumentOf, spare}
-use Rattle.span.specs.Tables.{spanOf, Links, UsersAre, Loads, Exact, Founded, Settled}
+use Rattle.span.specs.Tables.{userAt, spanOf, Links, UsersAre, Loads, Exact, Founded, Settled}
 use Rattle.theory.proofs.SoundLaws.{bit-small}
 use Rattle.theory.specs.Steps.{cap}
 
@@ -39,6 +40,26 @@ pub record Turning (counts users args cells back : List ℕ) (changed : Bool) : 
   pub agree : Exact (emptySpan counts users) cells args
   pub taken : back ≡ args
   pub closed : changed ≡ false → ClosedWith counts args cells
+
+-- ---- beyond the rows
+
+module _ {counts users uses : List ℕ} (links : Links counts users uses) {rows : ℕ} (all : rows ≡ rowCount (arityIn counts) (length counts)) where
+  pub few-rows : rows ≤ rowLimit
+  few-rows = omega (arith, rows-few (arityIn counts) (length counts) (links .fewProductions) (links .fewArguments))
+
+  -- there are no arguments
+  pub none-beyond : {cells args : List ℕ} → length args ≡ rowLimit → Exact (emptySpan counts users) cells args → (r : ℕ) → rows ≤ r → getD args r 0 ≡ 0
+  unfolding argumentOf usedSum spanOf
+  none-beyond {cells} {args} long e r l =
+      let used : ℕ → ℕ = λ q. getD users (userAt q r) 0 * getD cells (whole (arityIn counts) q) 0 in
+      by-cases (decLt r rowLimit)
+      (λ m. omega (
+        arith,
+        e .exact r m,
+        sum-less used (λ q. 0) (length counts) (λ q k. omega (arith, ap (λ (n : ℕ). n * getD cells (whole (arityIn counts) q) 0) (links .outside q r k (omega arith) m))),
+        sum-bound 0 (λ q. 0) (λ q. omega arith) (length counts),
+      ))
+      (λ m. List·getD-eq-default args 0 {n = r} (omega arith))
 
 -- ---- the first arguments
 

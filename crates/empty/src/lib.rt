@@ -9,8 +9,8 @@ use span::spread;
 ghost use mathlib.Core.Path.{_≡_};
 ghost use mathlib.Core.Bool.{Bool};
 ghost use mathlib.Core.List.{List};
-ghost use Prim.Native.Nat.{ℕ};
-ghost use lib.ListN.{length};
+ghost use Prim.Native.Nat.{ℕ, _≤_};
+ghost use lib.ListN.{length, getD};
 ghost use Rattle.common.specs.Zeros.{AllZero};
 ghost use Rattle.chart.specs.Layout.{rowLimit};
 ghost use Rattle.tables.specs.Layout.{arityIn, rowCount};
@@ -40,14 +40,15 @@ fn begin(counts: &[u8], rows: usize, users: &[u8], args: &mut [u8], cells: &mut 
     }
 }
 
-// Takes up the arguments: true if they had changed.
-fn follow(back: &mut [u8], args: &[u8]) -> bool
-    requires { ⌜ (length (now back) ≡ rowLimit) × (length (now args) ≡ rowLimit) ⌝ }
+// Takes up the arguments of the rows: true if they had changed. Beyond the rows they are the same.
+fn follow(back: &mut [u8], args: &[u8], rows: usize) -> bool
+    requires { ⌜ (length (now back) ≡ rowLimit) × (length (now args) ≡ rowLimit) × (rows ≤ rowLimit) ⌝ }
+    requires { ⌜ ((r : ℕ) → rows ≤ r → getD (now back) r 0 ≡ getD (now args) r 0) ⌝ }
     ensures { λ r. ⌜ Followed (now (back .entry)) (now (args .entry)) (now (back .exit)) r ⌝ }
 {
     let mut changed = false;
     let mut r = 0;
-    while r < ROW_LIMIT {
+    while r < rows {
         changed = either(changed, back[r] != args[r]);
         back[r] = args[r];
         r += 1;
@@ -71,7 +72,7 @@ pub fn settle_empty(
     let zeros = zero_row();
     let mut back = zero_row();
     begin(counts, rows, users, args, cells);
-    let mut changed = follow(&mut back, args);
+    let mut changed = follow(&mut back, args, rows);
     while changed {
         settle(
             counts,
@@ -84,6 +85,6 @@ pub fn settle_empty(
             args,
             cells,
         );
-        changed = follow(&mut back, args);
+        changed = follow(&mut back, args, rows);
     }
 }

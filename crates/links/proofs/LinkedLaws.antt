@@ -109,28 +109,16 @@ module _ (counts tables : List ℕ) where
         outside = λ q r m b l. absurd (omega arith);
       }
 
-  pub users-fewer : (m n : ℕ) (users : List ℕ) → m ≤ n → UsersTo counts tables n users → UsersTo counts tables m users
-  users-fewer m n users l u =
-      record {
-        long = u .long;
-        bits = u .bits;
-        takes = λ p d q o h k. u .takes p d q o h (omega arith);
-        outside = λ q r k b o. u .outside q r (omega arith) b o;
-      }
-
   pub uses-none : (uses : List ℕ) → length uses ≡ useBytes → UsesTo counts tables 0 uses
   uses-none uses e = record { long = e; used = λ p d q l h m t. absurd (omega arith) }
 
-  pub uses-fewer : (m n : ℕ) (uses : List ℕ) → m ≤ n → UsesTo counts tables n uses → UsesTo counts tables m uses
-  uses-fewer m n uses l u = record { long = u .long; used = λ p d q o h k t. u .used p d q o h (omega arith) t }
-
   module _ (few : length counts ≤ productionLimit) (short : (p : ℕ) → arityIn counts p ≤ argumentLimit) where
-    -- an octet of productions more
-    module _ (k : ℕ) (octets users users′ : List ℕ) (u : UsersTo counts tables (k * octetBits) users)
+    -- the first m productions of an octet more
+    module _ (k m : ℕ) (inside : m ≤ octetBits) (octets users users′ : List ℕ) (u : UsersTo counts tables (k * octetBits) users)
         (o : RowsFilled (λ (p d : ℕ). productionOctet tables (slot p d) k) counts (length counts) octets)
-        (t : BitsTurned octets (k * octetBits) octetBits users users′) where
+        (t : BitsTurned octets (k * octetBits) m users users′) where
       -- the entry of a row for a production of this octet
-      entry : (q r : ℕ) → k * octetBits ≤ q → q < k * octetBits + octetBits → r < rowLimit → getD users′ (userAt q r) 0 ≡ bitOf (bit (getD octets r 0) (q - k * octetBits))
+      entry : (q r : ℕ) → k * octetBits ≤ q → q < k * octetBits + m → r < rowLimit → getD users′ (userAt q r) 0 ≡ bitOf (bit (getD octets r 0) (q - k * octetBits))
       unfolding userAt
       entry q r b l h =
           let at : (k * octetBits + (q - k * octetBits)) * length octets + r ≡ q * rowLimit + r = ap (λ (x : ℕ). x * length octets + r) (omega arith) ∙ ap (λ (x : ℕ). q * x + r) (o .long) in
@@ -141,23 +129,23 @@ module _ (counts tables : List ℕ) where
       unfolding userAt
       kept q r l h = t .before (q * rowLimit + r) (subst⁻¹ (λ (x : ℕ). q * rowLimit + r < k * octetBits * x) (o .long) (row-under q (k * octetBits) rowLimit r l h))
 
-      takes-too : (p d q : ℕ) → p < length counts → d < arityIn counts p → q < k * octetBits + octetBits
+      takes-too : (p d q : ℕ) → p < length counts → d < arityIn counts p → q < k * octetBits + m
           → getD users′ (userAt q (rowOf (arityIn counts) p d)) 0 ≡ bitOf (takesProduction tables (slot p d) q)
-      takes-too p d q l h m =
+      takes-too p d q l h lq =
           let below = row-below counts p d few short l (omega arith) in
           by-cases (decLt q (k * octetBits))
           (λ s. kept q (rowOf (arityIn counts) p d) s below ∙ u .takes p d q l h s)
           (λ s. let b = q - k * octetBits in
           let e : k * octetBits + b ≡ q = omega arith in
-          entry q (rowOf (arityIn counts) p d) (omega arith) m below ∙ ap (λ (v : ℕ). bitOf (bit v b)) (o .here p d l h) ∙ ap bitOf (octet-bit tables (slot p d) k b (omega arith)) ∙ ap (λ (x : ℕ). bitOf (takesProduction tables (slot p d) x)) e)
+          entry q (rowOf (arityIn counts) p d) (omega arith) lq below ∙ ap (λ (v : ℕ). bitOf (bit v b)) (o .here p d l h) ∙ ap bitOf (octet-bit tables (slot p d) k b (omega arith)) ∙ ap (λ (x : ℕ). bitOf (takesProduction tables (slot p d) x)) e)
 
-      outside-too : (q r : ℕ) → q < k * octetBits + octetBits → rowCount (arityIn counts) (length counts) ≤ r → r < rowLimit → getD users′ (userAt q r) 0 ≡ 0
-      outside-too q r m b l =
+      outside-too : (q r : ℕ) → q < k * octetBits + m → rowCount (arityIn counts) (length counts) ≤ r → r < rowLimit → getD users′ (userAt q r) 0 ≡ 0
+      outside-too q r lq b l =
           by-cases (decLt q (k * octetBits))
           (λ s. kept q r s l ∙ u .outside q r s b l)
-          (λ s. entry q r (omega arith) m l ∙ ap (λ (v : ℕ). bitOf (bit v (q - k * octetBits))) (o .ahead r b) ∙ ap bitOf (bit-zero (q - k * octetBits)))
+          (λ s. entry q r (omega arith) lq l ∙ ap (λ (v : ℕ). bitOf (bit v (q - k * octetBits))) (o .ahead r b) ∙ ap bitOf (bit-zero (q - k * octetBits)))
 
-      pub users-more : UsersTo counts tables (k * octetBits + octetBits) users′
+      pub users-more : UsersTo counts tables (k * octetBits + m) users′
       users-more =
           record {
             long = t .long ∙ u .long;
@@ -166,12 +154,12 @@ module _ (counts tables : List ℕ) where
             outside = outside-too;
           }
 
-    module _ (k : ℕ) (octets uses uses′ : List ℕ) (u : UsesTo counts tables (k * octetBits) uses)
+    module _ (k m : ℕ) (inside : m ≤ octetBits) (octets uses uses′ : List ℕ) (u : UsesTo counts tables (k * octetBits) uses)
         (o : UsedOctets counts tables k (length counts) octets)
-        (t : BitsTurned octets (k * octetBits) octetBits uses uses′) where
-      used-too : (p d q : ℕ) → p < length counts → d < arityIn counts p → q < k * octetBits + octetBits → takesProduction tables (slot p d) q ≡ true → getD uses′ (useAt q p) 0 ≡ 1
+        (t : BitsTurned octets (k * octetBits) m uses uses′) where
+      used-too : (p d q : ℕ) → p < length counts → d < arityIn counts p → q < k * octetBits + m → takesProduction tables (slot p d) q ≡ true → getD uses′ (useAt q p) 0 ≡ 1
       unfolding useAt
-      used-too p d q l h m takes =
+      used-too p d q l h lq takes =
           by-cases (decLt q (k * octetBits))
           (λ s. t .before (q * productionLimit + p) (subst⁻¹ (λ (x : ℕ). q * productionLimit + p < k * octetBits * x) (o .long) (row-under q (k * octetBits) productionLimit p s (omega arith))) ∙ u .used p d q l h s takes)
           (λ s. let b = q - k * octetBits in
@@ -180,7 +168,7 @@ module _ (counts tables : List ℕ) where
           let has : bit (getD octets p 0) b ≡ true = o .here p l .all d b h (octet-bit tables (slot p d) k b (omega arith) ∙ ap (takesProduction tables (slot p d)) e ∙ takes) in
           subst (λ (x : ℕ). getD uses′ x 0 ≡ 1) at (t .turned b p (omega arith) (omega (arith, o .long)) ∙ ap bitOf has))
 
-      pub uses-more : UsesTo counts tables (k * octetBits + octetBits) uses′
+      pub uses-more : UsesTo counts tables (k * octetBits + m) uses′
       uses-more = record { long = t .long ∙ u .long; used = used-too }
 
     -- both tables

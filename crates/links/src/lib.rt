@@ -8,7 +8,7 @@ use grammar::limits::PRODUCTION_LIMIT;
 use tables::OCTET_BITS;
 use tables::class_octet;
 ghost use mathlib.Core.Path.{_≡_};
-ghost use Prim.Native.Nat.{ℕ, _+_, _*_, _<_, _≤_};
+ghost use Prim.Native.Nat.{ℕ, _+_, _*_, _<_, _≤_, min};
 ghost use lib.ListN.{length, getD};
 ghost use Rattle.common.specs.Below.{bitOf};
 ghost use Rattle.common.specs.Region.{Region};
@@ -97,14 +97,21 @@ fn put_bits(octets: &[u8], b: usize, out: &mut [u8], at: usize)
     }
 }
 
-// The bits of the octets as rows, from row `from` on.
-fn turn_octets(octets: &[u8], from: usize, out: &mut [u8])
-    requires { ⌜ (from + octetBits) * length (now octets) ≤ length (now out) ⌝ }
-    requires { ⌜ (from < productionLimit) × (length (now octets) ≤ rowLimit) ⌝ }
-    ensures { λ _. ⌜ BitsTurned (now (octets .entry)) from octetBits (now (out .entry)) (now (out .exit)) ⌝ }
+// How many of n productions are in an octet that begins with the first of them.
+fn at_most_octet(n: usize) -> usize
+    ensures { λ r. ⌜ r ≡ min n octetBits ⌝ }
+{
+    if n < OCTET_BITS { n } else { OCTET_BITS }
+}
+
+// The first `count` bits of the octets as rows, from row `from` on.
+fn turn_octets(octets: &[u8], from: usize, count: usize, out: &mut [u8])
+    requires { ⌜ (from + count) * length (now octets) ≤ length (now out) ⌝ }
+    requires { ⌜ (from < productionLimit) × (count ≤ octetBits) × (length (now octets) ≤ rowLimit) ⌝ }
+    ensures { λ _. ⌜ BitsTurned (now (octets .entry)) from count (now (out .entry)) (now (out .exit)) ⌝ }
 {
     let mut b = 0;
-    while b < OCTET_BITS {
+    while b < count {
         put_bits(octets, b, out, (from + b) * octets.len());
         b += 1;
     }
@@ -119,7 +126,8 @@ pub fn link_users(counts: &[u8], tables: &[u64], users: &mut [u8])
     let mut k = 0;
     while k * OCTET_BITS < counts.len() {
         let octets = row_octets(counts, tables, k);
-        turn_octets(&octets, k * OCTET_BITS, users);
+        let count = at_most_octet(counts.len() - k * OCTET_BITS);
+        turn_octets(&octets, k * OCTET_BITS, count, users);
         k += 1;
     }
 }
@@ -133,7 +141,8 @@ pub fn link_uses(counts: &[u8], tables: &[u64], uses: &mut [u8])
     let mut k = 0;
     while k * OCTET_BITS < counts.len() {
         let octets = used_octets(counts, tables, k);
-        turn_octets(&octets, k * OCTET_BITS, uses);
+        let count = at_most_octet(counts.len() - k * OCTET_BITS);
+        turn_octets(&octets, k * OCTET_BITS, count, uses);
         k += 1;
     }
 }

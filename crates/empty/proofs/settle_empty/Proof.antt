@@ -1,9 +1,11 @@
 -- `settle_empty` meets its contract: each turn settles the cells with the arguments held fixed, and takes the arguments up.
-use Prim.Native.Nat.{_+_, _*_}
-use mathlib.Core.Path.{sym, _∙_}
+use Prim.Native.Nat.{ℕ, _+_, _*_}
+use mathlib.Core.List.{List}
+use mathlib.Core.Path.{sym, _∙_, ap}
+use lib.ListN.{getD}
 use Rattle.common.specs.Below.{bitOf}
-use Rattle.empty.proofs.GrowLaws.{exact-held}
-use Rattle.empty.proofs.TurnLaws.{Turning, turning-first, held-long, turning-loads, turning-founded, turning-next, turning-less, turning-last}
+use Rattle.empty.proofs.GrowLaws.{exact-held, exact-empty}
+use Rattle.empty.proofs.TurnLaws.{few-rows, none-beyond, Turning, turning-first, held-long, turning-loads, turning-founded, turning-next, turning-less, turning-last}
 use Rattle.empty.specs.Turns.{emptySpan}
 use Rattle.span.specs.Span.{spare}
 use Rattle.empty.proofs.settle_empty.Statement.{statement}
@@ -30,7 +32,12 @@ slice-aggregate-follow : tie.Need-slice-aggregate-follow Inv-loop μ-loop
 slice-aggregate-follow c = sym (c .before .before .before .before .before .before .before .before .zero-row2 .ensures .long)
 
 follow-requires : tie.Need-follow-requires Inv-loop μ-loop
-follow-requires c κs = (c .before .before .before .before .before .before .before .before .before .zero-row2 .ensures .long, c .before .before .before .before .before .before .begin .ensures .argsLong)
+follow-requires c κs =
+    let start = c .before .before .before .before .before .before .before .before .before .before .before .before .before .before .before .before in
+    let zeros = c .before .before .before .before .before .before .before .before .before .zero-row2 .ensures in
+    let begun = c .before .before .before .before .before .before .begin .ensures in
+    let all = start .pre .1 .2 in
+    ((zeros .long, begun .argsLong, few-rows (start .pre .0) all), λ r l. zeros .zeros r ∙ sym (none-beyond (start .pre .0) all (begun .argsLong) (begun .agree) r l))
 
 loop-holds : tie.Need-loop-holds Inv-loop μ-loop
 loop-holds c = turning-first (c .before .before .before .before .before .before .before .before .before .before .before .zero-row2 .ensures) (c .before .before .before .before .before .before .before .before .begin .ensures) (c .before .follow .ensures)
@@ -57,8 +64,16 @@ slice-aggregate-follow-2 c = sym (held-long (c .before .before .before .before .
 
 follow-requires-2 : tie.Need-follow-requires-2 Inv-loop μ-loop
 follow-requires-2 c κs =
-    let t = c .before .before .before .before .before .before .before .before .before .before .before .before .before .loop .inv in
-    (held-long t, c .before .before .before .before .before .args3 .given ∙ t .argsLong)
+    let start = c .before .before .before .before .before .before .before .before .before .before .before .before .before .before .before .before .before .before .before .before .before .before .before .before .before .before .before .before .before .before .before .before in
+    let a = start .args in
+    let zeros = c .before .before .before .before .before .before .before .before .before .before .before .before .before .before .before .before .before .before .before .before .before .before .before .before .before .before .zero-row .result in
+    let turn = c .before .before .before .before .before .before .before .before .before .before .before .before .before .loop in
+    let t = turn .inv in
+    let settled = c .before .before .before .before .before .before .settle .ensures (λ r. 0) (exact-held (a .counts .now) (a .users .now) zeros (turn .back) (t .agree)) in
+    let long = c .before .before .before .before .before .args3 .given ∙ t .argsLong in
+    let all = start .pre .1 .2 in
+    let now = exact-empty (a .counts .now) (a .users .now) zeros (turn .back) (settled .agree) in
+    ((held-long t, long, few-rows (start .pre .0) all), λ r l. ap (λ (x : List ℕ). getD x r 0) (t .taken) ∙ none-beyond (start .pre .0) all (t .argsLong) (t .agree) r l ∙ sym (none-beyond (start .pre .0) all long now r l))
 
 loop-less : tie.Need-loop-less Inv-loop μ-loop
 loop-less c =

@@ -13,10 +13,10 @@ use Rattle.links.proofs.turn_octets.Statement.{statement}
 use Rattle.links.proofs.turn_octets.Tie as tie
 
 abbrev Inv-loop : tie.InvT-loop
-Inv-loop octets from out₀ b₀ out b = BitsTurned octets from b out₀ out × (b ≤ octetBits)
+Inv-loop octets from count out₀ b₀ out b = BitsTurned octets from b out₀ out × (b ≤ count)
 
 abbrev μ-loop : tie.MeasureT-loop
-μ-loop octets from out₀ b₀ out b = octetBits - b
+μ-loop octets from count out₀ b₀ out b = count - b
 
 loop-holds : tie.Need-loop-holds Inv-loop μ-loop
 loop-holds c =
@@ -29,13 +29,13 @@ add-put-bits c = omega arith
 mul-put-bits : tie.Need-mul-put-bits Inv-loop μ-loop
 mul-put-bits c =
     let start = c .before .before .before .before .before in
-    omega (arith, mul-le-mul {n₁ = start .args .from + c .before .before .loop .b} {m₁ = length (start .args .octets .now)} {n₂ = productionLimit + octetBits} {m₂ = rowLimit} (omega arith) (start .pre .1 .1))
+    omega (arith, mul-le-mul {n₁ = start .args .from + c .before .before .loop .b} {m₁ = length (start .args .octets .now)} {n₂ = productionLimit + octetBits} {m₂ = rowLimit} (omega arith) (start .pre .1 .2))
 
 put-bits-requires : tie.Need-put-bits-requires Inv-loop μ-loop
 put-bits-requires c κs =
     let start = c .before .before .before .before .before in
     let turn = c .before .before .loop in
-    (omega arith, omega (arith, start .pre .0, turn .inv .0 .long, mul-le-mul-right {m = start .args .from + turn .b + 1} {n = start .args .from + octetBits} (length (start .args .octets .now)) (omega arith)))
+    (omega arith, omega (arith, start .pre .0, turn .inv .0 .long, mul-le-mul-right {m = start .args .from + turn .b + 1} {n = start .args .from + start .args .count} (length (start .args .octets .now)) (omega arith)))
 
 add-b : tie.Need-add-b Inv-loop μ-loop
 add-b c = omega arith
@@ -56,7 +56,7 @@ same-length c = c .before .loop .inv .0 .long
 returns : tie.Need-returns Inv-loop μ-loop
 returns c =
     let start = c .before .before .before .before in
-    let e : c .before .loop .b ≡ octetBits = omega arith in subst (λ (n : ℕ). BitsTurned (start .args .octets .now) (start .args .from) n (start .args .out .now) (c .before .loop .out)) e (c .before .loop .inv .0)
+    let e : c .before .loop .b ≡ start .args .count = omega arith in subst (λ (n : ℕ). BitsTurned (start .args .octets .now) (start .args .from) n (start .args .out .now) (c .before .loop .out)) e (c .before .loop .inv .0)
 
 pub turn-octets-spec : {M : Type 1} → statement M
 turn-octets-spec =
