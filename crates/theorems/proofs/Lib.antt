@@ -3,5 +3,6 @@ pub mod AnsweredLaws
 pub mod OneRightLaws
 pub mod TurnedLaws
 pub mod PartLaws
+pub mod PassesLaws
 pub mod TwinLaws
 pub mod Theorems

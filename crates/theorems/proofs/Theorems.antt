@@ -13,19 +13,21 @@ use Rattle.flatten.proofs.FlatLaws.{flat-trees}
 use Rattle.flatten.proofs.VisserLaws.{flat-completed, flat-visser}
 use Rattle.flatten.proofs.AlikeLaws.{flat-alike, reading-alike, entry-alike}
 use Rattle.ccg.proofs.ListingLaws.{listing-determines}
+use Rattle.ccg.proofs.NamedLaws.{grammar-names}
 use Rattle.ccg.proofs.WrittenLaws.{text-determines}
 use Rattle.flatten.proofs.FlatWrittenLaws.{flat-written}
 use Rattle.charset.proofs.SpansLaws.{spans-rising, spans-turned, spans-falling}
-use Rattle.charset.specs.Set.{characters, inRange}
+use Rattle.charset.specs.Set.{characters, has, inRange}
 use Rattle.common.proofs.BelowLaws.{between-in, between-ends}
 use Rattle.ccg.specs.Ccg.{Class, Line, Generated}
-use Rattle.flatten.specs.Flat.{flatGrammar, plainClass}
+use Rattle.flatten.specs.Flat.{flatClass, flatGrammar, plainClass}
 use Rattle.engine.proofs.AnswerLaws.{none-exactly, none-buffer, several-exactly, several-buffer, one-exactly, one-buffer, long-exactly, long-buffer, refused-is-long}
 use Rattle.numbers.specs.Written.{room}
 use Rattle.grammar.specs.Layout.{startSort}
 use Rattle.theorems.proofs.PartLaws.{readings-part, several-part}
 use Rattle.theorems.proofs.TwinLaws.{refused-twins, still-refused, refused-now, judged-as-before}
 use Rattle.theorems.proofs.OneRightLaws.{one-right}
+use Rattle.theorems.proofs.PassesLaws.{test-passes, tree-passes, flat-passes, table-passes}
 use Rattle.theorems.proofs.TurnedLaws.{turned-question, turned-listing, turned-page, turned-row, turned-part}
 use Rattle.listing.proofs.RefusedLaws.{grammar-exactly as listing-grammar, ten-exactly as listing-ten, eleven-exactly, right-exactly}
 use Rattle.marked.proofs.Marked.{marked-outcomes}
@@ -49,6 +51,7 @@ use Rattle.flatten.proofs.SpelledGrammarLaws.{spelled-flat, spelled-reading}
 use Rattle.flatten.proofs.TurnedLaws.{turned-flat, turned-flat-answer, turned-reading}
 use Rattle.grammar.proofs.FormedLaws.{pair-judged}
 use Rattle.grammar.proofs.RisenLaws.{risen-turned, risen-rises, risen-small}
+use Rattle.grammar.proofs.ClassesLaws.{class-passes}
 use Rattle.grammar.proofs.EqualLaws.{equal-exactly}
 use Rattle.grammar.proofs.TurnedLaws.{turned-back, rising-characters, rising-passed}
 use Rattle.grammar.specs.Limits.{groupStep}
@@ -66,9 +69,12 @@ use Rattle.sheet.proofs.LineLaws.{line-alone}
 use Rattle.sheet.proofs.OutcomeLaws.{sheet-unique, step-unique}
 use Rattle.sheet.proofs.TurnedLaws.{turned-sheet, turned-step}
 use Rattle.sheet.proofs.WalkLaws.{walk-summary}
+use Rattle.tables.specs.Layout.{slot, takesChar}
+use Rattle.writing.proofs.DigitsLaws.{numeral-plain, numeral-only}
+use Rattle.writing.proofs.NumeralLaws.{numeral-value, numeral-leading}
 use Rattle.writing.specs.declared.WriteAnswer.{WriteAnswer}
 use Rattle.writing.specs.declared.WriteAnswer.the-variants.{Written, Refused as NotWritten}
-use Rattle.theorems.specs.Theorems.{Bytes, AcceptedExactly, RefusedExactly, ConflictExactly, FlatExactly, Refuses, OneOutcome, ListingExactly, OneIsRight, Declares, FlatIsVisser, FlatIsCompleted, FlatTrees, FlatArguments, ReadingsAreFlat, Read, TextDetermines, Archived, FlatIsWritten, ListingDetermines, OneListed, PageExactly, PageSays, Pages, Parts, SaysOfGroup, GroupsSay, Spells, GroupsAreTheirPairs, SpelledBooks, PairsAsBefore, RangesSay, TurnedRangesSame, RangesCanRise, RisingRangesAsBefore, NeverSix, LinesSay, Sheets, LinesAlone, EachStep, WalkersGoDown, EqualExactly, ReadingsPart, SeveralPart, TwinsRefused, EqualAsBefore, MarkedCases}
+use Rattle.theorems.specs.Theorems.{Bytes, AcceptedExactly, RefusedExactly, ConflictExactly, FlatExactly, Refuses, OneOutcome, ListingExactly, OneIsRight, Declares, FlatIsVisser, FlatIsCompleted, FlatTrees, FlatArguments, ReadingsAreFlat, Read, TextDetermines, Archived, FlatIsWritten, ListingDetermines, OneListed, PageExactly, PageSays, Pages, Parts, SaysOfGroup, GroupsSay, Spells, GroupsAreTheirPairs, SpelledBooks, PairsAsBefore, RangesSay, TurnedRangesSame, RangesCanRise, RisingRangesAsBefore, NeverSix, LinesSay, Sheets, LinesAlone, EachStep, WalkersGoDown, EqualExactly, ReadingsPart, SeveralPart, TwinsRefused, EqualAsBefore, NumeralsSay, FlatNumerals, PageNumerals, PassesClass, MarkedCases}
 
 -- ---- demand 1
 
@@ -393,6 +399,35 @@ twins-refused b bytes place e = refused-twins b bytes (refused-first b e)
 
 pub equal-as-before : (b : List ℕ) → EqualAsBefore b
 equal-as-before b = record { stillRefused = still-refused b; refusedNow = refused-now b; judged = judged-as-before b }
+
+-- ---- request 6
+
+pub numerals-say : (n : ℕ) → NumeralsSay n
+numerals-say n =
+    record {
+      plain = numeral-plain n;
+      value = numeral-value n;
+      leading = λ ds e. numeral-leading n (ap (λ (l : List ℕ). getD l 0 0) e);
+      only = numeral-only n;
+    }
+
+pub flat-numerals : FlatNumerals
+flat-numerals = grammar-names
+
+pub page-numerals : PageNumerals
+page-numerals b bytes w l page₀ n page o =
+    let says = written-page b bytes w l page₀ (Written n) page n refl o in
+    (says .tree, says .listed, λ k h. says .line k h .numerals)
+
+pub passes-class : (b : List ℕ) (k c : ℕ) → PassesClass b k c
+passes-class b k c =
+    record {
+      class = class-passes b k c;
+      words = λ words is l. test-passes b k c (has words c) (is c l);
+      tables = λ t f p i is l. test-passes b k c (takesChar t (slot p i) c) (table-passes b k c p i is t f l);
+      flat = λ p i is. test-passes b k c (flatClass b p i c) (flat-passes b k c p i is);
+      tree = tree-passes b k c;
+    }
 
 -- ---- the marked cases
 

@@ -24,20 +24,22 @@
 use Prim.Native.Nat.{ℕ, _+_, _*_, _/_, _%_, _≤_, _<_}
 use mathlib.Core.Path.{_≡_}
 use mathlib.Core.Bool.{Bool, false, true, _&&_}
-use mathlib.Core.List.{List, [], _∷_, _++_}
+use mathlib.Core.List.{List, [], _∷_, _++_, map}
 use mathlib.Core.Logic.{_↔_, _⊎_}
 use lib.Dec.{leb, ltb, eqb}
 use lib.ListN.{length, getD, take, drop}
 use lib.Seq.{slice}
 use Rattle.ccg.specs.Ccg.{Class, Line, OwnNumbers, Generated}
 use Rattle.flatten.specs.Flat.{flatClass, flatGrammarIn, flatGrammar, plainClass}
+use Rattle.ccg.specs.Named.{grammarNumbers}
 use Rattle.ccg.specs.Text.{grammarText}
 use Rattle.flatten.specs.Answer.{flatAnswer}
+use Rattle.flatten.specs.Tables.{FlatTables}
 use Rattle.flatten.specs.Trees.{Built, ConflictFree, Apart}
 use Rattle.flatten.specs.Visser.{visserGrammar, completedGrammar, SingleHigher}
 use Rattle.ccg.specs.Written.{WrittenForm}
 use Rattle.writing.specs.declared.WriteAnswer.the-variants.{Written, Refused as NotWritten}
-use Rattle.charset.specs.Set.{characters, spans}
+use Rattle.charset.specs.Set.{characters, has, spans}
 use Rattle.chart.specs.Counted.{entryOf}
 use Rattle.chart.specs.Layout.{textLimit, chartBytes}
 use Rattle.common.specs.Below.{allBelow, anyBelow}
@@ -47,9 +49,9 @@ use Rattle.engine.specs.declared.Answer.the-variants.{None, One, Several, Refus
 use Rattle.numbers.specs.Written.{bytesOf}
 use Rattle.grammar.specs.Layout.{productions, classes, declarations, startSort, argumentCount, rangeCount, productionAt, result, argument, rangeAt, low, high, declarationAt, kind, first, second}
 use Rattle.grammar.specs.Check.{outside, shortHeader, badHeader, shortContents, badArgumentCounts, badRangeCounts, badLength, badProductions, isGroup, badDeclaration, badDeclarations, sameProduction, repeatedProductions}
-use Rattle.grammar.specs.Classes.{classHas, sameClass}
+use Rattle.grammar.specs.Classes.{classHas, SomeRangeHas, SetOf, sameClass}
 use Rattle.grammar.specs.Equal.{OneProduction}
-use Rattle.grammar.specs.Limits.{pairKindLimit}
+use Rattle.grammar.specs.Limits.{classBase, pairKindLimit}
 use Rattle.grammar.specs.Turned.{TurnedRound, RangesRise, risen}
 use Rattle.grammar.specs.Verdict.{refuseIf, firstRefusal, inOrder}
 use Rattle.grammar.specs.declared.Verdict.{Verdict}
@@ -79,10 +81,13 @@ use Rattle.sheet.specs.Outcome.{byteOf, LineBy, InTurn, SheetOutcome, StepOutco
 use Rattle.sheet.specs.Walk.{Steps, given}
 use Rattle.sheet.specs.declared.Step.{Step}
 use Rattle.sheet.specs.declared.Step.the-variants.{End, Line as LineRead, Refused as NotTaken}
+use Rattle.tables.specs.Layout.{slot, takesChar}
 use Rattle.theory.specs.Counts.{Only, Two, Counts}
 use Rattle.writing.specs.Answer.{bufferAfter}
+use Rattle.writing.specs.Digits.{Plain, numeralsIn}
+use Rattle.writing.specs.Numeral.{digitZero, numeral, valueOf}
 use Rattle.writing.specs.declared.WriteAnswer.{WriteAnswer}
-use Rattle.theory.specs.Tree.{Tree, node, Forest, productionNumber, yield, listing, Subtree}
+use Rattle.theory.specs.Tree.{Tree, leaf, node, Forest, productionNumber, yield, listing, Subtree}
 
 -- The numbers of a list are bytes, as those of a slice are.
 abbrev pub Bytes : List ℕ → Type 0
@@ -545,6 +550,45 @@ pub record EqualAsBefore (b : List ℕ) : Type 0 where
   pub stillRefused : checked b ≡ Accepted → formerChecked b ≡ Accepted
   pub refusedNow : formerChecked b ≡ Accepted → (checked b ≡ Accepted) ⊎ ((place : ℕ) × (checked b ≡ Refused 8 place))
   pub judged : ((j k : ℕ) → j < k → k < classes b → sameClass b j k ≡ false) → checked b ≡ formerChecked b
+
+-- ---- Request 6. "Show that each numeral, read in base ten, gives its number and begins with 0 only for 0, and that a byte passes a class exactly if some range of it,
+-- either way round, has it."
+
+-- The numeral of n (`numeral`, writing/specs/Numeral), by which flat books and pages are written, is made of digits and has no leading 0 but in 0 itself (`Plain`,
+-- writing/specs/Digits); read in base ten (`valueOf`) it gives n, it begins with 0 only for 0, and no other such digits give n.
+pub record NumeralsSay (n : ℕ) : Type 0 where
+  pub plain : Plain (numeral n)
+  pub value : valueOf (numeral n) ≡ n
+  pub leading : (ds : List ℕ) → numeral n ≡ digitZero ∷ ds → n ≡ 0
+  pub only : (ds : List ℕ) → Plain ds → valueOf ds ≡ n → ds ≡ numeral n
+
+-- The numerals that stand in a text are its longest runs of digits (`numeralsIn`, beside `Plain`). Those of a flat book's text are the numerals of the numbers that it names
+-- (`grammarNumbers`, ccg/specs/Named): the ends of each range of each class, argument by argument, and the result, line by line. Whatever the grammar.
+abbrev pub FlatNumerals : Type 0
+FlatNumerals = (g : List Line) → numeralsIn (grammarText g) ≡ map numeral (grammarNumbers g)
+
+-- Those of a page, before the text of each line, are the numerals of the depth, the number, the start and the end of its row in the reading listed.
+abbrev pub PageNumerals : Type 0
+PageNumerals =
+    (b : List ℕ) → Bytes b → (w l page₀ : List ℕ) (n : ℕ) (page : List ℕ) → PageOutcome b w l page₀ (Written n) page
+    → (t : Tree) × Listed b w l t × ((k : ℕ) → k < length (numbersOf l)
+    → let r = getD (rows 0 0 t) k noRow in numeralsIn (take 18 (slice (73 * k) (73 * (k + 1)) page)) ≡ map numeral (r .depth ∷ r .number ∷ r .start ∷ r .end ∷ []))
+
+-- Argument i of production p is there, and is class k.
+pub record IsArgument (b : List ℕ) (p i k : ℕ) : Type 0 where
+  pub there : (p < productions b) × (i < argumentCount b p)
+  pub named : k < classes b
+  pub class : argument b p i ≡ classBase + k
+
+-- A byte c passes class k of a grammar exactly if some range of it has c, either way round (`SomeRangeHas`, grammar/specs/Classes): by the definition that all others go by,
+-- for every list of bytes; by the words that are made of the ranges (`SetOf`: what `grammar::classes::class_set` promises); and at an argument that is class k, by the tables
+-- that texts and listings are read by (`FlatTables`: what `flatten::flatten` promises), by the flat book, and by the grammar's trees.
+pub record PassesClass (b : List ℕ) (k c : ℕ) : Type 0 where
+  pub class : (classHas b k c ≡ true) ↔ SomeRangeHas b k c
+  pub words : (words : List ℕ) → SetOf b k words → c < characters → (has words c ≡ true) ↔ SomeRangeHas b k c
+  pub tables : (t : List ℕ) → FlatTables b t → (p i : ℕ) → IsArgument b p i k → c < characters → (takesChar t (slot p i) c ≡ true) ↔ SomeRangeHas b k c
+  pub flat : (p i : ℕ) → IsArgument b p i k → (flatClass b p i c ≡ true) ↔ SomeRangeHas b k c
+  pub tree : k < classes b → Built b (classBase + k) (leaf c) ↔ SomeRangeHas b k c
 
 -- ---- The paper's marked cases: any outcome of reading each of them, whatever chart and buffer held, is the one marked.
 abbrev pub MarkedCases : Type 0
