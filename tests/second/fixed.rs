@@ -295,6 +295,8 @@ pub fn run(tally: &mut Tally) -> Result<(), Mismatch> {
     crate::fixed_sheets::run(&mut dice, tally)?;
     crate::fixed_limits::run(&mut dice, tally)?;
     crate::fixed_steps::run(&mut dice, tally)?;
+    crate::fixed_numerals::run(&mut dice, tally)?;
+    crate::fixed_passing::run(&mut dice, tally)?;
     damaged(&book_t(&[[2, 1, 1], [1, 1, 2]]), &mut dice, tally)?;
     damaged(&book_t(&[[5, 1, 2], [7, 2, 2]]), &mut dice, tally)
 }

@@ -36,7 +36,7 @@ fn numbers_of_row(text: &[u8]) -> Vec<u16> {
 }
 
 /// Round and round, or nothing.
-fn round() -> Vec<u8> {
+pub fn round() -> Vec<u8> {
     book_of(1, vec![(0, vec![0]), (0, vec![])])
 }
 
@@ -113,7 +113,7 @@ fn answers() -> Vec<(&'static [u16], usize, Result<u64, (u64, u64)>)> {
     ]
 }
 
-fn own_lines(given: Given) -> Lines {
+pub fn own_lines(given: Given) -> Lines {
     pages::lines(&read_book(given.book), given.text, given.listing)
 }
 
@@ -150,7 +150,7 @@ fn rooms_and_parts(asked: &mut Asked, count: usize, dice: &mut Dice, tally: &mut
     asked.texts_under(&asked.beyond(dice), tally)
 }
 
-fn page_of(book: &[u8], text: &[u8], numbers: &[u16], dice: &mut Dice, tally: &mut Tally) -> Result<(), Mismatch> {
+pub fn page_of(book: &[u8], text: &[u8], numbers: &[u16], dice: &mut Dice, tally: &mut Tally) -> Result<(), Mismatch> {
     let listing = to_bytes(numbers);
     let given = Given { book, text, listing: &listing };
     let mut asked = Asked::new(given, own_lines(given), dice);

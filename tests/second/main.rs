@@ -8,7 +8,8 @@
 //! spelled out, if that has no more than 255 declarations. A book with ranges of two characters or more, accepted or refused,
 //! is also compared with the same book with some of its ranges turned round, or all of them. Sheets are compared whole and
 //! line by line: the count of lines, every byte of chart and summary, a walker's steps from line to line and from any start,
-//! and each line read alone. Of every two readings of a small case it is seen where their listings part.
+//! and each line read alone. Of every two readings of a small case it is seen where their listings part. Each numeral that the
+//! library writes is read in base ten. Classes are tried with all 256 bytes, each alone as a text.
 //!
 //! The proved parser fills a chart by columns with counts that stop at 2. This program has neither a column nor a chart
 //! that is filled in order. It has two other methods, checked against each other on all small cases:
@@ -43,7 +44,9 @@ mod fixed_equal;
 mod fixed_equal_calls;
 mod fixed_groups;
 mod fixed_limits;
+mod fixed_numerals;
 mod fixed_pages;
+mod fixed_passing;
 mod fixed_ranges;
 mod fixed_sheets;
 mod fixed_steps;
@@ -55,10 +58,12 @@ mod groups;
 mod library;
 mod listing;
 mod loops;
+mod numerals;
 mod others;
 mod page_calls;
 mod pages;
 mod parting;
+mod passing;
 mod plans;
 mod prng;
 mod range_plans;
@@ -96,8 +101,9 @@ pub fn all_calls(case: &Case, study: &Study, dice: &mut Dice, tally: &mut Tally)
     tries::listings(case, study, dice, tally)
 }
 
-/// One random case, its book with the groups spelled out, and with ranges turned round. Groups, downward ranges and equal or
-/// nearly equal rules are counted here alone, so that random books must have them whatever the fixed ones have.
+/// One random case, its book with the groups spelled out, and with ranges turned round, a sheet, and a class of the book.
+/// Groups, downward ranges and equal or nearly equal rules are counted here alone, so that random books must have them whatever
+/// the fixed ones have.
 fn random_case(case: &Case, dice: &mut Dice, tally: &mut Tally) -> Result<(), Mismatch> {
     let study = Study::new(&case.book, &case.text);
     groups::note(&case.book, &study.book, tally);
@@ -106,7 +112,8 @@ fn random_case(case: &Case, dice: &mut Dice, tally: &mut Tally) -> Result<(), Mi
     all_calls(case, &study, dice, tally)?;
     groups::same_answers(case, &study, "spelled out", dice, tally)?;
     turned::same_answers(case, &study, "turned", dice, tally)?;
-    sheet_cases::perhaps(case, &study, dice, tally)
+    sheet_cases::perhaps(case, &study, dice, tally)?;
+    passing::perhaps(case, &study, dice, tally)
 }
 
 fn decimals(bytes: &[u8]) -> String {
@@ -147,6 +154,7 @@ fn main() {
     if let Err(wrong) = fixed::run(&mut tally) {
         report(&wrong, None, None);
     }
+    tally.is_random = true;
     for k in 0..cases {
         let own_seed = seed.wrapping_add(k);
         if trace {

@@ -5,6 +5,7 @@ use crate::book::{Book, Refusal};
 use crate::compare::{same_bytes, same_number, Given, Mismatch};
 use crate::library::{self, Lent, Make};
 use crate::listing::{self, Judgement};
+use crate::numerals::Meant;
 use crate::prng::Dice;
 use crate::tally::Tally;
 
@@ -117,6 +118,7 @@ pub fn some_room(dice: &mut Dice, need: usize) -> usize {
 pub fn flat_with(bytes: &[u8], text: Result<&[u8], Refusal>, before: &[u8], dice: &mut Dice, tally: &mut Tally) -> Outcome {
     let (answer, after) = written(text, before, 21);
     tally.add("flat", answer.as_ref().map_or_else(refused_name, |_| "written".into()));
+    let meant = answer.is_ok().then(|| Meant::in_flat(bytes));
     let (number, place) = packed(answer);
     for (make, call, expected) in [(Make::Number, "meadowsink_flat", number), (Make::Place, "meadowsink_flat_place", place)] {
         let mut lent = Lent::new(bytes, dice);
@@ -126,6 +128,9 @@ pub fn flat_with(bytes: &[u8], text: Result<&[u8], Refusal>, before: &[u8], dice
             wrong
         };
         same_number(call, expected, library::flat(make, &mut lent, &mut out)).map_err(tell)?;
+        if let Some(numerals) = &meant {
+            numerals.read(call, number / 4, &out, tally).map_err(tell)?;
+        }
         same_bytes(call, "flat buffer", &after, &out).map_err(tell)?;
         same_bytes(call, "book", bytes, &lent)?;
     }

@@ -3,6 +3,7 @@
 use crate::book::{Book, Refusal};
 use crate::compare::{same_bytes, same_number, Given, Mismatch};
 use crate::library::{self, Lent, Make};
+use crate::numerals::Meant;
 use crate::others::{odd_number, packed, refused_name, some_room, written, Outcome};
 use crate::pages::{self, Line, Lines, LINE_LENGTH, NOT_RIGHT, PAGE_SHORT, SHOWN};
 use crate::prng::Dice;
@@ -66,8 +67,10 @@ impl<'a> Asked<'a> {
     pub fn page_over(&mut self, before: &[u8], dice: &mut Dice, tally: &mut Tally) -> Outcome {
         let (answer, after) = self.written(before);
         tally.add("page", answer.as_ref().map_or_else(refused_name, |_| "written".into()));
+        let mut meant = None;
         if let (Ok(lines), Ok(_)) = (&self.lines, &answer) {
             note_lines(lines, tally);
+            meant = Some(Meant::in_page(lines));
         }
         let (number, place) = packed(answer);
         for (make, call, expected) in [(Make::Number, "meadowsink_page", number), (Make::Place, "meadowsink_page_place", place)] {
@@ -75,6 +78,7 @@ impl<'a> Asked<'a> {
             let [b, t, l] = &mut self.lent;
             let found = library::page(make, b, t, l, &mut page);
             same_number(call, expected, found)
+                .and_then(|_| meant.as_ref().map_or(Ok(()), |numerals| numerals.read(call, number / 4, &page, tally)))
                 .and_then(|_| same_bytes(call, "page buffer", &after, &page))
                 .and_then(|_| self.given.stayed(call, &self.lent))
                 .map_err(|mut wrong| {

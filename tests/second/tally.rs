@@ -91,13 +91,28 @@ fn of_sheets() -> Vec<(&'static str, Vec<String>)> {
     ]
 }
 
+/// Kinds of numerals, and of bytes tested against a class.
+fn of_constants() -> Vec<(&'static str, Vec<String>)> {
+    vec![
+        ("numerals", words(&["flat, one digit", "flat, two digits", "flat, three digits", "flat, 0"])),
+        ("numerals", words(&["page, one digit", "page, two digits", "page, three digits", "page, 0"])),
+        // Few random trees are deep enough.
+        ("fixed numerals", words(&["page, four digits"])),
+        ("byte of a class", words(&["passed", "kept out", "passed, downward ones alone"])),
+        ("byte of a class", words(&["classes", "no range", "one range", "several ranges", "a downward range"])),
+        ("byte of a class", words(&["overlapping ranges"])),
+    ]
+}
+
 pub struct Tally {
     met: BTreeMap<(&'static str, String), u64>,
+    /// Are the fixed cases done? Numerals of random cases are counted by themselves.
+    pub is_random: bool,
 }
 
 impl Tally {
     pub fn new() -> Tally {
-        Tally { met: BTreeMap::new() }
+        Tally { met: BTreeMap::new(), is_random: false }
     }
 
     pub fn add(&mut self, call: &'static str, kind: impl Into<String>) {
@@ -143,7 +158,7 @@ impl Tally {
 
     /// Every kind of answer that a long run must meet.
     fn wanted() -> Vec<(&'static str, String)> {
-        let lists = [of_calls(), of_books(), of_equal_rules(), of_sheets()];
+        let lists = [of_calls(), of_books(), of_equal_rules(), of_sheets(), of_constants()];
         lists.into_iter().flatten().flat_map(|(call, kinds)| kinds.into_iter().map(move |k| (call, k))).collect()
     }
 
