@@ -10,7 +10,7 @@ CASE_CRATES := grammar_cases conflict_cases flat_cases listing_cases page_cases 
 CASES := 100000
 MANY_CASES := 1000000
 
-.PHONY: run test lib programs viewer stack unused second second-long faults examples check-examples bench books check-books cases store-cases check clean
+.PHONY: run test lib programs viewer stack constants sizes unused second second-long faults examples check-examples bench books check-books cases store-cases check clean
 
 # the line 8/4*2 read by book T
 run:
@@ -27,7 +27,7 @@ test:
 	$(MAKE) cases check-books unused
 	sh tests/ci.sh $(BUILD)
 	$(MAKE) lib
-	$(MAKE) -j2 viewer check-examples second stack programs
+	$(MAKE) -j2 viewer check-examples constants second stack programs
 	@cat $(BUILD)/ci.last
 
 # the programs flat and reading, run
@@ -44,6 +44,18 @@ viewer: $(LIBRARY)
 # each call with a small stack; READ_STACK, CALL_STACK and THREAD_STACK set other sizes, in kilobytes
 stack: $(BUILD)/stack_call $(BUILD)/stack_thread $(BUILD)/book
 	sh tests/stack.sh $(BUILD)/stack_call $(BUILD)/stack_thread $(BUILD)/book
+
+# the library has no constant of more than 64 bytes, whole or in pieces
+constants: $(LIBRARY)
+	sh tests/constants_cases.sh
+	sh tests/constants.sh $(LIBRARY)
+
+# in bytes, how large the library is, how large its functions are, what a program takes of it that makes one call, and how much stack each call takes
+sizes: $(LIBRARY) $(BUILD)/stack_call $(BUILD)/stack_thread $(BUILD)/book
+	sh tests/constants.sh $(LIBRARY)
+	size -A -d $(LIBRARY) | awk '$$1 ~ /^\.text\./ { print substr($$1, 7), $$2 }' | sort -k 2,2nr
+	sh tests/weights.sh $(LIBRARY)
+	sh tests/stack.sh $(BUILD)/stack_call $(BUILD)/stack_thread $(BUILD)/book --need
 
 $(BUILD)/stack_call: tests/stack_call.c include/meadowsink.h $(LIBRARY)
 	mkdir -p $(BUILD)

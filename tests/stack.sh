@@ -1,11 +1,13 @@
 #!/bin/sh
 # Tests how much stack the library needs: makes each call in a process of its own with a stack of READ_STACK (the calls that read) or CALL_STACK kilobytes,
 # and all of them in a thread with THREAD_STACK kilobytes, on the books that need most. Each answer is compared, too.
+# With --need it says instead how many bytes of stack each call takes at the most on these books.
 #
-#     stack.sh STACK-CALL STACK-THREAD BOOK-TOOL
+#     stack.sh STACK-CALL STACK-THREAD BOOK-TOOL [--need]
 call=$1
 thread=$2
 tool=$3
+need=$4
 READ_STACK=${READ_STACK:-512}
 CALL_STACK=${CALL_STACK:-2048}
 THREAD_STACK=${THREAD_STACK:-2048}
@@ -19,8 +21,15 @@ run() { # KILOBYTES EXPECTED WORD..
     kilobytes=$1
     expected=$2
     shift 2
-    answer=$(ulimit -s "$kilobytes" && env -i "$call" "$@" 2>&1)
-    status=$?
+    if [ "$need" = --need ]; then
+        answer=$(env -i "$call" --need "$@" 2>&1)
+        status=$?
+        echo "$1 ${answer##* stack }" >> "$dir/needs"
+        answer=${answer% stack *}
+    else
+        answer=$(ulimit -s "$kilobytes" && env -i "$call" "$@" 2>&1)
+        status=$?
+    fi
     [ $status = 0 ] && [ "$answer" = "$expected" ] && return
     failures=$((failures + 1))
     echo "failed, with $kilobytes KB of stack: $*"
@@ -109,5 +118,10 @@ reading
 sheets
 listings
 others
+if [ "$need" = --need ]; then
+    awk '$2 > most[$1] { most[$1] = $2 } END { for (name in most) print "meadowsink_" name, most[name] }' "$dir/needs" | sort -k 2,2nr -k 1,1
+    [ $failures = 0 ]
+    exit
+fi
 "$thread" "$books" "$dir" "$THREAD_STACK" || failures=$((failures + 1))
 [ $failures = 0 ] && echo "stack: all as it should be with $READ_STACK KB to read, $CALL_STACK KB for the other calls, $THREAD_STACK KB in a thread"

@@ -10,12 +10,15 @@
  *     stack_call check_listing BOOK N NUMBER.. [/ NUMBER..]
  *     stack_call page BOOK N NUMBER.. [/ NUMBER..]
  *     stack_call text_under BOOK N NUMBER.. [/ NUMBER..]        under the last number
+ *     stack_call --need CALL WORD..      any of these, and behind its answer how many bytes of stack the call took
  *
  * The numbers before the slash are repeated as long as they and those behind it fit 4,096 numbers.
  * With `_place` behind its name the operation's second call is made. The answer is printed as its kind and value, as the place, or as the part's start and
  * end; behind the kind and value of one reading stands how many levels of rules its listing has, and so for a listing that was lent. Behind those of a page
  * stands the depth on its last line, and behind those of a sheet the summary bytes of its two lines.
  */
+#define _POSIX_C_SOURCE 200809L
+#include <pthread.h>
 #include <stdio.h>
 #include <stdlib.h>
 #include <string.h>
@@ -32,7 +35,9 @@ enum {
     listing_limit = 65536,
     checked_limit = 4096,
     line_length = 73,
-    chart_limit = rule_limit * (argument_limit + 1) * (text_limit + 1) * (text_limit + 2) / 2
+    chart_limit = rule_limit * (argument_limit + 1) * (text_limit + 1) * (text_limit + 2) / 2,
+    stack_limit = 4 << 20,
+    paint = 0xa5
 };
 
 /* Nothing large is on this program's own stack. */
@@ -188,8 +193,8 @@ static void with_listing(const char *operation, int place, size_t length) {
     if (!place) printf(" numbers %zu levels %zu", length / 2, levels(length / 2));
 }
 
-int main(int count, char **words) {
-    if (count < 3) return fail("too few words");
+static void make_call(int count, char **words) {
+    if (count < 3) fail("too few words");
     char *suffix = strstr(words[1], "_place");
     int place = suffix != NULL;
     if (place) *suffix = '\0';
@@ -213,8 +218,47 @@ int main(int count, char **words) {
         load_text(words[3]);
         with_listing(words[1], place, fill_listing(count - 4, words + 4));
     } else {
-        return fail("no such call");
+        fail("no such call");
     }
+}
+
+/* ---- how much stack it takes: a thread is given a painted one, and as far as the paint is gone it was used */
+
+static uint8_t stack[stack_limit] __attribute__((aligned(4096)));
+
+typedef struct {
+    int count;
+    char **words;
+} Command;
+
+static void *run_call(void *command) {
+    make_call(((Command *)command)->count, ((Command *)command)->words);
+    return NULL;
+}
+
+static void *run_nothing(void *command) {
+    return command;
+}
+
+static size_t stack_used(void *(*run)(void *), Command *command) {
+    pthread_attr_t attributes;
+    pthread_t thread;
+    memset(stack, paint, sizeof stack);
+    if (pthread_attr_init(&attributes) != 0 || pthread_attr_setstack(&attributes, stack, sizeof stack) != 0) fail("no stack");
+    if (pthread_create(&thread, &attributes, run, command) != 0 || pthread_join(thread, NULL) != 0) fail("no thread");
+    size_t left = 0;
+    while (left < sizeof stack && stack[left] == paint) left++;
+    return sizeof stack - left;
+}
+
+int main(int count, char **words) {
+    if (count > 1 && strcmp(words[1], "--need") == 0) {
+        Command command = {count - 1, words + 1};
+        size_t own = stack_used(run_nothing, &command);
+        printf(" stack %zu\n", stack_used(run_call, &command) - own);
+        return 0;
+    }
+    make_call(count, words);
     putchar('\n');
     return 0;
 }
