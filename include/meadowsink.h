@@ -18,6 +18,8 @@ extern "C" {
  *
  * Stack. Every call needs less than 2 MB of stack, and those that parse a text or the lines of a sheet less than 512 KB, whatever the book.
  *
+ * Memory. The library keeps nothing between calls and has no data that is written to. It has no constant of more than 64 bytes.
+ *
  * Two calls to an operation. The first gives its answer, 4 * value + kind, where kind 3 is a refusal and the value its number. The second, whose name ends
  * in `_place`, takes the same areas, does the same to them, and gives the place of the refusal; it is 0 if nothing is refused, but 0 may also be a place.
  * meadowsink_text_under refuses nothing, so it has no second call, and its result is not of this form.
