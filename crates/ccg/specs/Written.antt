@@ -18,8 +18,11 @@ OnlyCharacters cc = (n : ℕ) → cc n ≡ true → n < characters
 abbrev pub OnlyProductions : Class → Type 0
 OnlyProductions cc = (n : ℕ) → cc n ≡ true → (productionNumber 0 ≤ n) × (n < numberLimit)
 
+-- A class that a text can say: one of characters, one of production numbers, or an empty one, which is both.
+abbrev pub OneKind : Class → Type 0
+OneKind cc = OnlyCharacters cc ⊎ OnlyProductions cc
+
 -- Every line has its own number; every class has only characters, or only numbers of productions.
 pub record WrittenForm (g : List Line) : Type 0 where
   pub numbered : OwnNumbers g
-  pub classes : (p i : ℕ) → p < length g → i < length (getD g p noLine .arguments)
-      → OnlyCharacters (getD (getD g p noLine .arguments) i noClass) ⊎ OnlyProductions (getD (getD g p noLine .arguments) i noClass)
+  pub classes : (p i : ℕ) → p < length g → i < length (getD g p noLine .arguments) → OneKind (getD (getD g p noLine .arguments) i noClass)

@@ -40,7 +40,7 @@ pub fn put_numeral(out: &mut [u8], at: usize, n: usize) -> usize
     put(out, next, digit(n % NUMERAL_BASE))
 }
 
-fn digit(n: usize) -> u8
+pub fn digit(n: usize) -> u8
     requires { ⌜ n < numeralBase ⌝ }
     ensures { λ r. ⌜ r ≡ digitZero + n ⌝ }
 {

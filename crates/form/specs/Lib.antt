@@ -1,0 +1,4 @@
+-- What the contracts of the written form's reader cite.
+pub mod Form
+pub mod Step
+pub mod Read
