@@ -28,16 +28,27 @@ unfolding Rising
 rising-more low [] next r h a l b = (rw h a, l, b, refl)
 rising-more low (q ∷ rs) next r h a l b = (h .0, h .1, h .2, rising-more (q .high + 2) rs next r (h .3) a l b)
 
--- the range that a number ends which was awaited
-pub rising-to : (dashed : Bool) (low v : ℕ) (rs : List Range) → Awaits dashed low rs → allowed low v ≡ true → Rising 0 (rs ++ (rangeTo dashed low v ∷ [])) (v + 2)
+-- the range that a number ends which was awaited: it rises, within one kind
+pub range-to-kind : (dashed : Bool) (low v : ℕ) (rs : List Range) → Awaits dashed low rs → allowed low v ≡ true
+    → (rangeTo dashed low v .low ≤ v) × (v ≤ lastFrom (rangeTo dashed low v .low)) × (rangeTo dashed low v .low ≤ lastFrom (rangeTo dashed low v .low))
 unfolding Awaits rangeTo
-rising-to false low v rs h a = rising-more 0 rs low (range v v) h a (le-refl v) (allowed-own low v a)
-rising-to true low v rs h a =
+range-to-kind false low v rs h a = (le-refl v, allowed-own low v a, allowed-own low v a)
+range-to-kind true low v rs h a =
     let (l, next, rising, may, e) = h in
     let from : low - 1 ≡ l = omega arith in
+    let own = allowed-own next l may in
+    let kind : lastFrom low ≡ lastFrom l = rw e (last-next l 1 (omega arith) own) in
     let (below, same) = allowed-same low v (omega arith) a in
-    let kind : lastFrom low ≡ lastFrom l = rw e (last-next l 1 (omega arith) (allowed-own next l may)) in
-    rising-more 0 rs next (range (low - 1) v) rising (rw from may) (omega (arith, allowed-above low v a)) (rw from (omega arith))
+    (omega (arith, allowed-above low v a), rw from (omega arith), rw from own)
+
+pub rising-to : (dashed : Bool) (low v : ℕ) (rs : List Range) → Awaits dashed low rs → allowed low v ≡ true → Rising 0 (rs ++ (rangeTo dashed low v ∷ [])) (v + 2)
+unfolding Awaits rangeTo
+rising-to false low v rs h a = let (rises, below, own) = range-to-kind false low v rs h a in rising-more 0 rs low (range v v) h a rises below
+rising-to true low v rs h a =
+    let (rises, below, own) = range-to-kind true low v rs h a in
+    let (l, next, rising, may, e) = h in
+    let from : low - 1 ≡ l = omega arith in
+    rising-more 0 rs next (range (low - 1) v) rising (rw from may) rises below
 
 -- ---- ranges that rise are normal
 

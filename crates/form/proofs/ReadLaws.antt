@@ -20,10 +20,10 @@ use Rattle.common.proofs.ListLaws.{joined-append, joined-one}
 use Rattle.common.specs.Lists.{joined}
 use Rattle.form.proofs.EndingLaws.{ending-long}
 use Rattle.form.proofs.GoesLaws.{on-if, on-unless, digit-value, on-before}
-use Rattle.form.proofs.NumberLaws.{allowed-above}
+use Rattle.form.proofs.NumberLaws.{allowed-above, begun-small}
 use Rattle.form.proofs.RangesLaws.{rising-to, rising-kind, rising-runs}
 use Rattle.form.specs.Read.{Memory, memory, nothing, rangeTo, withRange, withArgument, withLine, endsRange, remember, rangesText, dashedText, openText, completeText, Rising, Awaits, Room, Expected, GoodLines, Told}
-use Rattle.form.specs.Step.{allowed, state, endingLength, endingByte, behindNumber, inNumber, behindOpen, behindSlash, behindDash, inLine, behindClass, inEnding, stepAt, step, start, steps, goesOn}
+use Rattle.form.specs.Step.{allowed, state, endingLength, endingByte, behindNumber, inNumber, behindOpen, behindSlash, behindDash, inLine, behindClass, inEnding, stepAt, step, start, steps, goesOn, SmallSpot, Small}
 use Rattle.form.specs.declared.Spot.{Spot}
 use Rattle.form.specs.declared.Spot.the-variants.{Between, Opened, Slash, Number, Dash, Closed, Ending, Stuck}
 use Rattle.form.specs.declared.State.{State}
@@ -103,7 +103,7 @@ line-text m =
     ∙ sym (append-nil (completeText (withLine m)) ∙ no-arguments (grammarText (withLine m .lines)) ∙ lines-more (m .lines) (record { arguments = m .arguments; result = productionNumber (length (m .lines)) }))
 
 -- what holds of each of a list and of one more
-each-more : {A : Type 0} (P : ℕ → A → Type 0) (l : List A) (x d : A) → ((i : ℕ) → i < length l → P i (getD l i d)) → P (length l) x
+pub each-more : {A : Type 0} (P : ℕ → A → Type 0) (l : List A) (x d : A) → ((i : ℕ) → i < length l → P i (getD l i d)) → P (length l) x
     → (i : ℕ) → i < length (l ++ (x ∷ [])) → P i (getD (l ++ (x ∷ [])) i d)
 each-more P l x d all here i h =
     by-cases (decLt i (length l))
@@ -378,6 +378,33 @@ unfolding steps
 told-from s m v [] h on = (m, rw (append-nil v) h)
 told-from s m v (b ∷ u) h on =
     rw (← (append-assoc v (b ∷ []) u)) (told-from (step s b) (remember (s .spot) m b) (v ++ (b ∷ [])) u (told-step s m v b h (on-before (step s b) u on)) on)
+
+-- ---- what code has to know
+
+-- a range ends only behind a number that is allowed
+pub range-ends : (dashed : Bool) (low v b : ℕ) → endsRange b ≡ true → goesOn (inNumber dashed low v b) ≡ true → allowed low v ≡ true
+unfolding inNumber
+range-ends dashed low v b ends on =
+    elim (true-or-false (isDigit b)) [
+      | inl e ↦ absurd (true≢false (sym ends ∙ digit-ends-none b e))
+      | inr e ↦ on-if (allowed low v) (behindNumber dashed v b) (rw e at on) .0
+    ]
+
+small-spot : (r a : ℕ) (s : Spot) (rs : List Range) → Expected r a s rs → goesOn s ≡ true → SmallSpot r s
+unfolding Expected goesOn SmallSpot
+small-spot r a Between rs x on = tt
+small-spot r a Opened rs x on = tt
+small-spot r a (Slash dashed low) rs x on = tt
+small-spot r a (Number dashed low v) rs x on = begun-small low v on
+small-spot r a (Dash low) rs x on = tt
+small-spot r a Closed rs x on = tt
+small-spot r a (Ending k) rs x on = (x .1, x .2)
+small-spot r a Stuck rs x on = tt
+
+pub small-told : (s : State) (m : Memory) (u : List ℕ) → Told s m u → goesOn (s .spot) ≡ true → Small s
+small-told s m u h on = record { line = h .fewLines; argument = h .fewArguments; spot = small-spot (s .line) (s .argument) (s .spot) (m .ranges) (h .expected) on }
+
+-- ---- all bytes
 
 -- All bytes of a text behind which one goes on.
 pub told-steps : (u : List ℕ) → goesOn (steps start u .spot) ≡ true → (m : Memory) × Told (steps start u) m u

@@ -22,7 +22,7 @@ use Rattle.form.proofs.NumberLaws.{last-next, allowed-kind, allowed-own
 use Rattle.form.proofs.RangesLaws.{kind-rising}
 use Rattle.form.specs.Form.{Writable}
 use Rattle.form.specs.Read.{rangesText, Rising}
-use Rattle.form.specs.Step.{lastFrom, allowed, state, endingLength, endingByte, behindNumber, inNumber, behindOpen, behindSlash, behindDash, inLine, behindClass, inEnding, stepAt, start, steps, mayEnd, mayEndAt}
+use Rattle.form.specs.Step.{lastFrom, allowed, state, endingLength, endingByte, behindNumber, inNumber, behindOpen, behindSlash, behindDash, inLine, behindClass, inEnding, stepAt, step, start, steps, mayEnd, mayEndAt}
 use Rattle.form.specs.declared.Spot.{Spot}
 use Rattle.form.specs.declared.Spot.the-variants.{Between, Opened, Slash, Number, Dash, Closed, Ending, Stuck}
 use Rattle.form.specs.declared.State.{State}
@@ -47,6 +47,10 @@ pub steps-append : (s : State) (u v : List ℕ) → steps s (u ++ v) ≡ steps (
 unfolding steps
 steps-append s [] v = refl
 steps-append s (b ∷ u) v = steps-append (stepAt (s .line) (s .argument) (s .spot) b) u v
+
+pub steps-last : (s : State) (u : List ℕ) (b : ℕ) → steps s (u ++ (b ∷ [])) ≡ step (steps s u) b
+unfolding steps
+steps-last s u b = steps-append s u (b ∷ [])
 
 -- ---- numerals
 

@@ -14,7 +14,7 @@ ghost use Rattle.common.specs.Below.{between};
 ghost use Rattle.grammar.specs.Limits.{productionLimit, argumentLimit};
 ghost use Rattle.writing.specs.Digits.{isDigit};
 ghost use Rattle.writing.specs.Numeral.{digitZero, numeralBase};
-ghost use Rattle.form.specs.Step.{lastFrom, allowed, meets, begins, begun, state, endingLength, endingByte, behindNumber, inNumber, behindOpen, behindSlash, behindDash, inLine, behindClass, inEnding, step, goesOn, mayEnd, ShortSpot, Small};
+ghost use Rattle.form.specs.Step.{lastFrom, allowed, meets, begins, begun, state, endingLength, endingByte, behindNumber, inNumber, behindOpen, behindSlash, behindDash, inLine, behindClass, inEnding, step, start, goesOn, mayEnd, ShortSpot, Small};
 
 // The last character, and the last number that a line could have.
 const LAST_CHARACTER: usize = 255;
@@ -217,6 +217,13 @@ fn at(line: usize, argument: usize, spot: Spot) -> State
         argument,
         spot,
     }
+}
+
+// Where every text begins.
+pub fn start() -> State
+    ensures { λ r. ⌜ r ≡ start ⌝ }
+{
+    at(0, 0, Spot::Between)
 }
 
 // Behind an argument's class.

@@ -2,3 +2,4 @@
 pub mod BitsLaws
 pub mod LayoutLaws
 pub mod PutLaws
+pub mod MemberLaws

@@ -14,7 +14,7 @@ use Rattle.common.specs.Region.{Region}
 use Rattle.grammar.specs.Limits.{productionLimit, argumentLimit}
 use Rattle.tables.proofs.LayoutLaws.{counts-long, count-at}
 use Rattle.tables.specs.Layout.{countsAt, rowsAt, classesAt, productionWords, classWords, slotAt, tableWords, countsOf, arityIn, rowCount, takesChar, takesProduction, ParserTables}
-use Rattle.tables.specs.Put.{CountsPut, ClassPut}
+use Rattle.tables.specs.Put.{CountsPut, ClassesKept, ClassPut, MemberAdded}
 
 -- ---- counts
 
@@ -57,6 +57,10 @@ counts-more counts t p v row l few c e r =
             ∙ getD-set-other t (countsAt + p) (rowsAt + k) v 0 (λ q. omega arith) ∙ c .rowsAre k (omega arith))
       ];
     }
+
+-- a word before the classes leaves these as they are
+pub classes-kept : (t : List ℕ) (at v : ℕ) → at < classesAt → ClassesKept t (set t at v)
+classes-kept t at v l k h = getD-set-other t at k v 0 (λ e. omega arith)
 
 module _ (counts t : List ℕ) (few : length counts ≤ productionLimit) (c : CountsPut counts (length counts) t) where
   -- the counts of the tables are those that were written

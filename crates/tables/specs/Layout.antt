@@ -69,6 +69,13 @@ arityIn counts p = getD counts p 0
 unfoldable pub rowCount : (ℕ → ℕ) → ℕ → ℕ
 rowCount arity n = sumBelow n (λ q. arity q + 1)
 
+-- bit x of the class of slot s: of a character, or behind all of these of a production
+abbrev pub classBits : ℕ
+classBits = classWords * wordBits
+
+unfoldable pub classBit : List ℕ → ℕ → ℕ → Bool
+classBit t s x = bit (getD t (slotAt s + x / wordBits) 0) (x % wordBits)
+
 -- character c may stand at slot s
 unfoldable pub takesChar : List ℕ → ℕ → ℕ → Bool
 takesChar t s c = bit (getD t (slotAt s + c / wordBits) 0) (c % wordBits)

@@ -12,9 +12,10 @@ ghost use Prim.Native.Nat.{ℕ, _+_, _*_, _/_, _%_, _<_, _≤_};
 ghost use lib.ListN.{length, getD};
 ghost use Rattle.charset.specs.Set.{characters, wordBits, bit, has};
 ghost use Rattle.common.specs.Bytes.{byteValues};
+ghost use Rattle.common.specs.Zeros.{AllZero};
 ghost use Rattle.grammar.specs.Limits.{productionLimit};
-ghost use Rattle.tables.specs.Layout.{slots, countsOf, arityIn, rowCount, slotAt, productionWords, productionOctets, productionOctet, tableWords, takesChar, takesProduction, ParserTables};
-ghost use Rattle.tables.specs.Put.{CountsPut, ClassPut};
+ghost use Rattle.tables.specs.Layout.{slots, countsOf, arityIn, rowCount, slotAt, productionWords, classBits, productionOctets, productionOctet, tableWords, takesChar, takesProduction, ParserTables};
+ghost use Rattle.tables.specs.Put.{CountsPut, ClassesKept, ClassPut, MemberAdded};
 
 // The number of production 0.
 pub const FIRST_PRODUCTION: usize = 258;
@@ -39,7 +40,7 @@ pub const TABLE_WORDS: usize = CLASSES_AT + (SLOTS + 1) * CLASS_WORDS;
 
 // Room for the tables.
 pub fn zero_tables() -> [u64; TABLE_WORDS]
-    ensures { λ r. ⌜ length r ≡ tableWords ⌝ }
+    ensures { λ r. ⌜ AllZero tableWords r ⌝ }
 {
     [0; TABLE_WORDS]
 }
@@ -158,10 +159,11 @@ pub fn class_octet(tables: &[u64], s: usize, k: usize) -> u8
 
 // ---- writing
 
-// Writes how many productions there are, the argument count of each, and the rows.
+// Writes how many productions there are, the argument count of each, and the rows; the classes stay.
 pub fn put_counts(tables: &mut [u64], counts: &[u8])
     requires { ⌜ (length (now tables) ≡ tableWords) × (length (now counts) ≤ productionLimit) ⌝ }
     ensures { λ _. ⌜ CountsPut (now (counts .entry)) (length (now (counts .entry))) (now (tables .exit)) ⌝ }
+    ensures { λ _. ⌜ ClassesKept (now (tables .entry)) (now (tables .exit)) ⌝ }
 {
     tables[0] = word(counts.len());
     tables[ROWS_AT] = 0;
@@ -185,6 +187,15 @@ pub fn put_class(tables: &mut [u64], s: usize, chars: CharSet, productions: Prod
     let numbers = productions.words;
     put_words(tables, at, &characters);
     put_words(tables, at + SET_WORDS, &numbers);
+}
+
+// Adds one member to the class of slot s: a character, or behind all of these a production.
+pub fn add_member(tables: &mut [u64], s: usize, x: usize)
+    requires { ⌜ (length (now tables) ≡ tableWords) × (s ≤ slots) × (x < classBits) ⌝ }
+    ensures { λ _. ⌜ MemberAdded s x (now (tables .entry)) (now (tables .exit)) ⌝ }
+{
+    let at = slot_at(s) + x / 64;
+    tables[at] = tables[at] | 1u64 << (x % 64);
 }
 
 // ---- sets of productions

@@ -56,7 +56,7 @@ returns c =
     let e : headerLength + production-count .result - headerLength ≡ productions b = omega (arith, production-count .ensures) in
     written-none b (start .pre .0) _ _ _ _ (c .before .before .put-class .ensures) (c .before .before .before .before .before .empty .ensures)
     (λ q l. c .before .before .before .with-result .ensures q l ∙ has-result b (start .pre .0) (start .args .sets) (start .pre .1 .0) q l (startSort b))
-    (subst (λ (n : ℕ). CountsPut (take n (drop headerLength b)) (length (take n (drop headerLength b))) (put-counts .last .0)) e (put-counts .ensures))
+    (subst (λ (n : ℕ). CountsPut (take n (drop headerLength b)) (length (take n (drop headerLength b))) (put-counts .last .0)) e (put-counts .ensures .0))
 
 pub write-counts-and-root-spec : {M : Type 1} → statement M
 write-counts-and-root-spec =

@@ -1,0 +1,5 @@
+-- Laws of loading a flat text.
+pub mod BitsLaws
+pub mod NoteLaws
+pub mod HeldLaws
+pub mod ReachedLaws

@@ -1,0 +1,115 @@
+-- A text byte by byte: where it is, and where it stops.
+use Prim.Native.Nat.{ℕ, suc, _+_, _≤_, _<_}
+use mathlib.Core.Bool.{Bool, false, true, cond, _&&_, true≢false}
+use mathlib.Core.List.{List, [], _∷_, _++_}
+use mathlib.Core.Logic.{inl, inr, by-cases}
+use mathlib.Core.Path.{_≡_, refl, sym, _∙_, ap, subst, subst⁻¹}
+use native.Mathlib.Decide.{decLt}
+use native.Mathlib.Nat.{le-refl}
+use native.Mathlib.Omega.{arith}
+use lib.Dec.{leb}
+use lib.ListN.{length, getD, take}
+use lib.Seq.{take-suc, take-all}
+use borrow.Author.Tests.{leb-true, leb-false, le-leb, lt-leb}
+use Rattle.common.proofs.BoolLaws.{and-first-true, and-second-true, true-or-false}
+use Rattle.common.specs.Zeros.{AllZero}
+use Rattle.form.proofs.FormLaws.{end-says, longest-at, longest-all, off-form, open-form}
+use Rattle.form.proofs.ReadLaws.{told-step, told-nothing}
+use Rattle.form.proofs.StepsLaws.{steps-append, steps-last}
+use Rattle.form.specs.Form.{LongestViable}
+use Rattle.form.specs.Read.{Memory, nothing, remember, Told}
+use Rattle.form.specs.Step.{start, step, steps, goesOn, mayEnd}
+use Rattle.form.specs.declared.State.{State}
+use Rattle.grammar.specs.Limits.{productionLimit}
+use Rattle.load.proofs.HeldLaws.{held-step, held-nothing}
+use Rattle.load.specs.Check.{NotInForm}
+use Rattle.load.specs.Held.{goesOnAt, Noted, Held, Reached, stopAnswer, LinesRead}
+use Rattle.load.specs.declared.FlatAnswer.the-variants.{Lines, Refused}
+use Rattle.tables.specs.Layout.{tableWords}
+
+-- ---- the test
+
+pub at-within : (text : List ℕ) (i : ℕ) (s : State) → goesOnAt text i s ≡ true → (i < length text) × (goesOn (step s (getD text i 0) .spot) ≡ true)
+unfolding goesOnAt
+at-within text i s e =
+    elim (true-or-false (leb (length text) i)) [
+      | inl past ↦ absurd (true≢false (sym (rw past at e)))
+      | inr before ↦ (leb-false (length text) i before, rw before at e)
+    ]
+
+at-off : (text : List ℕ) (i : ℕ) (s : State) → i < length text → goesOnAt text i s ≡ false → goesOn (step s (getD text i 0) .spot) ≡ false
+unfolding goesOnAt
+at-off text i s l e = rw (lt-leb (length text) i l) at e
+
+-- ---- the bytes
+
+-- one byte more
+next-state : (text : List ℕ) (i : ℕ) (s : State) → i < length text → s ≡ steps start (take i text) → step s (getD text i 0) ≡ steps start (take (i + 1) text)
+next-state text i s l e =
+    let up : suc i ≡ i + 1 = omega arith in
+    rw (← up, take-suc text i 0 l, steps-last start (take i text) (getD text i 0), e) refl
+
+pub reached-none : (text t c : List ℕ) → AllZero tableWords t → length c ≡ productionLimit → Reached text 0 start t c
+unfolding steps goesOn
+reached-none text t c zero many =
+    record { within = omega arith; state = refl; on = refl; memory = nothing; told = told-nothing; held = held-nothing t c zero many }
+
+pub reached-more : (text : List ℕ) (i : ℕ) (s : State) (t₀ c₀ t c : List ℕ) → Reached text i s t₀ c₀ → goesOnAt text i s ≡ true → Noted (s .line) (s .argument) (s .spot) (getD text i 0) t₀ c₀ t c
+    → Reached text (i + 1) (step s (getD text i 0)) t c
+reached-more text i s t₀ c₀ t c h test noted =
+    let (l, on) = at-within text i s test in
+    let b = getD text i 0 in
+    let up : suc i ≡ i + 1 = omega arith in
+    record {
+      within = omega arith;
+      state = next-state text i s l (h .state);
+      on = on;
+      memory = remember (s .spot) (h .memory) b;
+      told = rw (← up, take-suc text i 0 l) (told-step s (h .memory) (take i text) b (h .told) on);
+      held = held-step s (h .memory) (take i text) t₀ c₀ t c b (h .told) on (h .held) noted;
+    }
+
+-- ---- where it stops
+
+module _ (text : List ℕ) (i : ℕ) (s : State) (t c : List ℕ) (h : Reached text i s t c) (stop : goesOnAt text i s ≡ false) where
+  -- before the end: no text goes on behind the next byte
+  stopped-before : i < length text → NotInForm text i
+  stopped-before l =
+      let off : goesOn (steps start (take (suc i) text) .spot) ≡ false =
+      let up : suc i ≡ i + 1 = omega arith in rw (up, ← (next-state text i s l (h .state))) (at-off text i s l stop) in
+      record {
+        outside = off-form text (suc i) l off;
+        longest = longest-at text i l (rw (← (h .state)) (h .on)) off;
+      }
+
+  module _ (past : length text ≤ i) where
+    whole : take i text ≡ text
+    whole = take-all i text past
+
+    ended : steps start text ≡ s
+    ended = ap (steps start) (sym whole) ∙ sym (h .state)
+
+    -- at the end, where it may not end
+    stopped-short : mayEnd s ≡ false → NotInForm text i
+    stopped-short e =
+        let same : i ≡ length text = omega (arith, h .within) in
+        record {
+          outside = open-form text (rw ended e);
+          longest = subst⁻¹ (λ (k : ℕ). LongestViable text k) same (longest-all text (rw ended (h .on)));
+        }
+
+    -- and where it may
+    stopped-whole : mayEnd s ≡ true → LinesRead text (Lines (s .line)) t c
+    unfolding LinesRead
+    stopped-whole e = (h .memory, h .held, end-says s (h .memory) text (rw whole at (h .told)) e, h .told .line)
+
+  pub reached-end : LinesRead text (stopAnswer text i s) t c
+  unfolding stopAnswer LinesRead
+  reached-end =
+      elim (true-or-false (leb (length text) i)) [
+        | inl past ↦ elim (true-or-false (mayEnd s)) [
+          | inl e ↦ rw (past, e) (stopped-whole (leb-true (length text) i past) e)
+          | inr e ↦ rw (past, e) (refl, stopped-short (leb-true (length text) i past) e)
+        ]
+        | inr before ↦ rw before (refl, stopped-before (leb-false (length text) i before))
+      ]

@@ -1,0 +1,4 @@
+-- What the contracts of loading a flat text cite.
+pub mod Absent
+pub mod Check
+pub mod Held

@@ -1,0 +1,170 @@
+// A flat text (01's flat book, written) is read into tables, byte by byte; and the operation "checking a flat text" (02, [7]).
+use common::both;
+use common::either;
+use form::Spot;
+use form::State;
+use form::goes_on;
+use form::may_end;
+use form::start;
+use form::step;
+use grammar::Verdict;
+use grammar::limits::ARGUMENT_LIMIT;
+use grammar::limits::PRODUCTION_LIMIT;
+use tables::FIRST_PRODUCTION;
+use tables::add_member;
+use tables::argument_count;
+use tables::production_count;
+use tables::put_counts;
+use tables::takes_production;
+use tables::zero_tables;
+ghost use mathlib.Core.Path.{_≡_};
+ghost use mathlib.Core.Bool.{true};
+ghost use Prim.Native.Nat.{_+_, _≤_, _<_};
+ghost use lib.ListN.{length};
+ghost use Rattle.ccg.specs.Ccg.{noLine};
+ghost use Rattle.ccg.specs.Tables.{tableClass, tableLine, tableGrammar};
+ghost use Rattle.ccg.specs.Text.{numberLimit};
+ghost use Rattle.common.specs.Zeros.{AllZero};
+ghost use Rattle.form.specs.Read.{Room, rangeTo, endsRange};
+ghost use Rattle.form.specs.Step.{Small};
+ghost use Rattle.grammar.specs.Limits.{productionLimit, argumentLimit};
+ghost use Rattle.tables.specs.Layout.{slots, classBits, tableWords, countsOf, ParserTables};
+ghost use Rattle.load.specs.Absent.{absentIn, absentInLine, absentNames};
+ghost use Rattle.load.specs.Check.{Checked, Loaded};
+ghost use Rattle.load.specs.Held.{goesOnAt, numberBit, BitsAdded, RangeNoted, Noted, Notable, stopAnswer, LinesRead};
+
+// What checking a flat text gives.
+pub enum FlatAnswer {
+    // How many lines there are.
+    Lines(usize),
+    // The refusal's number and its place.
+    Refused(usize, usize),
+}
+
+const CHARACTERS: usize = 256;
+
+// ---- what is complete behind one byte more
+
+// The bit of a number in a class: characters first, and behind them productions.
+fn number_bit(n: usize) -> usize
+    ensures { λ r. ⌜ r ≡ numberBit n ⌝ }
+{
+    if n < CHARACTERS {
+        return n;
+    }
+    n - (FIRST_PRODUCTION - CHARACTERS)
+}
+
+// Adds the bits from first to last to the class of slot s.
+fn add_bits(tables: &mut [u64], s: usize, first: usize, last: usize)
+    requires { ⌜ (length (now tables) ≡ tableWords) × (s ≤ slots) × (last < classBits) ⌝ }
+    ensures { λ _. ⌜ BitsAdded s first (last + 1) (now (tables .entry)) (now (tables .exit)) ⌝ }
+{
+    let mut x = first;
+    while x <= last {
+        add_member(tables, s, x);
+        x += 1;
+    }
+}
+
+// Whether a byte ends a range if it stands behind a number.
+fn ends_range(byte: u8) -> bool
+    ensures { λ r. ⌜ r ≡ endsRange byte ⌝ }
+{
+    either(byte == b'\\', byte == b']')
+}
+
+// Where the range that v ends begins.
+fn range_start(dashed: bool, low: usize, v: usize) -> usize
+    requires { ⌜ (dashed ≡ true → 1 ≤ low) ⌝ }
+    ensures { λ r. ⌜ r ≡ rangeTo dashed low v .low ⌝ }
+{
+    if dashed {
+        return low - 1;
+    }
+    v
+}
+
+// Adds the range that v ends, if the byte behind it ends it.
+fn note_range(tables: &mut [u64], s: usize, dashed: bool, low: usize, v: usize, byte: u8)
+    requires { ⌜ (length (now tables) ≡ tableWords) × (s ≤ slots) × (v < numberLimit) × (dashed ≡ true → 1 ≤ low) ⌝ }
+    ensures { λ _. ⌜ RangeNoted (endsRange byte) s (rangeTo dashed low v) (now (tables .entry)) (now (tables .exit)) ⌝ }
+{
+    if ends_range(byte) {
+        add_bits(
+            tables,
+            s,
+            number_bit(range_start(dashed, low, v)),
+            number_bit(v),
+        );
+    }
+}
+
+// Writes a range that is complete behind one byte more, or how many arguments a line has that ends.
+fn note(state: State, byte: u8, tables: &mut [u64], counts: &mut [u8])
+    requires { ⌜ Notable (state .line) (state .argument) (state .spot) ⌝ }
+    requires { ⌜ (length (now tables) ≡ tableWords) × (length (now counts) ≡ productionLimit) ⌝ }
+    ensures { λ _. ⌜ Noted (state .line) (state .argument) (state .spot) byte (now (tables .entry)) (now (counts .entry)) (now (tables .exit)) (now (counts .exit)) ⌝ }
+{
+    let line = state.line;
+    let argument = state.argument;
+    let spot = state.spot;
+    match spot {
+        Spot::Between => (),
+        Spot::Opened => (),
+        Spot::Slash(_, _) => (),
+        Spot::Number(dashed, low, v) => note_range(
+            tables,
+            line * ARGUMENT_LIMIT + argument,
+            dashed,
+            low,
+            v,
+            byte,
+        ),
+        Spot::Dash(_) => (),
+        Spot::Closed => (),
+        Spot::Ending(_) => counts[line] = argument as u8,
+        Spot::Stuck => (),
+    }
+}
+
+// ---- all bytes
+
+// Whether there is a byte at a place, and a text of the form goes on behind it.
+fn goes_on_at(text: &[u8], i: usize, state: State) -> bool
+    requires { ⌜ Small state ⌝ }
+    ensures { λ r. ⌜ r ≡ goesOnAt (now (text .entry)) i state ⌝ }
+{
+    if text.len() <= i {
+        return false;
+    }
+    let next = step(state, text[i]);
+    let spot = next.spot;
+    goes_on(spot)
+}
+
+// Where a text stops: all its lines, or 27.
+fn stop_answer(text: &[u8], i: usize, state: State) -> FlatAnswer
+    ensures { λ r. ⌜ r ≡ stopAnswer (now (text .entry)) i state ⌝ }
+{
+    if both(text.len() <= i, may_end(state)) {
+        return FlatAnswer::Lines(state.line);
+    }
+    FlatAnswer::Refused(27, i)
+}
+
+// Reads a text as far as one of the form begins so.
+fn read_lines(text: &[u8], tables: &mut [u64], counts: &mut [u8]) -> FlatAnswer
+    requires { ⌜ AllZero tableWords (now tables) × (length (now counts) ≡ productionLimit) ⌝ }
+    ensures { λ r. ⌜ LinesRead (now (text .entry)) r (now (tables .exit)) (now (counts .exit)) ⌝ }
+{
+    let mut state = start();
+    let mut i = 0;
+    while goes_on_at(text, i, state) {
+        note(state, text[i], tables, counts);
+        let next = step(state, text[i]);
+        state = next;
+        i += 1;
+    }
+    stop_answer(text, i, state)
+}
