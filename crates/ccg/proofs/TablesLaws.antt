@@ -39,11 +39,11 @@ module _ (t : List ℕ) where
   abbrev count : ℕ
   count = length (countsOf t)
 
-  table-length : length (tableGrammar t) ≡ count
+  pub table-length : length (tableGrammar t) ≡ count
   unfolding tableGrammar
   table-length = length-tabulate count (tableLine t)
 
-  table-numbered : OwnNumbers (tableGrammar t)
+  pub table-numbered : OwnNumbers (tableGrammar t)
   unfolding tableGrammar tableLine
   table-numbered = record { own = λ p l. ap (λ (x : Line). x .result) (getD-tabulate count (tableLine t) p noLine (omega (arith, table-length))) }
 

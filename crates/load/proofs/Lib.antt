@@ -3,3 +3,5 @@ pub mod BitsLaws
 pub mod NoteLaws
 pub mod HeldLaws
 pub mod ReachedLaws
+pub mod AbsentLaws
+pub mod LoadLaws

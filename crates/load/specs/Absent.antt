@@ -9,14 +9,24 @@ use Rattle.grammar.specs.Verdict.{refuseIf, firstRefusal}
 use Rattle.grammar.specs.declared.Verdict.{Verdict}
 use Rattle.theory.specs.Tree.{productionNumber}
 
--- Of `count` lines, a class names one that is not there; the place is its number, of several the lowest.
+-- Of `count` lines, a class names one that is not there: the one with number k behind them.
+unfoldable pub absentAt : (count : ℕ) → Class → ℕ → Verdict
+absentAt count cc k = refuseIf (cc (productionNumber (count + k))) 28 (productionNumber (count + k))
+
+-- The place is the number; of several in a class it is the lowest.
 unfoldable pub absentIn : (count : ℕ) → Class → Verdict
-absentIn count cc = firstRefusal (productionLimit - count) (λ k. refuseIf (cc (productionNumber (count + k))) 28 (productionNumber (count + k)))
+absentIn count cc = firstRefusal (productionLimit - count) (absentAt count cc)
 
--- the first argument of a line that does so
+-- in a line the first argument that has one
+unfoldable pub absentInArgument : (count : ℕ) → Line → ℕ → Verdict
+absentInArgument count l i = absentIn count (getD (l .arguments) i noClass)
+
 unfoldable pub absentInLine : (count : ℕ) → Line → Verdict
-absentInLine count l = firstRefusal (length (l .arguments)) (λ i. absentIn count (getD (l .arguments) i noClass))
+absentInLine count l = firstRefusal (length (l .arguments)) (absentInArgument count l)
 
--- the first line: so the place is the first such number in the order of the text
+-- and the first line: so it is the first such number in the order of the text
+unfoldable pub absentInLineAt : List Line → ℕ → Verdict
+absentInLineAt g p = absentInLine (length g) (getD g p noLine)
+
 unfoldable pub absentNames : List Line → Verdict
-absentNames g = firstRefusal (length g) (λ p. absentInLine (length g) (getD g p noLine))
+absentNames g = firstRefusal (length g) (absentInLineAt g)

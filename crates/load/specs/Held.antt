@@ -99,3 +99,7 @@ stopAnswer text i s = cond (leb (length text) i && mayEnd s) (Lines (s .line)) (
 unfoldable pub LinesRead : List ℕ → FlatAnswer → (t counts : List ℕ) → Type 0
 LinesRead text (Lines n) t counts = (m : Memory) × Held m t counts × Says text (m .lines) × (n ≡ length (m .lines))
 LinesRead text (Refused number place) t counts = (number ≡ 27) × NotInForm text place
+
+-- Counts of arguments within the limit.
+abbrev pub Few : List ℕ → Type 0
+Few counts = (p : ℕ) → getD counts p 0 ≤ argumentLimit

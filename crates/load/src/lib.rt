@@ -21,17 +21,17 @@ ghost use mathlib.Core.Path.{_≡_};
 ghost use mathlib.Core.Bool.{true};
 ghost use Prim.Native.Nat.{_+_, _≤_, _<_};
 ghost use lib.ListN.{length};
-ghost use Rattle.ccg.specs.Ccg.{noLine};
 ghost use Rattle.ccg.specs.Tables.{tableClass, tableLine, tableGrammar};
 ghost use Rattle.ccg.specs.Text.{numberLimit};
 ghost use Rattle.common.specs.Zeros.{AllZero};
-ghost use Rattle.form.specs.Read.{Room, rangeTo, endsRange};
+ghost use Rattle.form.specs.Read.{rangeTo, endsRange};
 ghost use Rattle.form.specs.Step.{Small};
-ghost use Rattle.grammar.specs.Limits.{productionLimit, argumentLimit};
+ghost use Rattle.grammar.specs.Limits.{productionLimit};
+ghost use Rattle.tables.specs.Put.{CountsPut, ClassesKept};
 ghost use Rattle.tables.specs.Layout.{slots, classBits, tableWords, countsOf, ParserTables};
 ghost use Rattle.load.specs.Absent.{absentIn, absentInLine, absentNames};
-ghost use Rattle.load.specs.Check.{Checked, Loaded};
-ghost use Rattle.load.specs.Held.{goesOnAt, numberBit, BitsAdded, RangeNoted, Noted, Notable, stopAnswer, LinesRead};
+ghost use Rattle.load.specs.Check.{linesAnswer, Checked, Loaded};
+ghost use Rattle.load.specs.Held.{goesOnAt, numberBit, BitsAdded, RangeNoted, Noted, Notable, stopAnswer, LinesRead, Few};
 
 // What checking a flat text gives.
 pub enum FlatAnswer {
@@ -167,4 +167,95 @@ fn read_lines(text: &[u8], tables: &mut [u64], counts: &mut [u8]) -> FlatAnswer
         i += 1;
     }
     stop_answer(text, i, state)
+}
+
+// ---- numbers of lines that are not there
+
+// 28 for the class of slot s, if there are so many lines.
+pub fn check_class(tables: &[u64], s: usize, count: usize) -> Verdict
+    requires { ⌜ (length (now tables) ≡ tableWords) × (s ≤ slots) × (count ≤ productionLimit) ⌝ }
+    ensures { λ r. ⌜ r ≡ absentIn count (tableClass (now (tables .entry)) s) ⌝ }
+{
+    let absent = PRODUCTION_LIMIT - count;
+    let mut k = 0;
+    while k < absent {
+        if takes_production(tables, s, count + k) {
+            return Verdict::Refused(28, FIRST_PRODUCTION + (count + k));
+        }
+        k += 1;
+    }
+    Verdict::Accepted
+}
+
+// 28 for the arguments of line p.
+fn check_line(tables: &[u64], p: usize) -> Verdict
+    requires { ⌜ ParserTables (now tables) × (p < length (countsOf (now tables))) ⌝ }
+    ensures { λ r. ⌜ r ≡ absentInLine (length (countsOf (now (tables .entry)))) (tableLine (now (tables .entry)) p) ⌝ }
+{
+    let count = production_count(tables);
+    let arguments = argument_count(tables, p);
+    let mut i = 0;
+    while i < arguments {
+        let found = check_class(tables, p * ARGUMENT_LIMIT + i, count);
+        let Verdict::Accepted = found else {
+            return found;
+        };
+        i += 1;
+    }
+    Verdict::Accepted
+}
+
+// 28 for all lines.
+fn check_names(tables: &[u64]) -> Verdict
+    requires { ⌜ ParserTables (now tables) ⌝ }
+    ensures { λ r. ⌜ r ≡ absentNames (tableGrammar (now (tables .entry))) ⌝ }
+{
+    let count = production_count(tables);
+    let mut p = 0;
+    while p < count {
+        let found = check_line(tables, p);
+        let Verdict::Accepted = found else {
+            return found;
+        };
+        p += 1;
+    }
+    Verdict::Accepted
+}
+
+// ---- the whole text
+
+// Puts the counts to the classes that were read, and answers.
+fn with_counts(tables: &mut [u64], counts: &[u8]) -> FlatAnswer
+    requires { ⌜ (length (now tables) ≡ tableWords) × (length (now counts) ≤ productionLimit) × Few (now counts) ⌝ }
+    ensures { λ r. ⌜ CountsPut (now (counts .entry)) (length (now (counts .entry))) (now (tables .exit)) ⌝ }
+    ensures { λ r. ⌜ ClassesKept (now (tables .entry)) (now (tables .exit)) ⌝ }
+    ensures { λ r. ⌜ r ≡ linesAnswer (tableGrammar (now (tables .exit))) ⌝ }
+{
+    put_counts(tables, counts);
+    let verdict = check_names(tables);
+    match verdict {
+        Verdict::Refused(number, place) => FlatAnswer::Refused(number, place),
+        Verdict::Accepted => FlatAnswer::Lines(counts.len()),
+    }
+}
+
+// Reads a flat text into tables that hold nothing: 27, and 28 for a class.
+pub fn load(text: &[u8], tables: &mut [u64]) -> FlatAnswer
+    requires { ⌜ AllZero tableWords (now tables) ⌝ }
+    ensures { λ r. ⌜ Loaded (now (text .entry)) r (now (tables .exit)) ⌝ }
+{
+    let mut counts = [0; PRODUCTION_LIMIT];
+    let read = read_lines(text, tables, &mut counts);
+    match read {
+        FlatAnswer::Refused(number, place) => FlatAnswer::Refused(number, place),
+        FlatAnswer::Lines(count) => with_counts(tables, &counts[..count]),
+    }
+}
+
+// The operation "checking a flat text": how many lines it has, or 27, or 28.
+pub fn check_flat(text: &[u8]) -> FlatAnswer
+    ensures { λ r. ⌜ Checked (now (text .entry)) r ⌝ }
+{
+    let mut tables = zero_tables();
+    load(text, &mut tables)
 }

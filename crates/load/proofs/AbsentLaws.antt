@@ -1,0 +1,53 @@
+-- Numbers of lines that are not there, in tables.
+use Prim.Native.Nat.{ℕ, _+_, _-_, _*_, _≤_, _<_}
+use mathlib.Core.Bool.{Bool, false, true}
+use mathlib.Core.List.{List}
+use mathlib.Core.Path.{_≡_, refl, sym, _∙_, ap}
+use native.Mathlib.Omega.{arith}
+use lib.ListN.{length, getD}
+use Rattle.ccg.proofs.TablesLaws.{table-of-production, table-length}
+use Rattle.ccg.specs.Ccg.{Line, noLine, noClass}
+use Rattle.ccg.specs.Tables.{tableClass, tableLine, tableGrammar}
+use Rattle.common.proofs.ListLaws.{length-tabulate, getD-tabulate}
+use Rattle.common.specs.Lists.{tabulate}
+use Rattle.grammar.specs.Limits.{productionLimit, argumentLimit}
+use Rattle.grammar.specs.declared.Verdict.{Verdict}
+use Rattle.grammar.specs.declared.Verdict.the-variants.{Accepted, Refused}
+use Rattle.load.specs.Absent.{absentAt, absentIn, absentInArgument, absentInLine, absentInLineAt, absentNames}
+use Rattle.tables.specs.Layout.{slot, countsOf, arityIn, takesProduction}
+use Rattle.theory.specs.Tree.{productionNumber}
+
+-- ---- a class
+
+module _ (t : List ℕ) (s count k : ℕ) (there : count + k < productionLimit) where
+  has-production : tableClass t s (productionNumber (count + k)) ≡ takesProduction t s (count + k)
+  has-production =
+      let e : productionNumber (count + k) - productionNumber 0 ≡ count + k = omega arith in
+      table-of-production t s (productionNumber (count + k)) (omega arith) (omega arith) ∙ ap (takesProduction t s) e
+
+  pub absent-found : takesProduction t s (count + k) ≡ true → absentAt count (tableClass t s) k ≡ Refused 28 (productionNumber (count + k))
+  unfolding absentAt
+  absent-found e = rw (has-production, e) refl
+
+  pub absent-passed : takesProduction t s (count + k) ≡ false → absentAt count (tableClass t s) k ≡ Accepted
+  unfolding absentAt
+  absent-passed e = rw (has-production, e) refl
+
+-- ---- lines
+
+-- argument i of line p is the class of its slot
+pub argument-slot : (t : List ℕ) (count p i : ℕ) → i < arityIn (countsOf t) p → absentInArgument count (tableLine t p) i ≡ absentIn count (tableClass t (p * argumentLimit + i))
+unfolding absentInArgument tableLine slot
+argument-slot t count p i l = ap (absentIn count) (getD-tabulate (arityIn (countsOf t) p) (λ j. tableClass t (slot p j)) i noClass l)
+
+-- a line has as many as the counts say
+pub line-arguments : (t : List ℕ) (p : ℕ) → length (tableLine t p .arguments) ≡ arityIn (countsOf t) p
+unfolding tableLine
+line-arguments t p = length-tabulate (arityIn (countsOf t) p) (λ j. tableClass t (slot p j))
+
+-- line p of the grammar
+pub line-at : (t : List ℕ) (p : ℕ) → p < length (countsOf t) → absentInLineAt (tableGrammar t) p ≡ absentInLine (length (countsOf t)) (tableLine t p)
+unfolding absentInLineAt tableGrammar
+line-at t p l =
+    let count = length (countsOf t) in
+    rw (length-tabulate count (tableLine t), getD-tabulate count (tableLine t) p noLine l) refl
