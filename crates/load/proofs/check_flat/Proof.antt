@@ -14,7 +14,7 @@ load-requires : tie.Need-load-requires
 load-requires c κs = search needs
 
 returns : tie.Need-returns
-returns c = loaded-checked _ _ _ (c .load .ensures)
+returns c = loaded-checked _ _ _ (c .before .load .ensures)
 
 pub check-flat-spec : {M : Type 1} → statement M
 check-flat-spec =

@@ -1,0 +1,4 @@
+-- Laws of reading by a flat text.
+pub mod RootLaws
+pub mod TreesLaws
+pub mod OutcomeLaws

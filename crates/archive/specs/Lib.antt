@@ -1,0 +1,2 @@
+-- What the contracts of reading by a flat text cite.
+pub mod Outcome
