@@ -2,3 +2,4 @@
 pub mod RootLaws
 pub mod TreesLaws
 pub mod OutcomeLaws
+pub mod RefusalLaws

@@ -6,10 +6,11 @@ use mathlib.Core.Path.{_≡_, refl, sym, _∙_, ap}
 use native.Mathlib.Omega.{arith}
 use lib.ListN.{length, getD}
 use Rattle.ccg.proofs.TablesLaws.{table-of-production, table-length}
-use Rattle.ccg.specs.Ccg.{Line, noLine, noClass}
+use Rattle.ccg.specs.Ccg.{Class, Line, noLine, noClass}
 use Rattle.ccg.specs.Tables.{tableClass, tableLine, tableGrammar}
 use Rattle.common.proofs.ListLaws.{length-tabulate, getD-tabulate}
 use Rattle.common.specs.Lists.{tabulate}
+use Rattle.grammar.proofs.VerdictLaws.{refuse-case, first-of}
 use Rattle.grammar.specs.Limits.{productionLimit, argumentLimit}
 use Rattle.grammar.specs.declared.Verdict.{Verdict}
 use Rattle.grammar.specs.declared.Verdict.the-variants.{Accepted, Refused}
@@ -51,3 +52,23 @@ unfolding absentInLineAt tableGrammar
 line-at t p l =
     let count = length (countsOf t) in
     rw (length-tabulate count (tableLine t), getD-tabulate count (tableLine t) p noLine l) refl
+
+-- ---- the number of the refusal
+
+pub class-number : (count : ℕ) (cc : Class) (n k : ℕ) → absentIn count cc ≡ Refused n k → n ≡ 28
+unfolding absentIn absentAt
+class-number count cc n k e =
+    let first = first-of (absentAt count cc) (productionLimit - count) e in
+    refuse-case (λ m j. m ≡ 28) (cc (productionNumber (count + first .index))) 28 (productionNumber (count + first .index)) (first .refused) (λ t. refl)
+
+line-number : (count : ℕ) (l : Line) (n k : ℕ) → absentInLine count l ≡ Refused n k → n ≡ 28
+unfolding absentInLine absentInArgument
+line-number count l n k e =
+    let first = first-of (absentInArgument count l) (length (l .arguments)) e in
+    class-number count (getD (l .arguments) (first .index) noClass) n k (first .refused)
+
+pub names-number : (g : List Line) (n k : ℕ) → absentNames g ≡ Refused n k → n ≡ 28
+unfolding absentNames absentInLineAt
+names-number g n k e =
+    let first = first-of (absentInLineAt g) (length g) e in
+    line-number (length g) (getD g (first .index) noLine) n k (first .refused)

@@ -1,5 +1,6 @@
 -- Laws of the calls.
 pub mod FitLaws
 pub mod ViewerLaws
+pub mod FlatLaws
 pub mod PageLaws
 pub mod SheetLaws

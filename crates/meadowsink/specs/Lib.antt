@@ -1,4 +1,5 @@
 -- What the contracts of the calls cite.
 pub mod Viewer
+pub mod Flat
 pub mod Page
 pub mod Sheet

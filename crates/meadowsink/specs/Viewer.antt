@@ -1,4 +1,4 @@
--- The calls that read a text (01, "Readings, listings and the chart"): the sheet viewer's, and that for the place of a refusal.
+-- The calls that read a text, by a grammar or by a flat text (01, "Readings, listings and the chart"; 02, [7]): the sheet viewer's, and that for the place of a refusal.
 use Prim.Native.Nat.{ℕ}
 use mathlib.Core.Path.{_≡_}
 use mathlib.Core.List.{List, _++_}
@@ -13,22 +13,26 @@ use Rattle.reply.specs.declared.Reply.{Reply}
 abbrev pub usedLimit : ℕ
 usedLimit = 65536
 
--- The answer is the one that parsing has for the first bytes of the buffer; bytes beyond them stay.
-pub record UsedOutcome (b w c₀ l₀ : List ℕ) (r : Answer) (c l : List ℕ) : Type 0 where
+-- What an operation that reads a text promises of a chart that held c₀ and a buffer that held l₀: its answer, and what they hold then.
+abbrev pub Promise : Type 1
+Promise = (c₀ l₀ : List ℕ) → Answer → (c l : List ℕ) → Type 0
+
+-- The answer is the one that it has for the first bytes of the buffer; bytes beyond them stay.
+pub record UsedOutcome (P : Promise) (c₀ l₀ : List ℕ) (r : Answer) (c l : List ℕ) : Type 0 where
   pub used : List ℕ
-  pub outcome : Outcome b w c₀ (take usedLimit l₀) r c used
+  pub outcome : P c₀ (take usedLimit l₀) r c used
   pub listing : l ≡ used ++ drop usedLimit l₀
 
 -- What a call gives that makes a number of the reply for that answer.
-pub record CallOutcome (number : Reply → ℕ) (b w c₀ l₀ : List ℕ) (r : ℕ) (c l : List ℕ) : Type 0 where
+pub record CallOutcome (number : Reply → ℕ) (P : Promise) (c₀ l₀ : List ℕ) (r : ℕ) (c l : List ℕ) : Type 0 where
   pub answer : Answer
-  pub outcome : UsedOutcome b w c₀ l₀ answer c l
+  pub outcome : UsedOutcome P c₀ l₀ answer c l
   pub isNumber : r ≡ number (readReply answer)
 
 -- the sheet viewer's call
 abbrev pub ViewerOutcome : (b w c₀ l₀ : List ℕ) (r : ℕ) (c l : List ℕ) → Type 0
-ViewerOutcome = CallOutcome numberOf
+ViewerOutcome b w = CallOutcome numberOf (Outcome b w)
 
 -- the call for the place
 abbrev pub PlaceOutcome : (b w c₀ l₀ : List ℕ) (r : ℕ) (c l : List ℕ) → Type 0
-PlaceOutcome = CallOutcome placeOf
+PlaceOutcome b w = CallOutcome placeOf (Outcome b w)

@@ -6,12 +6,14 @@ use reply::place;
 use reply::read::read_reply;
 ghost use mathlib.Core.Path.{_≡_};
 ghost use Prim.Native.Nat.{min};
+ghost use Rattle.parse.specs.Outcome.{Outcome};
 ghost use Rattle.meadowsink.specs.Viewer.{usedLimit, UsedOutcome, ViewerOutcome, PlaceOutcome};
 
 // Most bytes of the listing's buffer that a call uses.
 pub const USED_LIMIT: usize = 65536;
 
-fn used_part(n: usize) -> usize
+// How many bytes of a buffer of n a call uses.
+pub fn used_part(n: usize) -> usize
     ensures { λ r. ⌜ r ≡ min n usedLimit ⌝ }
 {
     if USED_LIMIT < n {
@@ -22,7 +24,7 @@ fn used_part(n: usize) -> usize
 
 // Parses with at most the first 65,536 bytes of the listing's buffer.
 fn parse_used(book: &[u8], text: &[u8], chart: &mut [u8], listing: &mut [u8]) -> Answer
-    ensures { λ r. ⌜ UsedOutcome (now (book .entry)) (now (text .entry)) (now (chart .entry)) (now (listing .entry)) r (now (chart .exit)) (now (listing .exit)) ⌝ }
+    ensures { λ r. ⌜ UsedOutcome (Outcome (now (book .entry)) (now (text .entry))) (now (chart .entry)) (now (listing .entry)) r (now (chart .exit)) (now (listing .exit)) ⌝ }
 {
     let most = used_part(listing.len());
     parse(book, text, chart, &mut listing[..most])

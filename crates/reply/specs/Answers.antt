@@ -7,6 +7,8 @@ use Rattle.engine.specs.declared.Answer.the-variants.{None, One, Several}
 use Rattle.grammar.specs.declared.Verdict.{Verdict}
 use Rattle.grammar.specs.declared.Verdict.the-variants.{Accepted}
 use Rattle.listing.specs.declared.ListingAnswer.{ListingAnswer}
+use Rattle.load.specs.declared.FlatAnswer.{FlatAnswer}
+use Rattle.load.specs.declared.FlatAnswer.the-variants.{Lines, Refused as NotLoaded}
 use Rattle.listing.specs.declared.ListingAnswer.the-variants.{Right, Wrong}
 use Rattle.question.specs.declared.ConflictAnswer.{ConflictAnswer}
 use Rattle.question.specs.declared.ConflictAnswer.the-variants.{Yes, No}
@@ -65,3 +67,8 @@ unfoldable pub Near : Step → (next : ℕ) → Type 0
 Near End next = Unit {0}
 Near (Line v) next = next ≤ sheetLimit
 Near (NotTaken number place) next = Unit {0}
+
+-- checking a flat text: 1 accepted, the value is how many lines it has
+unfoldable pub linesReply : FlatAnswer → Reply
+linesReply (Lines n) = answered 1 n
+linesReply (NotLoaded number place) = refused number place

@@ -1,5 +1,6 @@
 // The answer of an operation, in the form in which all calls give it. A module to each kind of answer says what it is in this form.
 pub mod check;
+pub mod check_flat;
 pub mod check_listing;
 pub mod conflict;
 pub mod read;

@@ -1,9 +1,6 @@
 -- `parse_used` meets its contract: the used part of the buffer is its first bytes.
-use Prim.Native.Nat.{ℕ}
-use mathlib.Core.Path.{ap, subst}
-use mathlib.Core.List.{List, _++_}
 use borrow.Author.Needs.{needs}
-use Rattle.meadowsink.proofs.ViewerLaws.{used-take, used-drop, used-length}
+use Rattle.meadowsink.proofs.ViewerLaws.{used-length, used-outcome}
 use Rattle.parse.specs.Outcome.{Outcome}
 use Rattle.meadowsink.proofs.read.parse_used.Statement.{statement}
 use Rattle.meadowsink.proofs.read.parse_used.Tie as tie
@@ -28,12 +25,9 @@ same-length-2 c = search needs
 
 returns : tie.Need-returns
 returns c =
-    let a = (c .before .before .before .before .before .before .before .before .before .before .before .before .args) in
-    record {
-      used = c .before .before .before .before .parse .last .1 .1 .1 .0;
-      outcome = subst (λ (l : List ℕ). Outcome (a .book .now) (a .text .now) (a .chart .now) l (c .before .before .before .before .parse .result) (c .before .before .before .before .parse .last .1 .1 .0) (c .before .before .before .before .parse .last .1 .1 .1 .0)) (used-take (a .listing .now) (c .before .before .before .before .before .before .before .used-part .result) (c .before .before .before .before .before .before .before .used-part .ensures)) (c .before .before .before .before .parse .ensures);
-      listing = ap (λ (l : List ℕ). c .before .before .before .before .parse .last .1 .1 .1 .0 ++ l) (used-drop (a .listing .now) (c .before .before .before .before .before .before .before .used-part .result) (c .before .before .before .before .before .before .before .used-part .ensures));
-    }
+    let start = c .before .before .before .before .before .before .before .before .before .before .before .before in
+    let parse = c .before .before .before .before .parse in
+    used-outcome (start .args .listing .now) _ (c .before .before .before .before .before .before .before .used-part .ensures) (Outcome (start .args .book .now) (start .args .text .now)) _ (parse .result) _ _ (parse .ensures)
 
 pub parse-used-spec : {M : Type 1} → statement M
 parse-used-spec =
