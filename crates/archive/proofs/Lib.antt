@@ -3,3 +3,4 @@ pub mod RootLaws
 pub mod TreesLaws
 pub mod OutcomeLaws
 pub mod RefusalLaws
+pub mod UniqueLaws

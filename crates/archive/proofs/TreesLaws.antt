@@ -21,10 +21,11 @@ use Rattle.common.proofs.BoolLaws.{and-both, and-first-true, and-second-true}
 use Rattle.common.proofs.ListLaws.{length-tabulate, getD-tabulate}
 use Rattle.engine.proofs.SameParsingLaws.{SameParsing}
 use Rattle.engine.specs.Roots.{ParseBy, parsingBy}
-use Rattle.grammar.proofs.VerdictLaws.{first-all, refuse-accepted}
+use Rattle.grammar.proofs.VerdictLaws.{first-all}
 use Rattle.grammar.specs.Limits.{productionLimit}
 use Rattle.grammar.specs.declared.Verdict.the-variants.{Accepted}
-use Rattle.load.specs.Absent.{absentAt, absentIn, absentInArgument, absentInLine, absentInLineAt, absentNames}
+use Rattle.load.proofs.NamesLaws.{class-names}
+use Rattle.load.specs.Absent.{absentIn, absentInArgument, absentInLine, absentInLineAt, absentNames}
 use Rattle.tables.proofs.LayoutLaws.{counts-few}
 use Rattle.tables.specs.Layout.{slot, rootSlot, countsOf, arityIn, takesChar, takesProduction, ParserTables}
 use Rattle.tables.specs.Theory.{theoryOf}
@@ -33,14 +34,6 @@ use Rattle.theory.specs.Grammar.{Grammar, Spells, Stands, Derived, DerivedAt, P
 use Rattle.theory.specs.Tree.{Tree, leaf, node, Forest, none, _▷_, productionNumber, yield, yields}
 
 -- ---- names of lines that are there
-
-pub class-names : (count : ℕ) (cc : Class) → absentIn count cc ≡ Accepted → (q : ℕ) → count ≤ q → q < productionLimit → cc (productionNumber q) ≡ false
-unfolding absentIn absentAt
-class-names count cc e q l h =
-    let k = q - count in
-    let same : count + k ≡ q = omega arith in
-    subst (λ (n : ℕ). cc (productionNumber n) ≡ false) same
-    (refuse-accepted (cc (productionNumber (count + k))) 28 (productionNumber (count + k)) (first-all (absentAt count cc) (productionLimit - count) e k (omega arith)))
 
 argument-names : (g : List Line) → absentNames g ≡ Accepted → (p i : ℕ) → p < length g → i < length (getD g p noLine .arguments) → absentIn (length g) (getD (getD g p noLine .arguments) i noClass) ≡ Accepted
 unfolding absentNames absentInLineAt absentInLine absentInArgument

@@ -256,3 +256,18 @@ module _ (b : List ℕ) (w : WellFormed b) (bytes : (k : ℕ) → getD b k 0 < c
 pub flat-trees : (b : List ℕ) → WellFormed b → ((k : ℕ) → getD b k 0 < characters) → (x : ℕ) (t : Tree)
     → (Built b x t × ConflictFree b t) ↔ Generated (flatGrammar b) (plainClass b x) t
 flat-trees b w bytes x t = ((λ h. built-generated b w bytes t x (h .0) (h .1)), (λ h. generated-built b w bytes t x h))
+
+-- The same for the lists of trees that stand at the first d arguments of a line.
+module _ (b : List ℕ) (w : WellFormed b) (bytes : (k : ℕ) → getD b k 0 < characters) (p d : ℕ) (lp : p < productions b) (ld : d ≤ argumentCount b p) (f : Forest) where
+  -- none has a conflict, neither in itself nor with the line
+  pub record FreeList : Type 0 where
+    pub built : Arguments b p f d
+    pub free : (k : ℕ) (t : Tree) → At k f t → ConflictFree b t
+    pub apart : (k q : ℕ) (h : Forest) → At k f (node q h) → Conflict b p k q → ⊥
+
+  pub flat-lists : FreeList ↔ Each (flatGrammar b) (getD (flatGrammar b) p noLine .arguments) f d
+  flat-lists = (
+    (λ h. rw (flat-arguments b p lp) (arguments-each b w bytes f p d lp ld (h .built) (h .free) (h .apart))),
+    (λ e. let (arguments, all) = each-arguments b w bytes f p d lp ld (rw (flat-arguments b p lp) at e) in
+        record { built = arguments; free = λ k t at. all k t at .0; apart = λ k q h at. flat-no-conflict b w bytes p k q (all k (node q h) at .1) }),
+  )

@@ -71,7 +71,7 @@ module _ (b : List ℕ) (w : WellFormed b) (bytes : (k : ℕ) → getD b k 0 < c
       (λ e. flat-of-sort b p i n e ∙ rw (e, no-production b n (omega arith)) refl)
       (true-or-false (isClass b (argument b p i)))
 
-  flat-of-production : (n : ℕ) → productionNumber 0 ≤ n → flatClass b p i n ≡ (ltb (n - productionNumber 0) (productions b) && mayStand b p i (n - productionNumber 0))
+  pub flat-of-production : (n : ℕ) → productionNumber 0 ≤ n → flatClass b p i n ≡ (ltb (n - productionNumber 0) (productions b) && mayStand b p i (n - productionNumber 0))
   flat-of-production n l =
       let q = n - productionNumber 0 in
       ⊎-elim

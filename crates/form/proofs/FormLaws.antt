@@ -11,7 +11,8 @@ use lib.Dec.{leb, eqb}
 use lib.ListN.{length, getD, take, drop}
 use lib.Seq.{take-all, take-suc, take-add, length-take-le}
 use borrow.Author.Tests.{leb-true, eqb-true}
-use Rattle.ccg.specs.Ccg.{Class, Line}
+use Rattle.ccg.proofs.WrittenLaws.{text-determines}
+use Rattle.ccg.specs.Ccg.{Line}
 use Rattle.ccg.specs.Text.{argumentsText, grammarText}
 use Rattle.common.proofs.BoolLaws.{and-first-true, and-second-true}
 use Rattle.common.specs.Lists.{joined}
@@ -126,3 +127,8 @@ open-form t e form = true≢false (sym (form-ends t form) ∙ e)
 -- two such places are one
 pub longest-unique : (t : List ℕ) (k n : ℕ) → LongestViable t k → LongestViable t n → k ≡ n
 longest-unique t k n a b = omega (arith, a .longest n (b .within) (b .viable), b .longest k (a .within) (a .viable))
+
+-- ---- a text says one grammar
+
+pub says-unique : (text : List ℕ) (g h : List Line) → Says text g → Says text h → g ≡ h
+says-unique text g h a b = text-determines g h (a .writable .form) (b .writable .form) (sym (a .isText) ∙ b .isText)

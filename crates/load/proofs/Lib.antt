@@ -5,3 +5,4 @@ pub mod HeldLaws
 pub mod ReachedLaws
 pub mod AbsentLaws
 pub mod LoadLaws
+pub mod NamesLaws

@@ -5,4 +5,5 @@ pub mod TurnedLaws
 pub mod PartLaws
 pub mod PassesLaws
 pub mod TwinLaws
+pub mod OwnTextLaws
 pub mod Theorems

@@ -43,7 +43,7 @@ use Rattle.charset.specs.Set.{characters, has, spans}
 use Rattle.chart.specs.Counted.{entryOf}
 use Rattle.chart.specs.Layout.{textLimit, chartBytes}
 use Rattle.common.specs.Below.{allBelow, anyBelow}
-use Rattle.common.specs.Lists.{All}
+use Rattle.common.specs.Lists.{tabulate, All}
 use Rattle.engine.specs.declared.Answer.{Answer}
 use Rattle.engine.specs.declared.Answer.the-variants.{None, One, Several, Refused as NotRead}
 use Rattle.numbers.specs.Written.{bytesOf}
@@ -51,7 +51,7 @@ use Rattle.grammar.specs.Layout.{productions, classes, declarations, startSort,
 use Rattle.grammar.specs.Check.{outside, shortHeader, badHeader, shortContents, badArgumentCounts, badRangeCounts, badLength, badProductions, isGroup, badDeclaration, badDeclarations, sameProduction, repeatedProductions}
 use Rattle.grammar.specs.Classes.{classHas, SomeRangeHas, SetOf, sameClass}
 use Rattle.grammar.specs.Equal.{OneProduction}
-use Rattle.grammar.specs.Limits.{classBase, pairKindLimit}
+use Rattle.grammar.specs.Limits.{productionLimit, classBase, pairKindLimit}
 use Rattle.grammar.specs.Turned.{TurnedRound, RangesRise, risen}
 use Rattle.grammar.specs.Verdict.{refuseIf, firstRefusal, inOrder}
 use Rattle.grammar.specs.declared.Verdict.{Verdict}
@@ -589,6 +589,12 @@ pub record PassesClass (b : List ℕ) (k c : ℕ) : Type 0 where
   pub tables : (t : List ℕ) → FlatTables b t → (p i : ℕ) → IsArgument b p i k → c < characters → (takesChar t (slot p i) c ≡ true) ↔ SomeRangeHas b k c
   pub flat : (p i : ℕ) → IsArgument b p i k → (flatClass b p i c ≡ true) ↔ SomeRangeHas b k c
   pub tree : k < classes b → Built b (classBase + k) (leaf c) ↔ SomeRangeHas b k c
+
+-- ---- Request 7. "The archive will hold flat books as text, so we need the reader for what we write. …"
+
+-- The entries for the root that are the numbers of the start sort's productions.
+abbrev pub startEntries : List ℕ → List Bool
+startEntries b = tabulate productionLimit (λ q. ltb q (productions b) && eqb (result b q) (startSort b))
 
 -- ---- The paper's marked cases: any outcome of reading each of them, whatever chart and buffer held, is the one marked.
 abbrev pub MarkedCases : Type 0
