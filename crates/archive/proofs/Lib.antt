@@ -4,3 +4,4 @@ pub mod TreesLaws
 pub mod OutcomeLaws
 pub mod RefusalLaws
 pub mod UniqueLaws
+pub mod ExactLaws

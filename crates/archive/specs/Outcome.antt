@@ -1,7 +1,7 @@
 -- The promise of the operation "reading by a flat text" (02, [7]; demand 3), for every flat text, root, text, chart and buffer.
-use Prim.Native.Nat.{ℕ, _-_}
+use Prim.Native.Nat.{ℕ, _-_, _≤_, _<_}
 use mathlib.Core.Path.{_≡_}
-use mathlib.Core.Bool.{Bool, false, _&&_}
+use mathlib.Core.Bool.{Bool, false, true, _&&_}
 use mathlib.Core.List.{List, [], _∷_}
 use mathlib.Core.Logic.{_⊎_}
 use lib.Dec.{leb}
@@ -14,9 +14,10 @@ use Rattle.engine.specs.Refusals.{tooLong, chartTooShort}
 use Rattle.engine.specs.declared.Answer.{Answer}
 use Rattle.engine.specs.declared.Answer.the-variants.{Refused}
 use Rattle.form.specs.Form.{Says}
+use Rattle.grammar.specs.Limits.{productionLimit}
 use Rattle.grammar.specs.Verdict.{inOrder}
 use Rattle.grammar.specs.declared.Verdict.{Verdict}
-use Rattle.load.specs.Absent.{absentIn, absentNames}
+use Rattle.load.specs.Absent.{absentIn, absentNames, Names}
 use Rattle.load.specs.Check.{NotInForm}
 use Rattle.theory.specs.Tree.{Tree, Forest, productionNumber, yield, yields}
 
@@ -51,3 +52,19 @@ unfoldable pub FlatOutcome : (flat : List ℕ) (roots : List Bool) (w c₀ l₀ 
 FlatOutcome flat roots w c₀ l₀ r c l =
     ((place : ℕ) × NotInForm flat place × (r ≡ Refused 27 place) × (c ≡ c₀) × (l ≡ l₀))
     ⊎ ((g : List Line) × Says flat g × UnlessRefused (flatRefusal g roots w c₀) (treesOf g roots w) c₀ l₀ r c l)
+
+-- ---- the refusals without a search
+
+-- The place of 28 for the root: the number of the lowest line that an entry allows and that is not there.
+pub record LowestRoot (g : List Line) (roots : List Bool) (place : ℕ) : Type 0 where
+  pub q : ℕ
+  pub absent : length g ≤ q
+  pub number : q < productionLimit
+  pub allowed : getD roots q false ≡ true
+  pub isPlace : place ≡ productionNumber q
+  pub lower : (q′ : ℕ) → length g ≤ q′ → q′ < q → getD roots q′ false ≡ false
+
+-- Every line that a class or an entry names is there.
+pub record AllThere (g : List Line) (roots : List Bool) : Type 0 where
+  pub classes : (p i q : ℕ) → Names g p i q → ⊥
+  pub entries : (q : ℕ) → length g ≤ q → q < productionLimit → getD roots q false ≡ false

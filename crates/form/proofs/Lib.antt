@@ -6,3 +6,4 @@ pub mod StepsLaws
 pub mod GoesLaws
 pub mod ReadLaws
 pub mod FormLaws
+pub mod CornerLaws

@@ -2,3 +2,4 @@
 pub mod Form
 pub mod Step
 pub mod Read
+pub mod Corners

@@ -6,3 +6,4 @@ pub mod ReachedLaws
 pub mod AbsentLaws
 pub mod LoadLaws
 pub mod NamesLaws
+pub mod CheckLaws

@@ -2,16 +2,28 @@
 use Prim.Native.Nat.{ℕ, _+_, _<_}
 use mathlib.Core.Path.{_≡_, refl, sym, _∙_, ap, subst, subst⁻¹, fun-ext}
 use mathlib.Core.Bool.{true}
-use mathlib.Core.Logic.{⊎-elim}
+use mathlib.Core.Logic.{⊎-elim, inl, inr}
 use mathlib.Core.List.{List}
 use native.Mathlib.Omega.{arith}
-use lib.ListN.{length, getD}
-use lib.Seq.{slice}
+use lib.ListN.{length, getD, take, drop}
+use lib.Seq.{slice, take-at}
+use Rattle.writing.specs.Answer.{bufferAfter}
+use Rattle.flatten.specs.Answer.{flatAnswer}
 use Rattle.flatten.proofs.AnswerLaws.{flat-fits, flat-too-long, flat-grammar}
 use Rattle.flatten.proofs.FlatClassLaws.{flat-any, flat-argument}
 use Rattle.flatten.proofs.FlatLaws.{flat-trees}
 use Rattle.flatten.proofs.VisserLaws.{flat-completed, flat-visser}
 use Rattle.flatten.proofs.AlikeLaws.{flat-alike, reading-alike, entry-alike}
+use Rattle.ccg.specs.Text.{grammarText}
+use Rattle.archive.proofs.ExactLaws.{refusal-named, refusal-ten, refusal-twenty, refused-exactly as flat-refused-exactly, form-exactly, flat-unchanged, flat-parsed}
+use Rattle.archive.proofs.UniqueLaws.{flat-unique}
+use Rattle.archive.specs.Outcome.{treesOf, FlatOutcome}
+use Rattle.engine.specs.Outcome.{Parsing, Parsed}
+use Rattle.form.proofs.CornerLaws.{all-corners, full-stops}
+use Rattle.form.proofs.FormLaws.{says-unique}
+use Rattle.load.proofs.CheckLaws.{loaded-says, checked-lines, checked-form, checked-absent, checked-numbers}
+use Rattle.load.proofs.NamesLaws.{names-accepted}
+use Rattle.theorems.proofs.OwnTextLaws.{own-outcome}
 use Rattle.ccg.proofs.ListingLaws.{listing-determines}
 use Rattle.ccg.proofs.NamedLaws.{grammar-names}
 use Rattle.ccg.proofs.WrittenLaws.{text-determines}
@@ -37,7 +49,7 @@ use Rattle.page.proofs.RightLaws.{RightListing}
 use Rattle.page.proofs.UniqueLaws.{one-listed, page-one, row-one, part-one}
 use Rattle.page.specs.Answer.{pageLength, PageAfter, PageOutcome}
 use Rattle.engine.specs.declared.Answer.{Answer}
-use Rattle.parse.specs.Outcome.{Outcome}
+use Rattle.parse.specs.Outcome.{Outcome, readingBy}
 use Rattle.parse.proofs.AnswerLaws.{parsed-outcome, refused-unchanged, grammar-exactly, ten-exactly, twenty-exactly, text-numbers}
 use Rattle.parse.proofs.OutcomeLaws.{outcome-unique}
 use Rattle.parse.proofs.TurnedLaws.{turned-outcome}
@@ -74,7 +86,7 @@ use Rattle.writing.proofs.DigitsLaws.{numeral-plain, numeral-only}
 use Rattle.writing.proofs.NumeralLaws.{numeral-value, numeral-leading}
 use Rattle.writing.specs.declared.WriteAnswer.{WriteAnswer}
 use Rattle.writing.specs.declared.WriteAnswer.the-variants.{Written, Refused as NotWritten}
-use Rattle.theorems.specs.Theorems.{Bytes, AcceptedExactly, RefusedExactly, ConflictExactly, FlatExactly, Refuses, OneOutcome, ListingExactly, OneIsRight, Declares, FlatIsVisser, FlatIsCompleted, FlatTrees, FlatArguments, ReadingsAreFlat, Read, TextDetermines, Archived, FlatIsWritten, ListingDetermines, OneListed, PageExactly, PageSays, Pages, Parts, SaysOfGroup, GroupsSay, Spells, GroupsAreTheirPairs, SpelledBooks, PairsAsBefore, RangesSay, TurnedRangesSame, RangesCanRise, RisingRangesAsBefore, NeverSix, LinesSay, Sheets, LinesAlone, EachStep, WalkersGoDown, EqualExactly, ReadingsPart, SeveralPart, TwinsRefused, EqualAsBefore, NumeralsSay, FlatNumerals, PageNumerals, PassesClass, MarkedCases}
+use Rattle.theorems.specs.Theorems.{Bytes, AcceptedExactly, RefusedExactly, ConflictExactly, FlatExactly, Refuses, OneOutcome, ListingExactly, OneIsRight, Declares, FlatIsVisser, FlatIsCompleted, FlatTrees, FlatArguments, ReadingsAreFlat, Read, TextDetermines, Archived, FlatIsWritten, ListingDetermines, OneListed, PageExactly, PageSays, Pages, Parts, SaysOfGroup, GroupsSay, Spells, GroupsAreTheirPairs, SpelledBooks, PairsAsBefore, RangesSay, TurnedRangesSame, RangesCanRise, RisingRangesAsBefore, NeverSix, LinesSay, Sheets, LinesAlone, EachStep, WalkersGoDown, EqualExactly, ReadingsPart, SeveralPart, TwinsRefused, EqualAsBefore, NumeralsSay, FlatNumerals, PageNumerals, PassesClass, MarkedCases, RoundTrips, ChecksFlat, RefusesFlat, ReadFlat, OneFlatOutcome, startEntries, LodgedAndRead, Corners, ReadExactly}
 
 -- ---- demand 1
 
@@ -140,11 +152,11 @@ readings-are-flat b bytes e w t =
 
 -- ---- demand 3
 
-pub read-exactly : Read
+-- what a text and a chart that are not refused give, whatever the trees
+parsed-exactly : (s : Parsing) (chart₀ l₀ : List ℕ) (r : Answer) (chart l : List ℕ) → Parsed s chart₀ l₀ r chart l → ReadExactly s chart₀ l₀ r chart l
 unfolding room
-read-exactly b w chart₀ l₀ r chart l o e short enough =
-    let parsed = parsed-outcome b w chart₀ l₀ r chart l o (record { accepted = e; short = short; enough = enough }) in
-    let P = Reading b w in
+parsed-exactly s chart₀ l₀ r chart l parsed =
+    let P = s .parse in
     let a = parsed .answer in
     let counts = parsed .chart in
     record {
@@ -158,6 +170,10 @@ read-exactly b w chart₀ l₀ r chart l o e short enough =
       front = long-buffer P l₀ r l a;
       chartCounts = (counts .entries, counts .long, counts .whole, λ p d i j lp ld ij jw. counts .counted .counts p d i j lp ld ij jw refl);
     }
+
+pub read-exactly : Read
+read-exactly b w chart₀ l₀ r chart l o e short enough =
+    parsed-exactly (readingBy b w) chart₀ l₀ r chart l (parsed-outcome b w chart₀ l₀ r chart l o (record { accepted = e; short = short; enough = enough }))
 
 -- ---- the archive
 
@@ -428,6 +444,60 @@ passes-class b k c =
       flat = λ p i is. test-passes b k c (flatClass b p i c) (flat-passes b k c p i is);
       tree = tree-passes b k c;
     }
+
+-- ---- request 7
+
+pub round-trips : RoundTrips
+round-trips =
+    record {
+      one = says-unique;
+      written = λ text g says. sym (says .isText);
+      read = λ g h writable says. says-unique (grammarText g) h g says (record { writable = writable; isText = refl });
+      tables = λ text r t loaded g says. loaded-says text r t loaded g says;
+    }
+
+pub checks-flat : ChecksFlat
+checks-flat text r h =
+    record {
+      lines = checked-lines text r h;
+      notInForm = λ k. let e = checked-form text r h k in ((λ is. let n = e .0 is in (n .outside, n .longest)), (λ (out, longest). e .1 (record { outside = out; longest = longest })));
+      absent = checked-absent text r h;
+      noOther = checked-numbers text r h;
+    }
+
+pub refuses-flat : RefusesFlat
+refuses-flat flat roots w chart₀ l₀ r chart l o =
+    record {
+      notInForm = λ k. let e = form-exactly flat roots w chart₀ l₀ r chart l o k in ((λ is. let n = e .0 is in (n .outside, n .longest)), (λ (out, longest). e .1 (record { outside = out; longest = longest })));
+      absent = λ g says k. let answer = flat-refused-exactly flat roots w chart₀ l₀ r chart l o g says 28 k (λ e. omega arith) in
+          let line = refusal-named g roots w chart₀ k in (
+            (λ e. ⊎-elim (λ f. inl f) (λ (a, f). inr (names-accepted g .0 a, f)) (line .0 (answer .0 e))),
+            (λ h. answer .1 (line .1 (⊎-elim (λ f. inl f) (λ (a, f). inr (names-accepted g .1 a, f)) h))),
+          );
+      ten = λ g says k. let answer = flat-refused-exactly flat roots w chart₀ l₀ r chart l o g says 10 k (λ e. omega arith) in
+          let line = refusal-ten g roots w chart₀ k in ((λ e. line .0 (answer .0 e)), (λ h. answer .1 (line .1 h)));
+      twenty = λ g says k. let answer = flat-refused-exactly flat roots w chart₀ l₀ r chart l o g says 20 k (λ e. omega arith) in
+          let line = refusal-twenty g roots w chart₀ k in ((λ e. line .0 (answer .0 e)), (λ h. answer .1 (line .1 h)));
+      unchanged = flat-unchanged flat roots w chart₀ l₀ r chart l o;
+    }
+
+pub read-flat : ReadFlat
+read-flat flat roots w chart₀ l₀ r chart l o g says there short enough =
+    parsed-exactly (treesOf g roots w) chart₀ l₀ r chart l (flat-parsed flat roots w chart₀ l₀ r chart l o g says there short enough)
+
+pub one-flat-outcome : OneFlatOutcome
+one-flat-outcome = flat-unique
+
+pub lodged-and-read : LodgedAndRead
+lodged-and-read b bytes out₀ n e w chart₀ l₀ r r′ chart chart′ l l′ o f =
+    let (accepted, long, fits) = flat-fits b (length out₀) n .0 e in
+    let text = grammarText (flatGrammar b) in
+    let lodged : take n (bufferAfter (flatAnswer b (length out₀)) text out₀) ≡ text = rw (e) (take-at text (drop (length text) out₀) n (sym long)) in
+    let own = own-outcome b bytes accepted w chart₀ l₀ r′ chart′ l′ (subst (λ (x : List ℕ). FlatOutcome x (startEntries b) w chart₀ l₀ r′ chart′ l′) lodged f) in
+    one-outcome b w chart₀ l₀ r r′ chart chart′ l l′ o own
+
+pub corners-computed : Corners
+corners-computed = record { table = all-corners; full = full-stops }
 
 -- ---- the marked cases
 

@@ -11,6 +11,8 @@
 --     page::text_under             hands back some part of the text with  TextUnder b w l index part
 --     sheet::read_sheet            answers some r and leaves some chart and summary with  SheetOutcome b s chart₀ summary₀ r chart summary
 --     sheet::next_line             gives some r and leaves its walker at some next, and some chart, with  StepOutcome b s start chart₀ r next chart
+--     archive::parse_flat          answers some r and leaves some chart and l with  FlatOutcome flat roots w chart₀ l₀ r chart l
+--     load::check_flat             answers some r with  Checked flat r
 -- A call that is proved ends.
 --
 -- Words. A tree (theory/specs/Tree) is a character or a production (rule) with a list of trees; `yield` is what it spells and `listing` its numbers, a
@@ -43,7 +45,16 @@ use Rattle.charset.specs.Set.{characters, has, spans}
 use Rattle.chart.specs.Counted.{entryOf}
 use Rattle.chart.specs.Layout.{textLimit, chartBytes}
 use Rattle.common.specs.Below.{allBelow, anyBelow}
+use Rattle.archive.specs.Outcome.{lineArity, treesOf, FlatOutcome, LowestRoot, AllThere}
+use Rattle.ccg.specs.Tables.{tableGrammar}
 use Rattle.common.specs.Lists.{tabulate, All}
+use Rattle.engine.specs.Outcome.{Parsing}
+use Rattle.form.specs.Corners.{corner, StopsThere, corners}
+use Rattle.form.specs.Form.{Writable, Says, InForm, LongestViable}
+use Rattle.load.specs.Absent.{Names, FirstNamed}
+use Rattle.load.specs.Check.{Checked, Loaded}
+use Rattle.load.specs.declared.FlatAnswer.{FlatAnswer}
+use Rattle.load.specs.declared.FlatAnswer.the-variants.{Lines, Refused as NotLoaded}
 use Rattle.engine.specs.declared.Answer.{Answer}
 use Rattle.engine.specs.declared.Answer.the-variants.{None, One, Several, Refused as NotRead}
 use Rattle.numbers.specs.Written.{bytesOf}
@@ -62,7 +73,7 @@ use Rattle.listing.specs.declared.ListingAnswer.the-variants.{Right, Wrong, Ref
 use Rattle.marked.specs.Cases.{Promised, table}
 use Rattle.page.specs.Answer.{Listed, pageAnswer, PageOutcome, RowUnder, TextUnder}
 use Rattle.lines.specs.Read.{ReadBack}
-use Rattle.parse.specs.Outcome.{needed, Outcome}
+use Rattle.parse.specs.Outcome.{needed, readingBy, Outcome}
 use Rattle.flatten.specs.Reading.{ReadingIn, EntryListIn, Reading, EntryList}
 use Rattle.priority.specs.Check.{circlesIn, circles, checked}
 use Rattle.priority.specs.Conflict.{ConflictIn, Conflict}
@@ -187,24 +198,26 @@ ReadingsAreFlat =
 -- single reading and its listing fits. The length that comes back is then that listing's, and the buffer starts with that listing, whole. Refusal for length comes
 -- exactly when there is a single reading and its listing doesn't fit, and no other answer comes."
 
-pub record ReadExactly (b w chart₀ l₀ : List ℕ) (r : Answer) (chart l : List ℕ) : Type 0 where
-  pub none : (r ≡ None) ↔ ((t : Tree) → Reading b w t → ⊥)
-  pub several : (r ≡ Several) ↔ Two (Reading b w)
-  pub one : (n : ℕ) → (r ≡ One n) ↔ ((t : Tree) × Only (Reading b w) t × (n ≡ length (listing t)) × (2 * n ≤ length l₀))
-  pub tooLong : (k : ℕ) → (r ≡ NotRead 22 k) ↔ ((t : Tree) × Only (Reading b w) t × (length l₀ < 2 * length (listing t)) × (k ≡ length l₀ / 2))
+-- A `Parsing` (engine/specs/Outcome) says which trees are the readings of a text of `size` characters, and which lists of trees each entry of the chart counts, for `count`
+-- productions with so many arguments each: for a grammar `readingBy b w`, with `Reading b w` and `EntryList b w`; for a flat text `treesOf` (request 7).
+pub record ReadExactly (s : Parsing) (chart₀ l₀ : List ℕ) (r : Answer) (chart l : List ℕ) : Type 0 where
+  pub none : (r ≡ None) ↔ ((t : Tree) → s .parse t → ⊥)
+  pub several : (r ≡ Several) ↔ Two (s .parse)
+  pub one : (n : ℕ) → (r ≡ One n) ↔ ((t : Tree) × Only (s .parse) t × (n ≡ length (listing t)) × (2 * n ≤ length l₀))
+  pub tooLong : (k : ℕ) → (r ≡ NotRead 22 k) ↔ ((t : Tree) × Only (s .parse) t × (length l₀ < 2 * length (listing t)) × (k ≡ length l₀ / 2))
   pub noOther : (n k : ℕ) → r ≡ NotRead n k → n ≡ 22
-  pub unwritten : ((t : Tree) → Reading b w t → ⊥) ⊎ Two (Reading b w) → l ≡ l₀
-  pub whole : (t : Tree) → Only (Reading b w) t → 2 * length (listing t) ≤ length l₀ → l ≡ bytesOf (listing t) ++ drop (length (bytesOf (listing t))) l₀
-  pub front : (t : Tree) → Only (Reading b w) t → length l₀ < 2 * length (listing t)
+  pub unwritten : ((t : Tree) → s .parse t → ⊥) ⊎ Two (s .parse) → l ≡ l₀
+  pub whole : (t : Tree) → Only (s .parse) t → 2 * length (listing t) ≤ length l₀ → l ≡ bytesOf (listing t) ++ drop (length (bytesOf (listing t))) l₀
+  pub front : (t : Tree) → Only (s .parse) t → length l₀ < 2 * length (listing t)
       → let numbers = take (length l₀ / 2) (listing t) in l ≡ bytesOf numbers ++ drop (length (bytesOf numbers)) l₀
   -- the chart starts with a count for each production p, count d of its arguments, start i and end j; what lies beyond stays
-  pub chartCounts : (entries : List ℕ) × (length entries ≡ chartBytes (argumentCount b) (productions b) (length w)) × (chart ≡ entries ++ drop (length entries) chart₀)
-      × ((p d i j : ℕ) → p < productions b → d ≤ argumentCount b p → i ≤ j → j ≤ length w → Counts (EntryList b w p d i j) (entryOf (argumentCount b) (length w) entries p d i j))
+  pub chartCounts : (entries : List ℕ) × (length entries ≡ chartBytes (s .arity) (s .count) (s .size)) × (chart ≡ entries ++ drop (length entries) chart₀)
+      × ((p d i j : ℕ) → p < s .count → d ≤ s .arity p → i ≤ j → j ≤ s .size → Counts (s .entry p d i j) (entryOf (s .arity) (s .size) entries p d i j))
 
 abbrev pub Read : Type 0
 Read =
     (b w chart₀ l₀ : List ℕ) (r : Answer) (chart l : List ℕ) → Outcome b w chart₀ l₀ r chart l
-    → checked b ≡ Accepted → length w ≤ textLimit → needed b (length w) ≤ length chart₀ → ReadExactly b w chart₀ l₀ r chart l
+    → checked b ≡ Accepted → length w ≤ textLimit → needed b (length w) ≤ length chart₀ → ReadExactly (readingBy b w) chart₀ l₀ r chart l
 
 -- ---- "I need it over trees and not over a search, because what comes next is lodging flat books without our software, and a later reader must find what we found."
 
@@ -590,11 +603,74 @@ pub record PassesClass (b : List ℕ) (k c : ℕ) : Type 0 where
   pub flat : (p i : ℕ) → IsArgument b p i k → (flatClass b p i c ≡ true) ↔ SomeRangeHas b k c
   pub tree : k < classes b → Built b (classBase + k) (leaf c) ↔ SomeRangeHas b k c
 
--- ---- Request 7. "The archive will hold flat books as text, so we need the reader for what we write. …"
+-- ---- Request 7. "The archive will hold flat books as text, so we need the reader for what we write. It takes a flat book in exactly the written form, 64 yes-or-no entries
+-- for the lines allowed at the root, and a text, and answers as the reading does: its readings are the trees of its lines with an allowed line at the root, and demand 3 holds
+-- of them, with 27 and 28 in place of 1 to 9." A flat text of no line is 27, as no text in the form has none.
 
--- The entries for the root that are the numbers of the start sort's productions.
+-- `Says text g` (form/specs/Form): the text is that of g, which has 1 to 64 lines, at most 8 arguments in each, its own number at each line's end, and in each class only
+-- characters or only numbers that a line could have. `InForm`: it says some grammar; `Viable`: some text in the form begins so. A text says one grammar, and
+-- "reading and writing a flat text gives its bytes back", either way about.
+pub record RoundTrips : Type 0 where
+  pub one : (text : List ℕ) (g h : List Line) → Says text g → Says text h → g ≡ h
+  pub written : (text : List ℕ) (g : List Line) → Says text g → grammarText g ≡ text
+  pub read : (g h : List Line) → Writable g → Says (grammarText g) h → h ≡ g
+  -- the tables that `load::load` fills from a text in the form are those of the grammar that it says, so `ccg::put_grammar` writes its bytes from them
+  pub tables : (text : List ℕ) (r : FlatAnswer) (t : List ℕ) → Loaded text r t → (g : List Line) → Says text g → tableGrammar t ≡ g
+
+-- "27 not the written form, in which a class may name any rule number a line could have, place the first byte at which no such text goes on so, or the length": the longest
+-- beginning that some text in the form has too. "28 a class … naming an absent line, place that number, the first such in the flat book." Each exactly so, and else the lines
+-- are counted.
+pub record CheckedExactly (text : List ℕ) (r : FlatAnswer) : Type 0 where
+  pub lines : (n : ℕ) → (r ≡ Lines n) ↔ ((g : List Line) × Says text g × ((p i q : ℕ) → Names g p i q → ⊥) × (n ≡ length g))
+  pub notInForm : (k : ℕ) → (r ≡ NotLoaded 27 k) ↔ ((InForm text → ⊥) × LongestViable text k)
+  pub absent : (k : ℕ) → (r ≡ NotLoaded 28 k) ↔ ((g : List Line) × Says text g × FirstNamed g k)
+  pub noOther : (n k : ℕ) → r ≡ NotLoaded n k → (n ≡ 27) ⊎ (n ≡ 28)
+
+abbrev pub ChecksFlat : Type 0
+ChecksFlat = (text : List ℕ) (r : FlatAnswer) → Checked text r → CheckedExactly text r
+
+-- So are the refusals of reading, in order; "or the root …, else the lowest at the root". By none of them is anything changed.
+pub record FlatRefused (flat : List ℕ) (roots : List Bool) (w chart₀ l₀ : List ℕ) (r : Answer) (chart l : List ℕ) : Type 0 where
+  pub notInForm : (k : ℕ) → (r ≡ NotRead 27 k) ↔ ((InForm flat → ⊥) × LongestViable flat k)
+  pub absent : (g : List Line) → Says flat g → (k : ℕ) → (r ≡ NotRead 28 k) ↔ (FirstNamed g k ⊎ (((p i q : ℕ) → Names g p i q → ⊥) × LowestRoot g roots k))
+  pub ten : (g : List Line) → Says flat g → (k : ℕ) → (r ≡ NotRead 10 k) ↔ (AllThere g roots × (textLimit < length w) × (k ≡ length w))
+  pub twenty : (g : List Line) → Says flat g → (k : ℕ)
+      → (r ≡ NotRead 20 k) ↔ (AllThere g roots × (length w ≤ textLimit) × (k ≡ chartBytes (lineArity g) (length g) (length w)) × (length chart₀ < k))
+  pub unchanged : (n k : ℕ) → (n ≡ 22 → ⊥) → r ≡ NotRead n k → (chart ≡ chart₀) × (l ≡ l₀)
+
+abbrev pub RefusesFlat : Type 0
+RefusesFlat = (flat : List ℕ) (roots : List Bool) (w chart₀ l₀ : List ℕ) (r : Answer) (chart l : List ℕ) → FlatOutcome flat roots w chart₀ l₀ r chart l → FlatRefused flat roots w chart₀ l₀ r chart l
+
+-- Otherwise demand 3 holds of the trees of its lines (`Generated`, Definition 3.4) with an allowed line at the root (`treesOf`, archive/specs/Outcome).
+abbrev pub ReadFlat : Type 0
+ReadFlat =
+    (flat : List ℕ) (roots : List Bool) (w chart₀ l₀ : List ℕ) (r : Answer) (chart l : List ℕ) → FlatOutcome flat roots w chart₀ l₀ r chart l
+    → (g : List Line) → Says flat g → AllThere g roots → length w ≤ textLimit → chartBytes (lineArity g) (length g) (length w) ≤ length chart₀
+    → ReadExactly (treesOf g roots w) chart₀ l₀ r chart l
+
+-- What was lent determines the answer and every byte afterwards.
+abbrev pub OneFlatOutcome : Type 0
+OneFlatOutcome =
+    (flat : List ℕ) (roots : List Bool) (w chart₀ l₀ : List ℕ) (r r′ : Answer) (chart chart′ l l′ : List ℕ)
+    → FlatOutcome flat roots w chart₀ l₀ r chart l → FlatOutcome flat roots w chart₀ l₀ r′ chart′ l′ → (r ≡ r′) × (chart ≡ chart′) × (l ≡ l′)
+
+-- The entries for the root that are the numbers of the start sort's rules.
 abbrev pub startEntries : List ℕ → List Bool
 startEntries b = tabulate productionLimit (λ q. ltb q (productions b) && eqb (result b q) (startSort b))
+
+-- "For a book's own written flat book, and the numbers of its start sort's rules, answers, listing and chart equal those of the book": from the book over the text that was
+-- lodged to the reading, nothing else is kept. The text is what `flatten::write_flat` left in a buffer that held out₀; for every text w of bytes, chart and listing buffer.
+abbrev pub LodgedAndRead : Type 0
+LodgedAndRead =
+    (b : List ℕ) → Bytes b → (out₀ : List ℕ) (n : ℕ) → flatAnswer b (length out₀) ≡ Written n
+    → let lodged = take n (bufferAfter (flatAnswer b (length out₀)) (grammarText (flatGrammar b)) out₀) in
+    (w chart₀ l₀ : List ℕ) (r r′ : Answer) (chart chart′ l l′ : List ℕ)
+    → Outcome b w chart₀ l₀ r chart l → FlatOutcome lodged (startEntries b) w chart₀ l₀ r′ chart′ l′ → (r ≡ r′) × (chart ≡ chart′) × (l ≡ l′)
+
+-- The places of 27 that are easily taken for others, each computed (form/specs/Corners); and a text of 64 lines stops at the first byte behind them.
+pub record Corners : Type 0 where
+  pub table : All StopsThere corners
+  pub full : (g : List Line) → Writable g → length g ≡ productionLimit → (byte : ℕ) (rest : List ℕ) → StopsThere (corner (grammarText g ++ (byte ∷ rest)) (length (grammarText g)))
 
 -- ---- The paper's marked cases: any outcome of reading each of them, whatever chart and buffer held, is the one marked.
 abbrev pub MarkedCases : Type 0
