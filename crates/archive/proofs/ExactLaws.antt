@@ -20,7 +20,7 @@ use Rattle.engine.specs.declared.Answer.{Answer}
 use Rattle.engine.specs.declared.Answer.the-variants.{Refused}
 use Rattle.form.proofs.FormLaws.{longest-unique, says-unique}
 use Rattle.form.specs.Form.{Says}
-use Rattle.grammar.proofs.VerdictLaws.{refused-not-accepted, refuse-case, refuse-accepted, first-of, FirstIn, here, there, order-first, same-number}
+use Rattle.grammar.proofs.VerdictLaws.{refuse-case, refuse-accepted, first-of, FirstIn, here, there, order-first}
 use Rattle.grammar.specs.Limits.{productionLimit}
 use Rattle.grammar.specs.declared.Verdict.{Verdict}
 use Rattle.grammar.specs.declared.Verdict.the-variants.{Accepted, Refused as Rejected}
@@ -51,7 +51,9 @@ module _ (g : List Line) (roots : List Bool) where
       let (set, is) : (rootClass roots (productionNumber q) ≡ true) × (k ≡ productionNumber q) =
       refuse-case (λ m j. (rootClass roots (productionNumber q) ≡ true) × (j ≡ productionNumber q)) (rootClass roots (productionNumber q)) 28 (productionNumber q) (f .refused) (λ t. (t, refl)) in
       record {
-        q = q; absent = omega arith; number = omega arith;
+        q = q;
+        absent = omega arith;
+        number = omega arith;
         allowed = sym (root-number roots q) ∙ set;
         isPlace = is;
         lower = λ q′ l h. let j = q′ - length g in

@@ -1,9 +1,9 @@
 -- What the tables promise, carried to the grammar that a flat text says.
 use Prim.Native.Nat.{ℕ, _+_, _-_, _<_}
-use mathlib.Core.Bool.{Bool, false, true}
-use mathlib.Core.List.{List, [], _∷_}
+use mathlib.Core.Bool.{Bool, false}
+use mathlib.Core.List.{List}
 use mathlib.Core.Logic.{inl, inr, ⊎-elim}
-use mathlib.Core.Path.{_≡_, refl, sym, _∙_, ap, subst, subst⁻¹}
+use mathlib.Core.Path.{_≡_, refl, sym, _∙_, ap, subst}
 use native.Mathlib.Omega.{arith}
 use lib.ListN.{length, getD}
 use Rattle.archive.proofs.RootLaws.{root-tables, root-grammar}
@@ -16,21 +16,20 @@ use Rattle.charset.specs.Set.{characters}
 use Rattle.chart.specs.Layout.{chartNeed, chartBytes}
 use Rattle.engine.proofs.SameParsingLaws.{chart-bytes-same, unless-same}
 use Rattle.engine.specs.Outcome.{UnlessRefused}
-use Rattle.engine.specs.Refusals.{tooLong, chartTooShort, textRefusal}
+use Rattle.engine.specs.Refusals.{textRefusal}
 use Rattle.engine.specs.Roots.{parsingBy, TablesOutcome}
 use Rattle.engine.specs.declared.Answer.{Answer}
 use Rattle.engine.specs.declared.Answer.the-variants.{Refused}
 use Rattle.form.specs.Form.{Says}
 use Rattle.grammar.proofs.VerdictLaws.{first-same}
 use Rattle.grammar.specs.Limits.{productionLimit}
-use Rattle.grammar.specs.Verdict.{refuseIf, andThen, firstRefusal, inOrder, unlessRefused}
+use Rattle.grammar.specs.Verdict.{refuseIf, unlessRefused}
 use Rattle.grammar.specs.declared.Verdict.{Verdict}
 use Rattle.grammar.specs.declared.Verdict.the-variants.{Accepted, Refused as Rejected}
 use Rattle.load.specs.Absent.{absentAt, absentIn, absentNames}
 use Rattle.load.specs.Check.{linesAnswer, Loaded}
 use Rattle.load.specs.declared.FlatAnswer.{FlatAnswer}
 use Rattle.load.specs.declared.FlatAnswer.the-variants.{Lines, Refused as NotLoaded}
-use Rattle.tables.proofs.LayoutLaws.{counts-few}
 use Rattle.tables.specs.Layout.{rootSlot, countsOf, arityIn, takesProduction, ParserTables}
 use Rattle.tables.specs.Put.{ClassPut}
 use Rattle.theory.specs.Tree.{productionNumber}

@@ -1,5 +1,5 @@
 -- Tables that get another root hold the same grammar.
-use Prim.Native.Nat.{ℕ, _+_, _-_, _*_, _/_, _%_, _≤_, _<_}
+use Prim.Native.Nat.{ℕ, _+_, _-_, _/_, _%_, _≤_, _<_}
 use mathlib.Core.Bool.{Bool}
 use mathlib.Core.List.{List}
 use mathlib.Core.Logic.{by-cases}
@@ -9,12 +9,11 @@ use native.Mathlib.Omega.{arith}
 use lib.ListN.{length, getD}
 use lib.Seq.{ext-getD}
 use Rattle.ccg.proofs.TablesLaws.{table-of-character, table-between, table-of-production, table-above}
-use Rattle.ccg.specs.Ccg.{Class}
 use Rattle.ccg.specs.Tables.{tableClass, tableLine, tableGrammar}
 use Rattle.ccg.specs.Text.{numberLimit}
 use Rattle.charset.specs.Set.{characters, bit, setWords, wordBits}
 use Rattle.common.proofs.ListLaws.{tabulate-same}
-use Rattle.grammar.specs.Limits.{productionLimit, argumentLimit}
+use Rattle.grammar.specs.Limits.{productionLimit}
 use Rattle.tables.proofs.LayoutLaws.{counts-long, counts-few, count-at, slot-in}
 use Rattle.tables.specs.Layout.{slot, slots, rootSlot, rowsAt, slotAt, tableWords, countOf, countsOf, arityIn, takesChar, takesProduction, ParserTables}
 use Rattle.tables.specs.Put.{ClassPut}
@@ -81,8 +80,11 @@ module _ (t₀ t : List ℕ) (chars subs : ℕ → Bool) (put : ClassPut rootSlo
   line-same : (p : ℕ) → p < length (countsOf t₀) → tableLine t p ≡ tableLine t₀ p
   unfolding tableLine
   line-same p l =
-      rw (counts-same, tabulate-same (arityIn (countsOf t₀) p) (λ i. tableClass t (slot p i)) (λ i. tableClass t₀ (slot p i))
-      (λ i m. class-same (slot p i) (slot-in p i (omega (arith, counts-few t₀ h)) (omega (arith, h .fewArguments p))))) refl
+      rw (
+        counts-same,
+        tabulate-same (arityIn (countsOf t₀) p) (λ i. tableClass t (slot p i)) (λ i. tableClass t₀ (slot p i))
+            (λ i m. class-same (slot p i) (slot-in p i (omega (arith, counts-few t₀ h)) (omega (arith, h .fewArguments p)))),
+      ) refl
 
   pub root-grammar : tableGrammar t ≡ tableGrammar t₀
   unfolding tableGrammar

@@ -1,6 +1,6 @@
 -- The trees that tables derive are those of the grammar that they hold, if no class names a line that isn't there.
-use Prim.Native.Nat.{ℕ, zero, suc, _+_, _-_, _≤_, _<_}
-use mathlib.Core.Bool.{Bool, false, true, _&&_, true≢false}
+use Prim.Native.Nat.{ℕ, zero, suc, _-_, _≤_, _<_}
+use mathlib.Core.Bool.{Bool, false, true, true≢false}
 use mathlib.Core.List.{List}
 use mathlib.Core.Logic.{_↔_, by-cases}
 use mathlib.Core.Path.{_≡_, refl, sym, _∙_, ap, subst, subst⁻¹}
@@ -17,7 +17,7 @@ use Rattle.ccg.specs.Ccg.{Class, Line, noLine, noClass, isTerminal, Generated, 
 use Rattle.ccg.specs.Tables.{tableClass, tableLine, tableGrammar}
 use Rattle.ccg.specs.Text.{numberLimit}
 use Rattle.charset.specs.Set.{characters}
-use Rattle.common.proofs.BoolLaws.{and-both, and-first-true, and-second-true}
+use Rattle.common.proofs.BoolLaws.{and-first-true, and-second-true}
 use Rattle.common.proofs.ListLaws.{length-tabulate, getD-tabulate}
 use Rattle.engine.proofs.SameParsingLaws.{SameParsing}
 use Rattle.engine.specs.Roots.{ParseBy, parsingBy}
@@ -177,13 +177,15 @@ module _ (t : List ℕ) (h : ParserTables t) where
         unfolding Parse Generated yield lineArity
         parse-generated p f (lp, root, derived, e) =
             let arity = arityIn (countsOf t) p in
-            let spells = derived-spells th w p f arity 0 (length w) derived (omega arith) (le-refl (length w)) (e ∙ sym (take-length w)) in
-            ((
-              omega (arith, table-length t),
-              table-numbered t .own p (omega (arith, table-length t)),
-              root-number roots p ∙ sym (rooted p (omega (arith, counts-few t h))) ∙ root,
-              subst⁻¹ (λ (n : ℕ). Each g (getD g p noLine .arguments) f n) (arity-of p lp) (spells-each f p arity 0 (length w) lp (le-refl arity) spells),
-            ), e)
+            let spells = derived-spells th w p f arity 0 (length w) derived (omega arith) (le-refl (length w)) (e ∙ sym (take-length w)) in (
+              (
+                omega (arith, table-length t),
+                table-numbered t .own p (omega (arith, table-length t)),
+                root-number roots p ∙ sym (rooted p (omega (arith, counts-few t h))) ∙ root,
+                subst⁻¹ (λ (n : ℕ). Each g (getD g p noLine .arguments) f n) (arity-of p lp) (spells-each f p arity 0 (length w) lp (le-refl arity) spells),
+              ),
+              e,
+            )
 
         generated-parse : (p : ℕ) (f : Forest) → Generated g (rootClass roots) (node p f) × (yield (node p f) ≡ w) → ParseBy t w (node p f)
         unfolding Parse Generated yield lineArity
@@ -198,7 +200,7 @@ module _ (t : List ℕ) (h : ParserTables t) where
 
         table-parses : (u : Tree) → ParseBy t w u ↔ (Generated g (rootClass roots) u × (yield u ≡ w))
         unfolding Parse
-        table-parses (leaf c) = ((λ none. absurd none), (λ (some, e). absurd (leaf-none c some)))
+        table-parses (leaf c) = ((λ never. absurd never), (λ (some, e). absurd (leaf-none c some)))
         table-parses (node p f) = (parse-generated p f, generated-parse p f)
 
         -- So what the tables promise is promised of the grammar.

@@ -3,7 +3,7 @@ use Prim.Native.Nat.{ℕ}
 use mathlib.Core.Bool.{Bool}
 use mathlib.Core.List.{List}
 use mathlib.Core.Logic.{_⊎_, inl, inr}
-use mathlib.Core.Path.{_≡_, refl, sym, _∙_, ap, subst⁻¹}
+use mathlib.Core.Path.{_≡_, sym, _∙_, ap, subst⁻¹}
 use Rattle.archive.specs.Outcome.{treesOf, flatRefusal, FlatOutcome}
 use Rattle.ccg.specs.Ccg.{Line}
 use Rattle.engine.proofs.OutcomeLaws.{unless-unique}

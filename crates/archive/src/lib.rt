@@ -13,8 +13,6 @@ use tables::production_count;
 use tables::put_class;
 use tables::zero_tables;
 ghost use mathlib.Core.Path.{_≡_};
-ghost use mathlib.Core.List.{[], _∷_};
-ghost use lib.ListN.{length};
 ghost use Rattle.ccg.specs.Tables.{tableGrammar};
 ghost use Rattle.engine.specs.Outcome.{UnlessRefused};
 ghost use Rattle.grammar.specs.declared.Verdict.the-variants.{Accepted};

@@ -1,11 +1,11 @@
 -- The end of a line, byte by byte.
 use Prim.Native.Nat.{ℕ, _+_, _/_, _%_, _<_}
-use mathlib.Core.List.{List, [], _∷_, _++_, append-assoc}
-use mathlib.Core.Path.{_≡_, refl, _∙_, ap}
+use mathlib.Core.List.{[], _∷_}
+use mathlib.Core.Path.{_≡_, refl, ap}
 use native.Mathlib.Omega.{arith}
 use lib.ListN.{length, getD}
 use Rattle.ccg.proofs.TextLaws.{one-text}
-use Rattle.ccg.specs.Text.{dash, greater, bracketOpen, backslash, bracketClose, classText, resultText}
+use Rattle.ccg.specs.Text.{dash, greater, bracketOpen, backslash, bracketClose, resultText}
 use Rattle.form.specs.Step.{endingLength, endingByte}
 use Rattle.grammar.specs.Limits.{productionLimit}
 use Rattle.theory.specs.Tree.{productionNumber}

@@ -1,15 +1,15 @@
 -- The machine stops exactly where no text of the written form goes on, and may end exactly behind such a text.
 use Prim.Native.Nat.{ℕ, suc, _+_, _-_, _≤_, _<_}
-use mathlib.Core.Bool.{false, true, _&&_, true≢false, false≢true}
+use mathlib.Core.Bool.{false, true, true≢false, false≢true}
 use mathlib.Core.List.{List, [], _∷_, _++_, append-nil}
-use mathlib.Core.Logic.{_↔_, by-cases}
+use mathlib.Core.Logic.{by-cases}
 use mathlib.Core.Path.{_≡_, refl, sym, _∙_, ap, subst}
 use native.Mathlib.Decide.{decLt}
 use native.Mathlib.Nat.{le-refl}
 use native.Mathlib.Omega.{arith}
 use lib.Dec.{leb, eqb}
-use lib.ListN.{length, getD, take, drop}
-use lib.Seq.{take-all, take-suc, take-add, length-take-le}
+use lib.ListN.{length, take, drop}
+use lib.Seq.{take-all, take-add}
 use borrow.Author.Tests.{leb-true, eqb-true}
 use Rattle.ccg.proofs.WrittenLaws.{text-determines}
 use Rattle.ccg.specs.Ccg.{Line}
@@ -19,9 +19,9 @@ use Rattle.common.specs.Lists.{joined}
 use Rattle.form.proofs.GoesLaws.{on-before, finish}
 use Rattle.form.proofs.ReadLaws.{told-steps}
 use Rattle.form.proofs.StepsLaws.{steps-append, writable-ends, lines-end}
-use Rattle.form.specs.Form.{Writable, Says, InForm, Viable, LongestViable}
-use Rattle.form.specs.Read.{Memory, completeText, openText, Expected, Told}
-use Rattle.form.specs.Step.{state, start, step, steps, goesOn, mayEnd, mayEndAt}
+use Rattle.form.specs.Form.{Says, InForm, Viable, LongestViable}
+use Rattle.form.specs.Read.{Memory, completeText, openText, Told}
+use Rattle.form.specs.Step.{start, steps, goesOn, mayEnd, mayEndAt}
 use Rattle.form.specs.declared.Spot.{Spot}
 use Rattle.form.specs.declared.Spot.the-variants.{Between, Opened, Slash, Number, Dash, Closed, Ending, Stuck}
 use Rattle.form.specs.declared.State.{State}

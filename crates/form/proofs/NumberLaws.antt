@@ -1,6 +1,6 @@
 -- Which numbers may come next, and which numerals begin so.
-use Prim.Native.Nat.{ℕ, _+_, _*_, _/_, _%_, max, _≤_, _<_}
-use mathlib.Core.Bool.{Bool, false, true, _&&_, _||_}
+use Prim.Native.Nat.{ℕ, _+_, _*_, _/_, max, _≤_, _<_}
+use mathlib.Core.Bool.{Bool, true, _&&_, _||_}
 use mathlib.Core.Logic.{_⊎_, inl, inr, ⊎-elim, by-cases}
 use mathlib.Core.Path.{_≡_, refl, sym, _∙_}
 use native.Mathlib.Decide.{decLt}
@@ -8,7 +8,6 @@ use native.Mathlib.Omega.{arith}
 use lib.Dec.{leb, eqb}
 use borrow.Author.Tests.{leb-true, eqb-true, le-leb, lt-ltb, le-ltb, eq-eqb}
 use Rattle.ccg.specs.Text.{numberLimit}
-use Rattle.charset.specs.Set.{characters}
 use Rattle.common.proofs.BoolLaws.{and-both, and-first-true, and-second-true, or-cases, or-first, or-second}
 use Rattle.common.proofs.BelowLaws.{between-in, between-ends}
 use Rattle.common.specs.Below.{between}

@@ -1,5 +1,5 @@
 -- Ranges that rise are the normal ranges of a class of one kind, and back.
-use Prim.Native.Nat.{ℕ, suc, _+_, _-_, _≤_, _<_}
+use Prim.Native.Nat.{ℕ, _+_, _-_, _≤_, _<_}
 use mathlib.Core.Bool.{Bool, false, true, true≢false, false≢true}
 use mathlib.Core.List.{List, [], _∷_, _++_}
 use mathlib.Core.Logic.{inl, inr, ⊎-elim, by-cases}
@@ -12,10 +12,10 @@ use Rattle.ccg.specs.Text.{numberLimit}
 use Rattle.ccg.specs.Written.{OneKind}
 use Rattle.charset.proofs.RunLaws.{runs-normal, runs-outside, runs-covered, normal-unique}
 use Rattle.charset.specs.Runs.{Range, range, runs, Apart, covered, Normal}
-use Rattle.charset.specs.Set.{characters, inRange}
+use Rattle.charset.specs.Set.{inRange}
 use Rattle.common.proofs.BelowLaws.{between-in, between-ends}
 use Rattle.common.proofs.BoolLaws.{or-cases, or-first, or-second, true-or-false}
-use Rattle.form.proofs.NumberLaws.{last-low, last-high, last-below, last-same, last-next, allowed-cases, allowed-kind, allowed-line, allowed-above, allowed-own, allowed-same}
+use Rattle.form.proofs.NumberLaws.{last-low, last-high, last-below, last-same, last-next, allowed-kind, allowed-line, allowed-above, allowed-own, allowed-same}
 use Rattle.form.specs.Read.{rangeTo, Rising, Awaits}
 use Rattle.form.specs.Step.{lastCharacter, lastNumber, lastFrom, allowed}
 use Rattle.theory.specs.Tree.{productionNumber}

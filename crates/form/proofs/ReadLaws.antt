@@ -1,20 +1,19 @@
 -- One byte more: what was read, and the state, say the bytes so far again.
-use Prim.Native.Nat.{ℕ, zero, suc, _+_, _-_, _*_, _/_, _%_, _≤_, _<_}
+use Prim.Native.Nat.{ℕ, suc, _+_, _-_, _*_, _/_, _%_, _≤_, _<_}
 use mathlib.Core.Bool.{Bool, false, true, cond, true≢false, false≢true}
 use mathlib.Core.List.{List, [], _∷_, _++_, append-assoc, append-nil}
-use mathlib.Core.Logic.{_⊎_, inl, inr, ⊎-elim, by-cases}
+use mathlib.Core.Logic.{inl, inr, by-cases}
 use mathlib.Core.Path.{_≡_, refl, sym, _∙_, ap, subst, subst⁻¹}
-use native.Mathlib.Decide.{decLt, ℕ-discrete}
-use native.Mathlib.Nat.{zero-add}
+use native.Mathlib.Decide.{decLt}
 use native.Mathlib.Omega.{arith}
 use lib.Dec.{leb, eqb}
 use lib.ListN.{length, getD, take, length-append, List·getD-append}
 use lib.Seq.{take-suc, take-all, getD-at}
 use borrow.Author.Tests.{eq-eqb, ne-eqb, eqb-true, leb-false}
-use Rattle.ccg.specs.Ccg.{Class, Line, noLine, noClass, OwnNumbers}
-use Rattle.ccg.specs.Text.{dash, bracketOpen, backslash, bracketClose, rangeText, numberLimit, classText, argumentsText, resultText, lineText, grammarText}
-use Rattle.ccg.specs.Written.{OneKind, WrittenForm}
-use Rattle.charset.specs.Runs.{Range, range, runs, covered}
+use Rattle.ccg.specs.Ccg.{Class, Line, noLine, noClass}
+use Rattle.ccg.specs.Text.{dash, bracketOpen, backslash, bracketClose, rangeText, classText, argumentsText, resultText, lineText, grammarText}
+use Rattle.ccg.specs.Written.{OneKind}
+use Rattle.charset.specs.Runs.{Range, covered}
 use Rattle.common.proofs.BoolLaws.{or-first, or-second, true-or-false}
 use Rattle.common.proofs.ListLaws.{joined-append, joined-one}
 use Rattle.common.specs.Lists.{joined}
@@ -22,7 +21,7 @@ use Rattle.form.proofs.EndingLaws.{ending-long}
 use Rattle.form.proofs.GoesLaws.{on-if, on-unless, digit-value, on-before}
 use Rattle.form.proofs.NumberLaws.{allowed-above, begun-small}
 use Rattle.form.proofs.RangesLaws.{rising-to, rising-kind, rising-runs}
-use Rattle.form.specs.Read.{Memory, memory, nothing, rangeTo, withRange, withArgument, withLine, endsRange, remember, rangesText, dashedText, openText, completeText, Rising, Awaits, Room, Expected, GoodLines, Told}
+use Rattle.form.specs.Read.{Memory, memory, nothing, rangeTo, withRange, withArgument, withLine, endsRange, remember, rangesText, dashedText, openText, completeText, Rising, Awaits, Expected, GoodLines, Told}
 use Rattle.form.specs.Step.{allowed, state, endingLength, endingByte, behindNumber, inNumber, behindOpen, behindSlash, behindDash, inLine, behindClass, inEnding, stepAt, step, start, steps, goesOn, SmallSpot, Small}
 use Rattle.form.specs.declared.Spot.{Spot}
 use Rattle.form.specs.declared.Spot.the-variants.{Between, Opened, Slash, Number, Dash, Closed, Ending, Stuck}
@@ -159,7 +158,12 @@ module _ (r a : ℕ) (m : Memory) (u : List ℕ) (b : ℕ) where
       → Told (state r a t) (memory (m .lines) (m .arguments) rs) behind
   told-in s t rs h x e =
       record {
-        line = h .line; argument = h .argument; fewLines = h .fewLines; fewArguments = h .fewArguments; goodLines = h .goodLines; goodArguments = h .goodArguments;
+        line = h .line;
+        argument = h .argument;
+        fewLines = h .fewLines;
+        fewArguments = h .fewArguments;
+        goodLines = h .goodLines;
+        goodArguments = h .goodArguments;
         expected = x;
         text = ap (λ (w : List ℕ). w ++ (b ∷ [])) (h .text) ∙ part-more (completeText m) (openText r s (m .ranges)) b ∙ ap (λ (w : List ℕ). completeText m ++ w) e;
       }
@@ -366,7 +370,10 @@ pub told-nothing : Told start nothing []
 unfolding Expected openText argumentsText grammarText joined
 told-nothing =
     record {
-      line = refl; argument = refl; fewLines = omega arith; fewArguments = omega arith;
+      line = refl;
+      argument = refl;
+      fewLines = omega arith;
+      fewArguments = omega arith;
       goodLines = record { fewArguments = λ p l. absurd (omega arith); form = record { numbered = record { own = λ p l. absurd (omega arith) }; classes = λ p i l. absurd (omega arith) } };
       goodArguments = λ i l. absurd (omega arith);
       expected = (refl, inr refl);

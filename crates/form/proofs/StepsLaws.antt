@@ -3,18 +3,17 @@ use Prim.Native.Nat.{ℕ, zero, suc, _+_, _-_, _*_, _/_, _%_, _≤_, _<_}
 use mathlib.Core.Bool.{Bool, false, true}
 use mathlib.Core.List.{List, [], _∷_, _++_, append-assoc}
 use mathlib.Core.Logic.{by-cases}
-use mathlib.Core.Path.{_≡_, refl, sym, _∙_, ap}
+use mathlib.Core.Path.{_≡_, refl, _∙_, ap}
 use native.Mathlib.Decide.{decLt, ℕ-discrete}
 use native.Mathlib.Nat.{le-refl, add-zero, zero-add}
 use native.Mathlib.Omega.{arith}
-use lib.Dec.{leb, eqb}
 use lib.ListN.{length, getD, drop, drop-of-length-le}
 use lib.Seq.{drop-cons}
 use borrow.Author.Tests.{le-leb, lt-leb, eq-eqb, ne-eqb}
 use Rattle.ccg.specs.Ccg.{Class, Line, noLine, noClass}
 use Rattle.ccg.specs.Text.{dash, bracketOpen, backslash, bracketClose, rangeText, numberLimit, classText, argumentsText, resultText, lineText, grammarText}
 use Rattle.ccg.specs.Written.{OneKind}
-use Rattle.charset.specs.Runs.{Range, range, runs}
+use Rattle.charset.specs.Runs.{Range, runs}
 use Rattle.common.proofs.BelowLaws.{between-in}
 use Rattle.common.specs.Lists.{joined}
 use Rattle.form.proofs.EndingLaws.{ending-long}
@@ -24,7 +23,7 @@ use Rattle.form.specs.Form.{Writable}
 use Rattle.form.specs.Read.{rangesText, Rising}
 use Rattle.form.specs.Step.{lastFrom, allowed, state, endingLength, endingByte, behindNumber, inNumber, behindOpen, behindSlash, behindDash, inLine, behindClass, inEnding, stepAt, step, start, steps, mayEnd, mayEndAt}
 use Rattle.form.specs.declared.Spot.{Spot}
-use Rattle.form.specs.declared.Spot.the-variants.{Between, Opened, Slash, Number, Dash, Closed, Ending, Stuck}
+use Rattle.form.specs.declared.Spot.the-variants.{Between, Opened, Slash, Number, Dash, Closed, Ending}
 use Rattle.form.specs.declared.State.{State}
 use Rattle.grammar.specs.Limits.{productionLimit, argumentLimit}
 use Rattle.theory.specs.Tree.{productionNumber}
@@ -79,8 +78,12 @@ module _ (r a : ℕ) where
       (steps-none (state r a (Number dashed low n))))
       (λ m. let e : n / 10 * 10 + n % 10 ≡ n = omega arith in
       let last = next-digit dashed low (n / 10) (n % 10) (omega arith) (omega arith) in
-      rw (numeral-more n (omega arith), steps-append (state r a (Slash dashed low)) (numeral (n / 10)) ((digitZero + n % 10) ∷ []), steps-digits dashed low fuel (n / 10) (omega arith),
-      steps-more r a (Number dashed low (n / 10)) (digitZero + n % 10) [] (state r a (Number dashed low n)) (last ∙ rw e refl))
+      rw (
+        numeral-more n (omega arith),
+        steps-append (state r a (Slash dashed low)) (numeral (n / 10)) ((digitZero + n % 10) ∷ []),
+        steps-digits dashed low fuel (n / 10) (omega arith),
+        steps-more r a (Number dashed low (n / 10)) (digitZero + n % 10) [] (state r a (Number dashed low n)) (last ∙ rw e refl),
+      )
       (steps-none (state r a (Number dashed low n))))
 
   pub steps-numeral : (dashed : Bool) (low n : ℕ) → steps (state r a (Slash dashed low)) (numeral n) ≡ state r a (Number dashed low n)
@@ -128,10 +131,14 @@ module _ (r a : ℕ) where
       let may : allowed (l + 1) h ≡ true = allowed-kind (l + 1) h (omega arith) (omega (arith, last-next l 1 (omega arith) (allowed-own low l e))) in
       let high = dash ∷ backslash ∷ numeral h in (
         Number true (l + 1) h,
-        rw (steps-more r a s backslash (numeral l ++ high) (state r a (Slash false low)) (ready .0), steps-append (state r a (Slash false low)) (numeral l) high,
-        steps-numeral false low l, steps-more r a (Number false low l) dash (backslash ∷ numeral h) (state r a (Dash (l + 1))) (number-dash low l e),
-        steps-more r a (Dash (l + 1)) backslash (numeral h) (state r a (Slash true (l + 1))) (dash-slash (l + 1)))
-        (steps-numeral true (l + 1) h),
+        rw (
+          steps-more r a s backslash (numeral l ++ high) (state r a (Slash false low)) (ready .0),
+          steps-append (state r a (Slash false low)) (numeral l) high,
+          steps-numeral false low l,
+          steps-more r a (Number false low l) dash (backslash ∷ numeral h) (state r a (Dash (l + 1))) (number-dash low l e),
+          steps-more r a (Dash (l + 1)) backslash (numeral h) (state r a (Slash true (l + 1))) (dash-slash (l + 1)),
+        )
+            (steps-numeral true (l + 1) h),
         number-ready true (l + 1) h may,
       )
 
@@ -172,8 +179,12 @@ module _ (r a : ℕ) where
       let rs = runs cc 0 numberLimit in
       let (next, rises) = kind-rising cc kind in
       let (t, to, ready) = steps-ranges Opened 0 rs next opened-ready rises in
-      rw (append-assoc (rangesText rs) (bracketClose ∷ []) (space ∷ []), steps-more r a Between bracketOpen (rangesText rs ++ bracketClose ∷ space ∷ []) (state r a Opened) (line-opens h k),
-      steps-append (state r a Opened) (rangesText rs) (bracketClose ∷ space ∷ []), to)
+      rw (
+        append-assoc (rangesText rs) (bracketClose ∷ []) (space ∷ []),
+        steps-more r a Between bracketOpen (rangesText rs ++ bracketClose ∷ space ∷ []) (state r a Opened) (line-opens h k),
+        steps-append (state r a Opened) (rangesText rs) (bracketClose ∷ space ∷ []),
+        to,
+      )
       (steps-close t (ready .1))
 
   -- ---- the end of a line
@@ -235,8 +246,11 @@ record GoodLine (r : ℕ) (l : Line) : Type 0 where
 steps-line : (r : ℕ) (l : Line) → r < productionLimit → GoodLine r l → steps (state r 0 Between) (lineText l) ≡ state (r + 1) 0 Between
 unfolding lineText
 steps-line r l h good =
-    rw (good .result, steps-append (state r 0 Between) (argumentsText (l .arguments)) (resultText (productionNumber r)),
-    steps-arguments r 0 (l .arguments) h (omega (arith, good .few)) (good .kinds))
+    rw (
+      good .result,
+      steps-append (state r 0 Between) (argumentsText (l .arguments)) (resultText (productionNumber r)),
+      steps-arguments r 0 (l .arguments) h (omega (arith, good .few)) (good .kinds),
+    )
     (steps-result r (0 + length (l .arguments)) h)
 
 steps-lines : (r : ℕ) (g : List Line) → r + length g ≤ productionLimit → ((p : ℕ) → p < length g → GoodLine (r + p) (getD g p noLine))

@@ -1,18 +1,16 @@
 -- Numbers of lines that are not there, in tables.
-use Prim.Native.Nat.{ℕ, _+_, _-_, _*_, _≤_, _<_}
-use mathlib.Core.Bool.{Bool, false, true}
+use Prim.Native.Nat.{ℕ, _+_, _-_, _*_, _<_}
+use mathlib.Core.Bool.{false, true}
 use mathlib.Core.List.{List}
-use mathlib.Core.Path.{_≡_, refl, sym, _∙_, ap}
+use mathlib.Core.Path.{_≡_, refl, _∙_, ap}
 use native.Mathlib.Omega.{arith}
 use lib.ListN.{length, getD}
-use Rattle.ccg.proofs.TablesLaws.{table-of-production, table-length}
+use Rattle.ccg.proofs.TablesLaws.{table-of-production}
 use Rattle.ccg.specs.Ccg.{Class, Line, noLine, noClass}
 use Rattle.ccg.specs.Tables.{tableClass, tableLine, tableGrammar}
 use Rattle.common.proofs.ListLaws.{length-tabulate, getD-tabulate}
-use Rattle.common.specs.Lists.{tabulate}
 use Rattle.grammar.proofs.VerdictLaws.{refuse-case, first-of}
 use Rattle.grammar.specs.Limits.{productionLimit, argumentLimit}
-use Rattle.grammar.specs.declared.Verdict.{Verdict}
 use Rattle.grammar.specs.declared.Verdict.the-variants.{Accepted, Refused}
 use Rattle.load.specs.Absent.{absentAt, absentIn, absentInArgument, absentInLine, absentInLineAt, absentNames}
 use Rattle.tables.specs.Layout.{slot, countsOf, arityIn, takesProduction}

@@ -1,26 +1,23 @@
 -- One byte more: the tables hold what is complete then.
-use Prim.Native.Nat.{ℕ, suc, _+_, _-_, _≤_, _<_}
-use mathlib.Core.Bool.{Bool, false, true, cond, true≢false}
+use Prim.Native.Nat.{ℕ, _+_, _≤_, _<_}
+use mathlib.Core.Bool.{Bool, false, true, true≢false}
 use mathlib.Core.List.{List, [], _∷_, _++_}
-use mathlib.Core.Logic.{_⊎_, inl, inr, ⊎-elim, by-cases}
-use mathlib.Core.Path.{_≡_, refl, sym, _∙_, ap, subst, subst⁻¹}
+use mathlib.Core.Logic.{inl, inr, ⊎-elim, by-cases}
+use mathlib.Core.Path.{_≡_, refl, sym, _∙_}
 use native.Mathlib.Decide.{decLt}
 use native.Mathlib.Omega.{arith}
 use lib.Dec.{eqb}
 use lib.ListN.{length, getD, set, length-set, length-append}
 use lib.Seq.{getD-set-same, getD-set-other}
 use Rattle.ccg.specs.Ccg.{Class, Line, noLine, noClass}
-use Rattle.ccg.specs.Tables.{tableClass}
-use Rattle.ccg.specs.Text.{numberLimit}
 use Rattle.charset.specs.Runs.{Range, covered}
-use Rattle.charset.specs.Set.{characters}
 use Rattle.common.proofs.BoolLaws.{true-or-false}
 use Rattle.common.specs.Zeros.{AllZero}
 use Rattle.form.proofs.NumberLaws.{last-low}
 use Rattle.form.proofs.RangesLaws.{range-to-kind}
 use Rattle.form.proofs.ReadLaws.{each-more, range-ends, small-told}
-use Rattle.form.specs.Read.{Memory, memory, nothing, rangeTo, withRange, withArgument, withLine, endsRange, remember, Awaits, Room, Expected, Told}
-use Rattle.form.specs.Step.{lastFrom, allowed, endingLength, inNumber, state, stepAt, step, goesOn, SmallSpot}
+use Rattle.form.specs.Read.{Memory, nothing, rangeTo, withRange, withArgument, withLine, endsRange, remember, Awaits, Room, Expected, Told}
+use Rattle.form.specs.Step.{allowed, endingLength, inNumber, state, stepAt, step, goesOn, SmallSpot}
 use Rattle.form.specs.declared.Spot.{Spot}
 use Rattle.form.specs.declared.Spot.the-variants.{Between, Opened, Slash, Number, Dash, Closed, Ending, Stuck}
 use Rattle.form.specs.declared.State.{State}

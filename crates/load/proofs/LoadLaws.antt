@@ -1,33 +1,32 @@
 -- What the tables hold at the end is the grammar that the text says.
-use Prim.Native.Nat.{ℕ, _+_, _-_, _/_, _%_, _≤_, _<_}
-use mathlib.Core.Bool.{Bool, false, true, cond, _&&_}
+use Prim.Native.Nat.{ℕ, _+_, _-_, _/_, _≤_, _<_}
+use mathlib.Core.Bool.{false}
 use mathlib.Core.List.{List}
-use mathlib.Core.Logic.{_⊎_, inl, inr, ⊎-elim, by-cases}
+use mathlib.Core.Logic.{inl, inr, ⊎-elim, by-cases}
 use mathlib.Core.Path.{_≡_, refl, sym, _∙_, ap, fun-ext, subst, subst⁻¹}
 use native.Mathlib.Decide.{decLt}
 use native.Mathlib.Omega.{arith}
-use lib.Dec.{leb, ltb}
 use lib.ListN.{length, getD, take, List·getD-eq-default}
 use lib.Seq.{length-take-le, getD-take}
-use Rattle.ccg.proofs.TablesLaws.{table-above, table-length}
+use Rattle.ccg.proofs.TablesLaws.{table-above}
 use Rattle.ccg.specs.Ccg.{Class, Line, noLine, noClass}
 use Rattle.ccg.specs.Tables.{tableClass, tableLine, tableGrammar}
 use Rattle.ccg.specs.Text.{numberLimit}
 use Rattle.ccg.specs.Written.{OneKind}
-use Rattle.charset.specs.Set.{characters, setWords, wordBits}
+use Rattle.charset.specs.Set.{setWords, wordBits}
 use Rattle.common.proofs.BoolLaws.{true-or-false}
 use Rattle.common.proofs.ListLaws.{tabulate-members}
 use Rattle.form.specs.Form.{Writable, Says}
 use Rattle.form.specs.Read.{Memory}
-use Rattle.grammar.specs.Limits.{productionLimit, argumentLimit}
+use Rattle.grammar.specs.Limits.{productionLimit}
 use Rattle.grammar.specs.declared.Verdict.the-variants.{Accepted, Refused as Rejected}
 use Rattle.load.specs.Absent.{absentNames}
 use Rattle.load.specs.Check.{linesAnswer, Loaded, Checked}
-use Rattle.load.specs.Held.{Has, Held, LinesRead, Few}
+use Rattle.load.specs.Held.{Held, LinesRead, Few}
 use Rattle.load.specs.declared.FlatAnswer.{FlatAnswer}
 use Rattle.load.specs.declared.FlatAnswer.the-variants.{Lines, Refused}
 use Rattle.tables.proofs.PutLaws.{put-counts, put-tables}
-use Rattle.tables.specs.Layout.{slot, classesAt, slotAt, countsOf, arityIn, takesChar, takesProduction, ParserTables}
+use Rattle.tables.specs.Layout.{slot, slotAt, countsOf, arityIn, takesChar, takesProduction, ParserTables}
 use Rattle.tables.specs.Put.{CountsPut, ClassesKept}
 use Rattle.theory.specs.Tree.{productionNumber}
 

@@ -1,6 +1,6 @@
 -- Refusal 28 comes exactly for the first name of a line that isn't there.
 use Prim.Native.Nat.{ℕ, _+_, _-_, _≤_, _<_}
-use mathlib.Core.Bool.{Bool, false, true, true≢false}
+use mathlib.Core.Bool.{false, true, true≢false}
 use mathlib.Core.List.{List}
 use mathlib.Core.Logic.{_↔_, by-cases}
 use mathlib.Core.Path.{_≡_, refl, sym, _∙_, ap, subst}
@@ -8,7 +8,7 @@ use native.Mathlib.Decide.{decLt}
 use native.Mathlib.Omega.{arith}
 use lib.ListN.{length, getD}
 use Rattle.ccg.specs.Ccg.{Class, Line, noLine, noClass}
-use Rattle.grammar.proofs.VerdictLaws.{refused-not-accepted, refuse-case, refuse-accepted, FirstOf, first-of, first-all, first-pass, same-place}
+use Rattle.grammar.proofs.VerdictLaws.{refuse-case, refuse-accepted, FirstOf, first-of, first-all, first-pass}
 use Rattle.grammar.specs.Limits.{productionLimit}
 use Rattle.grammar.specs.declared.Verdict.{Verdict}
 use Rattle.grammar.specs.declared.Verdict.the-variants.{Accepted, Refused}
@@ -57,7 +57,9 @@ module _ (g : List Line) where
         refuse-case (λ m j. (classAt p i (productionNumber q) ≡ true) × (j ≡ productionNumber q)) (classAt p i (productionNumber q)) 28 (productionNumber q) (f .refused) (λ t. (t, refl)) in
         let below = f .below in
         record {
-          p = p; i = i; q = q;
+          p = p;
+          i = i;
+          q = q;
           names = record { line = lp; argument = li; absent = omega arith; number = omega arith; named = set };
           isPlace = is;
           earlier = λ p′ i′ q′ l. line-none p′ (earlier p′ l) i′ q′;

@@ -1,17 +1,16 @@
 -- What is written behind one byte more keeps the tables at what was read.
 use Prim.Native.Nat.{ℕ, _+_, _-_, _/_, _%_, _≤_, _<_}
-use mathlib.Core.Bool.{Bool, false, true, cond, _&&_, _||_, or-false, or-assoc, and-false}
+use mathlib.Core.Bool.{Bool, false, true, _&&_, _||_, or-false, or-assoc, and-false}
 use mathlib.Core.List.{List, [], _∷_, _++_}
 use mathlib.Core.Logic.{_⊎_, inl, inr, ⊎-elim, by-cases}
-use mathlib.Core.Path.{_≡_, refl, sym, _∙_, ap, subst, subst⁻¹}
-use native.Mathlib.Decide.{decLt, ℕ-discrete}
+use mathlib.Core.Path.{_≡_, refl, sym, _∙_, subst}
+use native.Mathlib.Decide.{decLt}
 use native.Mathlib.Omega.{arith}
-use lib.Dec.{leb, ltb, eqb}
-use lib.ListN.{length, getD, set, length-set, length-append}
-use lib.Seq.{getD-set-same, getD-set-other}
+use lib.Dec.{leb, ltb}
+use lib.ListN.{getD}
 use borrow.Author.Tests.{lt-ltb, le-ltb, lt-leb, le-leb, leb-true, ltb-true, eq-eqb, ne-eqb}
 use Rattle.ccg.proofs.TablesLaws.{table-of-character, table-between, table-of-production}
-use Rattle.ccg.specs.Ccg.{Class, Line, noLine, noClass}
+use Rattle.ccg.specs.Ccg.{Class, noClass}
 use Rattle.ccg.specs.Tables.{tableClass}
 use Rattle.ccg.specs.Text.{numberLimit}
 use Rattle.charset.proofs.BitLaws.{bit-zero}

@@ -1,30 +1,28 @@
 -- A text byte by byte: where it is, and where it stops.
 use Prim.Native.Nat.{ℕ, suc, _+_, _≤_, _<_}
-use mathlib.Core.Bool.{Bool, false, true, cond, _&&_, true≢false}
-use mathlib.Core.List.{List, [], _∷_, _++_}
-use mathlib.Core.Logic.{inl, inr, by-cases}
-use mathlib.Core.Path.{_≡_, refl, sym, _∙_, ap, subst, subst⁻¹}
-use native.Mathlib.Decide.{decLt}
-use native.Mathlib.Nat.{le-refl}
+use mathlib.Core.Bool.{false, true, true≢false}
+use mathlib.Core.List.{List}
+use mathlib.Core.Logic.{inl, inr}
+use mathlib.Core.Path.{_≡_, refl, sym, _∙_, ap, subst⁻¹}
 use native.Mathlib.Omega.{arith}
 use lib.Dec.{leb}
 use lib.ListN.{length, getD, take}
 use lib.Seq.{take-suc, take-all}
-use borrow.Author.Tests.{leb-true, leb-false, le-leb, lt-leb}
-use Rattle.common.proofs.BoolLaws.{and-first-true, and-second-true, true-or-false}
+use borrow.Author.Tests.{leb-true, leb-false, lt-leb}
+use Rattle.common.proofs.BoolLaws.{true-or-false}
 use Rattle.common.specs.Zeros.{AllZero}
 use Rattle.form.proofs.FormLaws.{end-says, longest-at, longest-all, off-form, open-form}
 use Rattle.form.proofs.ReadLaws.{told-step, told-nothing}
-use Rattle.form.proofs.StepsLaws.{steps-append, steps-last}
+use Rattle.form.proofs.StepsLaws.{steps-last}
 use Rattle.form.specs.Form.{LongestViable}
-use Rattle.form.specs.Read.{Memory, nothing, remember, Told}
+use Rattle.form.specs.Read.{nothing, remember}
 use Rattle.form.specs.Step.{start, step, steps, goesOn, mayEnd}
 use Rattle.form.specs.declared.State.{State}
 use Rattle.grammar.specs.Limits.{productionLimit}
 use Rattle.load.proofs.HeldLaws.{held-step, held-nothing}
 use Rattle.load.specs.Check.{NotInForm}
-use Rattle.load.specs.Held.{goesOnAt, Noted, Held, Reached, stopAnswer, LinesRead}
-use Rattle.load.specs.declared.FlatAnswer.the-variants.{Lines, Refused}
+use Rattle.load.specs.Held.{goesOnAt, Noted, Reached, stopAnswer, LinesRead}
+use Rattle.load.specs.declared.FlatAnswer.the-variants.{Lines}
 use Rattle.tables.specs.Layout.{tableWords}
 
 -- ---- the test

@@ -6,7 +6,7 @@ use mathlib.Core.List.{List}
 use mathlib.Core.Logic.{_⊎_}
 use lib.Dec.{leb, ltb, eqb}
 use lib.ListN.{length, getD, set, take}
-use Rattle.ccg.specs.Ccg.{Line, noLine, noClass}
+use Rattle.ccg.specs.Ccg.{noLine, noClass}
 use Rattle.ccg.specs.Tables.{tableClass}
 use Rattle.ccg.specs.Text.{numberLimit}
 use Rattle.charset.specs.Runs.{Range, covered}

@@ -1,9 +1,9 @@
 -- Laws of the calls for a flat text: the replies fit, the entries for the root, and that the promise determines the outcome.
 use Prim.Native.Nat.{ℕ, _+_, _≤_, _<_}
-use mathlib.Core.Bool.{Bool, false, true, not}
-use mathlib.Core.List.{List, [], _∷_}
+use mathlib.Core.Bool.{Bool, false, not}
+use mathlib.Core.List.{List}
 use mathlib.Core.Logic.{⊎-elim}
-use mathlib.Core.Path.{_≡_, refl, sym, _∙_, ap, subst⁻¹}
+use mathlib.Core.Path.{_≡_, refl, sym, _∙_, subst⁻¹}
 use native.Mathlib.Decide.{ℕ-discrete}
 use native.Mathlib.Omega.{arith}
 use lib.Dec.{eqb}
@@ -15,7 +15,6 @@ use Rattle.ccg.specs.Ccg.{Line}
 use Rattle.common.proofs.ListLaws.{length-tabulate, getD-tabulate}
 use Rattle.common.specs.Lists.{tabulate}
 use Rattle.engine.specs.declared.Answer.{Answer}
-use Rattle.engine.specs.declared.Answer.the-variants.{Refused}
 use Rattle.grammar.specs.Limits.{productionLimit}
 use Rattle.grammar.specs.Verdict.{unlessRefused}
 use Rattle.grammar.specs.declared.Verdict.{Verdict}

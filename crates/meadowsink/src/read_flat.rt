@@ -48,13 +48,7 @@ fn parse_used(
     ensures { λ r. ⌜ UsedOutcome (FlatOutcome (now (flat .entry)) (rootEntries (now (roots .entry))) (now (text .entry))) (now (chart .entry)) (now (listing .entry)) r (now (chart .exit)) (now (listing .exit)) ⌝ }
 {
     let most = used_part(listing.len());
-    parse_flat(
-        flat,
-        root_entries(roots),
-        text,
-        chart,
-        &mut listing[..most],
-    )
+    parse_flat(flat, root_entries(roots), text, chart, &mut listing[..most])
 }
 
 // The answer of parsing by a flat text.

@@ -1,6 +1,6 @@
 -- A class that gets one member more.
 use Prim.Native.Nat.{ℕ, _+_, _*_, _/_, _%_, _^_, _≤_, _<_}
-use mathlib.Core.Bool.{Bool, false, true, _&&_, _||_, or-false, and-false}
+use mathlib.Core.Bool.{false, true, _&&_, _||_, or-false, and-false}
 use mathlib.Core.List.{List}
 use mathlib.Core.Logic.{by-cases}
 use mathlib.Core.Path.{_≡_, refl, sym, _∙_, ap}
@@ -14,7 +14,7 @@ use borrow.Author.Tests.{le-leb, lt-leb, lt-ltb, le-ltb, eq-eqb, ne-eqb}
 use Rattle.charset.proofs.BitLaws.{bit-or}
 use Rattle.charset.specs.Set.{characters, bit, wordBits, setWords}
 use Rattle.tables.proofs.BitsLaws.{one-bit}
-use Rattle.tables.specs.Layout.{slots, slotAt, classWords, classBits, classBit, tableWords, takesChar, takesProduction}
+use Rattle.tables.specs.Layout.{slots, slotAt, classBits, classBit, tableWords, takesChar, takesProduction}
 use Rattle.tables.specs.Put.{MemberAdded}
 
 -- ---- characters and productions

@@ -14,7 +14,7 @@ use Rattle.common.specs.Region.{Region}
 use Rattle.grammar.specs.Limits.{productionLimit, argumentLimit}
 use Rattle.tables.proofs.LayoutLaws.{counts-long, count-at}
 use Rattle.tables.specs.Layout.{countsAt, rowsAt, classesAt, productionWords, classWords, slotAt, tableWords, countsOf, arityIn, rowCount, takesChar, takesProduction, ParserTables}
-use Rattle.tables.specs.Put.{CountsPut, ClassesKept, ClassPut, MemberAdded}
+use Rattle.tables.specs.Put.{CountsPut, ClassesKept, ClassPut}
 
 -- ---- counts
 

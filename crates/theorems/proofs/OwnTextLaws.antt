@@ -1,12 +1,12 @@
 -- A grammar's own flat text: read by it, texts have the readings that they have by the grammar.
-use Prim.Native.Nat.{ℕ, _+_, _-_, _≤_, _<_}
-use mathlib.Core.Bool.{Bool, false, true, _&&_, true≢false, and-false}
-use mathlib.Core.List.{List, [], _∷_}
+use Prim.Native.Nat.{ℕ, _-_, _≤_, _<_}
+use mathlib.Core.Bool.{false, _&&_, true≢false}
+use mathlib.Core.List.{List}
 use mathlib.Core.Logic.{_↔_, ⊎-elim, by-cases}
 use mathlib.Core.Path.{_≡_, refl, sym, _∙_, ap, fun-ext, subst, subst⁻¹}
 use native.Mathlib.Decide.{decLt}
 use native.Mathlib.Omega.{arith}
-use lib.Dec.{leb, ltb, eqb}
+use lib.Dec.{ltb, eqb}
 use lib.ListN.{length, getD, List·getD-eq-default}
 use lib.Seq.{slice}
 use borrow.Author.Tests.{lt-ltb, le-ltb, le-leb, lt-leb}
@@ -17,15 +17,13 @@ use Rattle.ccg.specs.Text.{grammarText}
 use Rattle.charset.specs.Set.{characters}
 use Rattle.chart.specs.Layout.{chartBytes}
 use Rattle.common.proofs.ListLaws.{length-tabulate, getD-tabulate}
-use Rattle.common.specs.Lists.{tabulate}
 use Rattle.engine.proofs.SameParsingLaws.{SameParsing, chart-bytes-same, unless-same}
 use Rattle.engine.specs.Outcome.{UnlessRefused}
-use Rattle.engine.specs.Refusals.{tooLong, chartTooShort}
 use Rattle.engine.specs.declared.Answer.{Answer}
 use Rattle.flatten.proofs.FlatLaws.{flat-length, flat-arguments, flat-class-at, flat-trees, flat-lists}
 use Rattle.flatten.proofs.FlatWrittenLaws.{flat-written}
 use Rattle.flatten.proofs.TableTextLaws.{flat-of-production}
-use Rattle.flatten.specs.Flat.{isProduction, mayStand, flatClass, flatGrammar, plainClass}
+use Rattle.flatten.specs.Flat.{isProduction, flatClass, flatGrammar, plainClass}
 use Rattle.flatten.specs.Reading.{Reading, EntryList}
 use Rattle.form.proofs.FormLaws.{says-unique}
 use Rattle.form.specs.Form.{Writable, Says}

@@ -53,7 +53,6 @@ use Rattle.parse.specs.Outcome.{Outcome, readingBy}
 use Rattle.parse.proofs.AnswerLaws.{parsed-outcome, refused-unchanged, grammar-exactly, ten-exactly, twenty-exactly, text-numbers}
 use Rattle.parse.proofs.OutcomeLaws.{outcome-unique}
 use Rattle.parse.proofs.TurnedLaws.{turned-outcome}
-use Rattle.flatten.specs.Reading.{Reading}
 use Rattle.priority.proofs.CheckLaws.{accepted-formed}
 use Rattle.question.proofs.AnswerLaws.{conflict-yes, conflict-no, conflict-absent, conflict-refused}
 use Rattle.priority.proofs.DeclarationLaws.{accepted-declares}

@@ -1,6 +1,5 @@
 -- `allowed` meets its contract.
 use Rattle.form.specs.Step.{allowed}
-use Rattle.grammar.proofs.VerdictLaws.{cases}
 use borrow.Author.Needs.{needs}
 use Rattle.form.proofs.allowed.Statement.{statement}
 use Rattle.form.proofs.allowed.Tie as tie

@@ -1,6 +1,5 @@
 -- `begins` meets its contract.
 use Rattle.form.specs.Step.{begins}
-use Rattle.grammar.proofs.VerdictLaws.{cases}
 use borrow.Author.Needs.{needs}
 use Rattle.form.proofs.begins.Statement.{statement}
 use Rattle.form.proofs.begins.Tie as tie

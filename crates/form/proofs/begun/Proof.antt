@@ -1,6 +1,5 @@
 -- `begun` meets its contract.
 use Rattle.form.specs.Step.{begun}
-use Rattle.grammar.proofs.VerdictLaws.{cases}
 use borrow.Author.Needs.{needs}
 use Rattle.form.proofs.begun.Statement.{statement}
 use Rattle.form.proofs.begun.Tie as tie

@@ -3,7 +3,6 @@ use mathlib.Core.Bool.{false, true}
 use mathlib.Core.Path.{_≡_, refl, sym, _∙_}
 use Rattle.writing.specs.Digits.{isDigit}
 use Rattle.form.specs.Step.{behindSlash}
-use Rattle.grammar.proofs.VerdictLaws.{cases}
 use borrow.Author.Needs.{needs}
 use Rattle.form.proofs.behind_slash.Statement.{statement}
 use Rattle.form.proofs.behind_slash.Tie as tie

@@ -1,7 +1,6 @@
 -- `goes_on` meets its contract.
 use Rattle.form.proofs.StepLaws.{short-number}
 use Rattle.form.specs.Step.{ShortSpot, goesOn}
-use Rattle.grammar.proofs.VerdictLaws.{cases}
 use borrow.Author.Needs.{needs}
 use Rattle.form.proofs.goes_on.Statement.{statement}
 use Rattle.form.proofs.goes_on.Tie as tie

@@ -1,10 +1,9 @@
 -- `in_ending` meets its contract.
 use Prim.Native.Nat.{_+_}
-use mathlib.Core.Path.{_≡_, sym, _∙_}
+use mathlib.Core.Path.{sym, _∙_}
 use borrow.Author.Tests.{eq-eqb, ne-eqb}
 use Rattle.form.specs.Step.{endingByte, endingLength}
 use Rattle.form.specs.Step.{inEnding}
-use Rattle.grammar.proofs.VerdictLaws.{cases}
 use borrow.Author.Needs.{needs}
 use Rattle.form.proofs.in_ending.Statement.{statement}
 use Rattle.form.proofs.in_ending.Tie as tie

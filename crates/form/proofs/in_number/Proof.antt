@@ -5,7 +5,6 @@ use borrow.Author.Tests.{eq-eqb, ne-eqb}
 use Rattle.writing.specs.Digits.{isDigit}
 use Rattle.form.specs.Step.{allowed}
 use Rattle.form.specs.Step.{inNumber}
-use Rattle.grammar.proofs.VerdictLaws.{cases}
 use borrow.Author.Needs.{needs}
 use Rattle.form.proofs.in_number.Statement.{statement}
 use Rattle.form.proofs.in_number.Tie as tie

@@ -1,6 +1,5 @@
 -- `may_end` meets its contract.
 use Rattle.form.specs.Step.{mayEndAt}
-use Rattle.grammar.proofs.VerdictLaws.{cases}
 use borrow.Author.Needs.{needs}
 use Rattle.form.proofs.may_end.Statement.{statement}
 use Rattle.form.proofs.may_end.Tie as tie

@@ -58,9 +58,11 @@ loop-again c =
     let start = c .before .before .before .before .before in
     let turn = c .before .before .before .loop in
     let t = start .args .tables .now in
-    let s = start .args .s in
-    (omega arith, first-more (absentAt (start .args .count) (tableClass t s)) (turn .k) (turn .inv .1)
-    (absent-passed t s (start .args .count) (turn .k) (omega (arith, start .pre .2)) (sym (c .before .takes-production .ensures) ∙ c .if1 .left)))
+    let s = start .args .s in (
+      omega arith,
+      first-more (absentAt (start .args .count) (tableClass t s)) (turn .k) (turn .inv .1)
+          (absent-passed t s (start .args .count) (turn .k) (omega (arith, start .pre .2)) (sym (c .before .takes-production .ensures) ∙ c .if1 .left)),
+    )
 
 returns-2 : tie.Need-returns-2 Inv-loop μ-loop
 unfolding absentIn

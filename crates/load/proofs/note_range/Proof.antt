@@ -1,7 +1,6 @@
 -- `note_range` meets its contract.
-use Prim.Native.Nat.{ℕ, _+_}
 use mathlib.Core.Bool.{false, true}
-use mathlib.Core.Path.{_≡_, refl, sym, _∙_, ap, subst}
+use mathlib.Core.Path.{_≡_, refl, sym, _∙_, ap}
 use native.Mathlib.Omega.{arith}
 use borrow.Author.Needs.{needs}
 use Rattle.form.specs.Read.{rangeTo, endsRange}

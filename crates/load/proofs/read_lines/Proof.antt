@@ -1,6 +1,6 @@
 -- `read_lines` meets its contract: behind the bytes passed, the tables hold what is complete.
 use Prim.Native.Nat.{_-_}
-use mathlib.Core.Path.{sym, _∙_, ap}
+use mathlib.Core.Path.{sym, _∙_}
 use native.Mathlib.Omega.{arith}
 use lib.ListN.{length}
 use Rattle.form.proofs.ReadLaws.{small-told}

@@ -38,7 +38,8 @@ returns-2 : tie.Need-returns-2
 returns-2 c =
     let start = c .before .before .before .before .before .before .before .before .before .before in
     let put = c .before .before .before .before .before .before .put-counts .ensures in
-    (put .0, (put .1, answer-lines _ _ (sym (c .before .before .check-names .ensures) ∙ c .enum-told .given .1) (sym (table-length _ ∙ ap (length {A = ℕ}) (put-counts (start .args .counts .now) _ (start .pre .1) (put .0))))))
+    let answer = answer-lines _ _ (sym (c .before .before .check-names .ensures) ∙ c .enum-told .given .1) (sym (table-length _ ∙ ap (length {A = ℕ}) (put-counts (start .args .counts .now) _ (start .pre .1) (put .0)))) in
+    (put .0, (put .1, answer))
 
 pub with-counts-spec : {M : Type 1} → statement M
 with-counts-spec =

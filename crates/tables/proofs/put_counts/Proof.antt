@@ -29,9 +29,11 @@ slice-write-tables-2 c =
 
 loop-holds : tie.Need-loop-holds Inv-loop μ-loop
 loop-holds c =
-    let start = c .before .before .before in
-    (counts-none (start .args .counts .now) (start .args .tables .now) (c .word .result) (start .pre .0) (c .word .ensures), (sym (row-none (start .args .counts .now)), omega arith, omega arith),
-    λ k l. refl)
+    let start = c .before .before .before in (
+      counts-none (start .args .counts .now) (start .args .tables .now) (c .word .result) (start .pre .0) (c .word .ensures),
+      (sym (row-none (start .args .counts .now)), omega arith, omega arith),
+      λ k l. refl,
+    )
 
 shared-slice-read-wide : tie.Need-shared-slice-read-wide Inv-loop μ-loop
 shared-slice-read-wide c = omega (arith, c .before .before .loop .inv .0 .long, c .before .before .before .before .before .before .pre .1)
@@ -92,11 +94,13 @@ loop-again c =
     let turn = c .before .before .before .before .before .before .before .loop in
     let wide = c .before .before .before .before .wide in
     let b = start .args .counts .now in
-    let e : turn .row + (wide .result + 1) ≡ rowCount (arityIn b) (turn .p + 1) = omega (arith, row-more b (turn .p), wide .ensures, turn .inv .1 .0) in
-    (counts-more b (turn .tables) (turn .p) (c .before .word2 .result) (c .word3 .result) (omega arith) (start .pre .1) (turn .inv .0) (c .before .word2 .ensures ∙ c .before .before .wide2 .ensures) (c .word3 .ensures ∙ e), (e, omega (arith, wide .ensures, c .before .before .before .before .before .shared-slice-known2 .given (turn .p)), omega arith),
-    λ k l. classes-kept (set (turn .tables) (countsAt + turn .p) (c .before .word2 .result)) (rowsAt + turn .p + 1) (c .word3 .result) (omega (arith, start .pre .1)) k l
-    ∙ classes-kept (turn .tables) (countsAt + turn .p) (c .before .word2 .result) (omega (arith, start .pre .1)) k l
-    ∙ turn .inv .2 k l)
+    let e : turn .row + (wide .result + 1) ≡ rowCount (arityIn b) (turn .p + 1) = omega (arith, row-more b (turn .p), wide .ensures, turn .inv .1 .0) in (
+      counts-more b (turn .tables) (turn .p) (c .before .word2 .result) (c .word3 .result) (omega arith) (start .pre .1) (turn .inv .0) (c .before .word2 .ensures ∙ c .before .before .wide2 .ensures) (c .word3 .ensures ∙ e),
+      (e, omega (arith, wide .ensures, c .before .before .before .before .before .shared-slice-known2 .given (turn .p)), omega arith),
+      λ k l. classes-kept (set (turn .tables) (countsAt + turn .p) (c .before .word2 .result)) (rowsAt + turn .p + 1) (c .word3 .result) (omega (arith, start .pre .1)) k l
+          ∙ classes-kept (turn .tables) (countsAt + turn .p) (c .before .word2 .result) (omega (arith, start .pre .1)) k l
+          ∙ turn .inv .2 k l,
+    )
 
 same-length : tie.Need-same-length Inv-loop μ-loop
 same-length c = c .before .loop .inv .0 .long ∙ sym (c .before .before .before .before .before .pre .0)
@@ -105,11 +109,12 @@ returns : tie.Need-returns Inv-loop μ-loop
 returns c =
     let start = c .before .before .before .before .before in
     let b = start .args .counts .now in
-    let e : c .before .loop .p ≡ length b = omega arith in
-    (subst (λ (n : ℕ). CountsPut b n (c .before .loop .tables)) e (c .before .loop .inv .0),
-    λ k l. c .before .loop .inv .2 k l
-    ∙ classes-kept (set (start .args .tables .now) 0 (c .before .before .word .result)) rowsAt 0 (omega arith) k l
-    ∙ classes-kept (start .args .tables .now) 0 (c .before .before .word .result) (omega arith) k l)
+    let e : c .before .loop .p ≡ length b = omega arith in (
+      subst (λ (n : ℕ). CountsPut b n (c .before .loop .tables)) e (c .before .loop .inv .0),
+      λ k l. c .before .loop .inv .2 k l
+          ∙ classes-kept (set (start .args .tables .now) 0 (c .before .before .word .result)) rowsAt 0 (omega arith) k l
+          ∙ classes-kept (start .args .tables .now) 0 (c .before .before .word .result) (omega arith) k l,
+    )
 
 pub put-counts-spec : {M : Type 1} → statement M
 put-counts-spec =
