@@ -1,15 +1,17 @@
 /*
  * The sheet viewer: says how a line is to be taken by a book.
  *
- *     viewer [--names NAMES] BOOK [LINE]           the answer in words, and the tree if there is one reading; without LINE it is read from standard input
- *     viewer --page [--names NAMES] BOOK [LINE]    the page of the one reading, a line for each number of its listing; else the answer in words
- *     viewer --sheet SHEET BOOK                    for each line of a sheet its number, the answer in words, and the line
- *     viewer --flat BOOK                           the flat book; on standard error the numbers allowed at the top, to be kept beside it
+ *     viewer [--names NAMES] BOOK [LINE]            the answer in words, and the tree if there is one reading; without LINE it is read from standard input
+ *     viewer --page [--names NAMES] BOOK [LINE]     the page of the one reading, a line for each number of its listing; else the answer in words
+ *     viewer --sheet SHEET BOOK                     for each line of a sheet its number, the answer in words, and the line
+ *     viewer --flat BOOK                            the flat book; on standard error the numbers allowed at the top, to be kept beside it
+ *     viewer --from-flat FLAT --top NUMBERS [LINE]  as the first, by a flat book alone; the numbers are those allowed at the top, such as 258,261-263
  *
- * NAMES has the name of a rule on each line, as tools/book writes it. A rule without a name is shown as `rule N`, counted from 0 as in the book.
+ * NAMES has the name of a rule on each line, as tools/book writes it. A rule without a name is shown as `rule N`, counted from 0 as in the book; by a
+ * flat book each is, and its first line is rule 0.
  * A page has numbers only, so names change nothing on it; include/meadowsink.h says what stands in each column.
  * A sheet that takes longer than a second has a line on standard error, if that is a terminal, that says how far it is.
- * A refusal has its number and place; `book --explain BOOK PLACE` says what stands at that byte of a book.
+ * A refusal has its number and place; `book --explain BOOK PLACE` says what stands at that byte of a book. A place in a flat book has its line and column, too.
  * The exit status is 0 for an answer, and of a sheet if each line has one reading; 1 for a refusal; 2 if the viewer was called wrongly, a file can't be read or
  * something doesn't fit the machine; and 3 for a sheet with a line that has no reading, several, or is refused.
  */
@@ -29,15 +31,18 @@ enum {
     HEADER = 6,            /* bytes of a book's header */
     START = 4,             /* its byte that is the start sort */
     PRODUCTION_BASE = 258, /* rule 0 in a listing; characters are below */
+    RULES_MOST = 64,       /* rules of a book, or lines of a flat book */
     NUMBERS_MOST = 32768,  /* numbers of the longest listing that is written */
     LINE_BYTES = 73,       /* bytes of a page for each number */
     KIND_NONE = 0,         /* the kinds of answers, and the number of a refusal */
     KIND_ONE = 1,
     KIND_REFUSED = 3,
     CHART_SHORT = 20,
-    TEXT_MOST = 200,   /* bytes of the longest line that is read */
-    FILE_MOST = 65536, /* more bytes than a book, a line or a sheet may have */
-    INDENT_MOST = 40   /* below this level the depth is a number, or a deep tree would be printed as gigabytes of spaces */
+    NOT_THE_FORM = 27,
+    TEXT_MOST = 200,    /* bytes of the longest line that is read */
+    FILE_MOST = 65536,  /* more bytes than a book, a line or a sheet may have */
+    FLAT_MOST = 524288, /* and than a flat book may have */
+    INDENT_MOST = 40    /* below this level the depth is a number, or a deep tree would be printed as gigabytes of spaces */
 };
 
 typedef struct {
@@ -47,6 +52,10 @@ typedef struct {
 
 static Area book, line, names, sheet;
 static uint8_t listing[2 * NUMBERS_MOST];
+
+static uint8_t flat_book[FLAT_MOST];
+static size_t flat_length;
+static uint8_t tops[RULES_MOST]; /* 1 for each line of the flat book that is allowed at the top */
 
 static _Noreturn void fail(const char *format, ...) {
     va_list values;
@@ -90,7 +99,9 @@ static void print_name(size_t production) {
 
 /* ---- an accepted book */
 
-static size_t argument_count(size_t production) { return book.bytes[HEADER + production]; }
+static const uint8_t *argument_counts = book.bytes + HEADER;
+
+static size_t argument_count(size_t production) { return argument_counts[production]; }
 
 /* The numbers of the rules of the start sort. Behind the counts of rules and classes each rule has a byte for its result, and then its arguments. */
 static void print_tops(void) {
@@ -99,6 +110,20 @@ static void print_tops(void) {
     for (size_t p = 0; p < productions; at += 1 + argument_count(p++))
         if (book.bytes[at] == book.bytes[START]) fprintf(stderr, " %zu", PRODUCTION_BASE + p);
     fputc('\n', stderr);
+}
+
+/* ---- an accepted flat book */
+
+/* A line has a class for each argument, and one for its own number. */
+static void count_arguments(void) {
+    static uint8_t counts[RULES_MOST];
+    size_t production = 0;
+    for (size_t at = 0; at < flat_length; at++)
+        if (flat_book[at] == '\n')
+            counts[production++]--;
+        else
+            counts[production] += flat_book[at] == '[';
+    argument_counts = counts;
 }
 
 /* ---- refusals in words */
@@ -120,12 +145,25 @@ static const char *const words_for[] = {
     [24] = "the page is too short; it needs %llu bytes",
     [25] = "the sheet has %llu bytes; the most is 65535",
     [26] = "the summary is too short; the sheet has %llu lines",
+    [NOT_THE_FORM] = "the flat book is not in the written form from byte %llu on",
+    [28] = "number %llu, in a class or at the top, names no line of the flat book",
 };
+
+/* The line and column, counted from 1, of a byte of the flat book, or of its end. */
+static void print_position(uint64_t place) {
+    size_t row = 1, column = 1;
+    for (size_t at = 0; at < place; at++) {
+        column = flat_book[at] == '\n' ? 1 : column + 1;
+        row += flat_book[at] == '\n';
+    }
+    fprintf(stderr, ", line %zu, column %zu%s", row, column, place == flat_length ? ", where it ends" : "");
+}
 
 static int refuse(uint64_t number, uint64_t place) {
     const char *words = number < sizeof words_for / sizeof words_for[0] ? words_for[number] : NULL;
     fprintf(stderr, "refused %llu %llu: ", (unsigned long long)number, (unsigned long long)place);
     fprintf(stderr, words != NULL ? words : "the place is %llu", (unsigned long long)place);
+    if (number == NOT_THE_FORM) print_position(place);
     fputc('\n', stderr);
     return REFUSED;
 }
@@ -181,6 +219,11 @@ static int print_tree(size_t count) {
     return ANSWERED;
 }
 
+static int print_flat_tree(size_t count) {
+    count_arguments();
+    return print_tree(count);
+}
+
 /* ---- the page */
 
 typedef uint64_t PageCall(const uint8_t *, size_t, const uint8_t *, size_t, const uint8_t *, size_t, uint8_t *, size_t);
@@ -200,23 +243,29 @@ static int print_page(size_t count) {
 
 /* ---- parsing a line */
 
-typedef uint64_t Call(const uint8_t *, size_t, const uint8_t *, size_t, uint8_t *, size_t, uint8_t *, size_t);
+/* The answer, or the place of its refusal. */
+typedef uint64_t Call(int place, uint8_t *chart, size_t size);
 
-static uint64_t call(Call *operation, uint8_t *chart, size_t size) {
-    return operation(book.bytes, book.length, line.bytes, line.length, chart, size, listing, sizeof listing);
+static uint64_t by_book(int place, uint8_t *chart, size_t size) {
+    return (place ? meadowsink_read_place : meadowsink_read)(book.bytes, book.length, line.bytes, line.length, chart, size, listing, sizeof listing);
+}
+
+static uint64_t by_flat(int place, uint8_t *chart, size_t size) {
+    return (place ? meadowsink_read_flat_place : meadowsink_read_flat)(flat_book, flat_length, tops, sizeof tops, line.bytes, line.length, chart, size,
+                                                                       listing, sizeof listing);
 }
 
 /* The library says how long the chart must be, if it gets as far. `print_one` is given how many numbers the only reading has. */
-static int parse_line(int (*print_one)(size_t)) {
+static int parse_line(Call *call, int (*print_one)(size_t)) {
     uint8_t *chart = NULL;
     size_t size = 0;
-    uint64_t answer = call(meadowsink_read, chart, size);
+    uint64_t answer = call(0, chart, size);
     if (answer == 4 * CHART_SHORT + KIND_REFUSED) {
-        size = call(meadowsink_read_place, chart, size);
+        size = call(1, chart, size);
         chart = reserve(size, "a chart");
-        answer = call(meadowsink_read, chart, size);
+        answer = call(0, chart, size);
     }
-    if (answer % 4 == KIND_REFUSED) return refuse(answer / 4, call(meadowsink_read_place, chart, size));
+    if (answer % 4 == KIND_REFUSED) return refuse(answer / 4, call(1, chart, size));
     if (answer % 4 == KIND_ONE) return print_one(answer / 4);
     puts(answer % 4 == KIND_NONE ? "no reading" : "several readings");
     return ANSWERED;
@@ -306,18 +355,19 @@ static int print_flat(void) {
 
 /* ---- files and options */
 
-static void load(Area *area, FILE *in, const char *name) {
+static size_t load(uint8_t *bytes, size_t most, FILE *in, const char *name) {
     if (in == NULL) fail("%s can't be opened: %s", name, strerror(errno));
-    area->length = fread(area->bytes, 1, FILE_MOST, in);
-    int more = area->length == FILE_MOST && fgetc(in) != EOF;
+    size_t length = fread(bytes, 1, most, in);
+    int more = length == most && fgetc(in) != EOF;
     if (ferror(in)) fail("%s can't be read", name);
-    if (more) fail("%s has more than %d bytes", name, FILE_MOST);
+    if (more) fail("%s has more than %zu bytes", name, most);
     if (in != stdin) fclose(in);
+    return length;
 }
 
 static void load_line(const char *given) {
     if (given == NULL) {
-        load(&line, stdin, "standard input");
+        line.length = load(line.bytes, FILE_MOST, stdin, "standard input");
         const uint8_t *end = memchr(line.bytes, '\n', line.length);
         if (end != NULL && end + 1 < line.bytes + line.length) fail("standard input has more than one line");
         if (end != NULL) line.length--;
@@ -328,7 +378,31 @@ static void load_line(const char *given) {
     memcpy(line.bytes, given, line.length);
 }
 
-static void load_file(Area *area, const char *name) { load(area, fopen(name, "rb"), name); }
+static void load_file(Area *area, const char *name) { area->length = load(area->bytes, FILE_MOST, fopen(name, "rb"), name); }
+
+/* Goes past a number of three digits, and gives the line of a flat book that has it, or RULES_MOST. */
+static size_t top_line(const char **at) {
+    size_t number = 0, digits = 0;
+    for (; digits < 3 && **at >= '0' && **at <= '9'; digits++) number = 10 * number + (size_t)(*(*at)++ - '0');
+    return number >= PRODUCTION_BASE && number < PRODUCTION_BASE + RULES_MOST ? number - PRODUCTION_BASE : RULES_MOST;
+}
+
+/* Numbers and rising ranges of them, with a comma between any two. */
+static void load_tops(const char *given) {
+    const char *at = given;
+    int more = 1;
+    while (more) {
+        size_t low = top_line(&at), high = low;
+        if (*at == '-') {
+            at++;
+            high = top_line(&at);
+        }
+        more = *at == ',';
+        if (low > high || high == RULES_MOST || (!more && *at != '\0')) fail("--top takes numbers from 258 to 321, such as 258,261-263, and not \"%s\"", given);
+        for (size_t r = low; r <= high; r++) tops[r] = 1;
+        at += more;
+    }
+}
 
 /* Goes past the option if it is the next word, and says whether it is. */
 static int option(const char *name, int count, char **words, int *at) {
@@ -337,23 +411,42 @@ static int option(const char *name, int count, char **words, int *at) {
     return given;
 }
 
-int main(int count, char **words) {
-    int at = 1, flat = option("--flat", count, words, &at);
+static _Noreturn void misused(void) {
+    fail("usage: viewer [--page] [--names NAMES] BOOK [LINE]  or  viewer --sheet SHEET BOOK  or  viewer --flat BOOK"
+         "  or  viewer --from-flat FLAT --top NUMBERS [LINE]");
+}
+
+static int view_by_flat(int count, char **words, int at) {
+    const char *name = words[at++];
+    const char *numbers = option("--top", count, words, &at) ? words[at++] : NULL;
+    if (numbers == NULL || count > at + 1) misused();
+    load_tops(numbers);
+    flat_length = load(flat_book, FLAT_MOST, fopen(name, "rb"), name);
+    load_line(words[at]);
+    return parse_line(by_flat, print_flat_tree);
+}
+
+static int view_by_book(int count, char **words, int at) {
+    int flat = option("--flat", count, words, &at);
     const char *lines = !flat && option("--sheet", count, words, &at) ? words[at++] : NULL;
     int whole = flat || lines != NULL;
     int paged = !whole && option("--page", count, words, &at);
     const char *named = !whole && option("--names", count, words, &at) ? words[at++] : NULL;
-    if (count <= at || count > at + (whole ? 1 : 2))
-        fail("usage: viewer [--page] [--names NAMES] BOOK [LINE]  or  viewer --sheet SHEET BOOK  or  viewer --flat BOOK");
+    if (count <= at || count > at + (whole ? 1 : 2)) misused();
     if (named != NULL) load_file(&names, named);
     load_file(&book, words[at]);
     if (lines != NULL) load_file(&sheet, lines);
     if (!whole) load_line(words[at + 1]);
     uint64_t answer = meadowsink_check(book.bytes, book.length);
-    int status = answer % 4 == KIND_REFUSED ? refuse(answer / 4, meadowsink_check_place(book.bytes, book.length))
-                 : flat                     ? print_flat()
-                 : lines != NULL            ? walk_sheet()
-                                            : parse_line(paged ? print_page : print_tree);
+    return answer % 4 == KIND_REFUSED ? refuse(answer / 4, meadowsink_check_place(book.bytes, book.length))
+           : flat                     ? print_flat()
+           : lines != NULL            ? walk_sheet()
+                                      : parse_line(by_book, paged ? print_page : print_tree);
+}
+
+int main(int count, char **words) {
+    int at = 1, archived = option("--from-flat", count, words, &at);
+    int status = (archived ? view_by_flat : view_by_book)(count, words, at);
     if (fflush(stdout) != 0 || ferror(stdout)) fail("standard output can't be written");
     return status;
 }

@@ -11,7 +11,7 @@ extern "C" {
 
 /*
  * Limits. A grammar (a "book") has at most 32 sorts, 64 rules of at most 8 arguments, 64 classes of at most 16 ranges, and 255 declarations, a group of rules
- * counting as one; a text has at most 200 bytes, a sheet at most 65,535. What is over a limit is refused.
+ * counting as one; a flat text at most 64 lines of at most 8 arguments; a text has at most 200 bytes, a sheet at most 65,535. What is over a limit is refused.
  *
  * Areas. Each area is a pointer and a length in bytes. A `const` area is only read, and such areas may overlap one another; an area that is written must not
  * overlap any other. What it holds before a call doesn't matter. An area of length 0 may have any pointer, NULL too.
@@ -24,8 +24,8 @@ extern "C" {
  * in `_place`, takes the same areas, does the same to them, and gives the place of the refusal; it is 0 if nothing is refused, but 0 may also be a place.
  * meadowsink_text_under refuses nothing, so it has no second call, and its result is not of this form.
  *
- * Refusals, with their places. Bytes and rules are counted from 0. The book's refusals, 1 to 9, come before the others. No refusal
- * has the number 6: a range has the characters between its two ends, whichever of them stands first.
+ * Refusals, with their places. Bytes and rules are counted from 0. The book's refusals, 1 to 9, come before the others, and so do those of a flat text, 27 and
+ * 28. No refusal has the number 6: a range has the characters between its two ends, whichever of them stands first.
  *
  *   1    the book is too short for its header or for its counts. Place: the book's length.
  *   2    a byte of its header is out of range. Place: which byte of the book.
@@ -39,14 +39,18 @@ extern "C" {
  *   9    a rule is ranked above itself. Place: the rule, the lowest such.
  *   10   the text has more than 200 bytes. Place: how many.
  *   11   the listing has an odd count of bytes, or more than 8,192. Place: how many.
- *   20   the chart is too short: it needs A * (n + 1) * (n + 2) / 2 bytes, where n is the length of the text and A the sum, over all rules, of the number of
- *        arguments + 1. Place: how many it needs.
+ *   20   the chart is too short: it needs A * (n + 1) * (n + 2) / 2 bytes, where n is the length of the text and A the sum, over all rules or lines of the flat
+ *        text, of the number of arguments + 1. Place: how many it needs.
  *   21   the written grammar doesn't fit. Place: how many bytes it needs.
  *   22   there is one parse, but its listing doesn't fit. Place: how many numbers of it are written.
  *   23   the listing is not right. Place: the index, from 0, that meadowsink_check_listing gives.
  *   24   the page doesn't fit. Place: how many bytes it needs, 73 for each number of the listing.
  *   25   the sheet has more than 65,535 bytes. Place: how many.
  *   26   the summary is too short: it needs a byte for each line. Place: how many lines the sheet has.
+ *   27   the flat text is not in the written form, which meadowsink_check_flat tells. Place: the first byte at which no text of that form goes on so, or the
+ *        flat text's length if it is only cut short.
+ *   28   a class of the flat text, or the root, names a line that is not there. Place: the line's number, 258 + r for line r; the first such in the flat text,
+ *        else the lowest at the root.
  */
 
 /*
@@ -251,6 +255,56 @@ uint64_t meadowsink_sheet_step(const uint8_t *book, size_t book_length, const ui
 /* The place of the refusal, 0 also for a line whose byte is 3. It reads, and writes to `chart`, as meadowsink_sheet_step does. */
 uint64_t meadowsink_sheet_step_place(const uint8_t *book, size_t book_length, const uint8_t *sheet, size_t sheet_length, size_t start, uint8_t *chart,
                                      size_t chart_length);
+
+/*
+ * Checks a flat text: a character class grammar in exactly the form in which meadowsink_flat writes it.
+ *
+ *   flat     the bytes of the flat text
+ *
+ * It has 1 to 64 lines, each ended by a line feed, byte 10. A line has a class and a space for each argument, of which there are at most 8; then `->`, a space,
+ * and a class with the line's own number alone, 258 + r for line r, counted from 0. A class is `[`, its ranges with nothing between them, and `]`. It has
+ * characters only, 0 to 255, or numbers of lines only, 258 to 321, or nothing. A range is `\n`, or `\a-\b` with a below b, in base ten and with no zero in
+ * front. The ranges of a class rise, and no two of them touch.
+ *
+ * The result is 4 * value + kind:
+ *
+ *   kind 1   accepted; the value is how many lines there are.
+ *   kind 3   refused; the value is the number of the refusal: 27, else 28 for a class.
+ */
+uint64_t meadowsink_check_flat(const uint8_t *flat, size_t flat_length);
+
+/* The place of the refusal. */
+uint64_t meadowsink_check_flat_place(const uint8_t *flat, size_t flat_length);
+
+/*
+ * Parses a text by a flat text alone. A parse is a tree of its lines.
+ *
+ *   flat     the bytes of the flat text, as meadowsink_check_flat has it
+ *   roots    which lines are allowed at the root: line r, 0 to 63, is allowed if byte r is there and is not 0. Bytes from 64 on are ignored.
+ *   text     the bytes of the text, at most 200
+ *   chart    room to work in, as meadowsink_read has it, with lines for rules
+ *   listing  where the numbers of the parse go
+ *
+ * The result is 4 * value + kind:
+ *
+ *   kind 0   no parse; the value is 0.
+ *   kind 1   one parse; the value is how many numbers its listing has. They stand at the start of `listing`, as meadowsink_read writes them, 258 + r for
+ *            line r. Bytes beyond them are as they were.
+ *   kind 2   two parses or more; the value is 0.
+ *   kind 3   refused; the value is the number of the refusal, the first of 27, 28, 10, 20 and 22. By 22 the first numbers of the listing are written, as
+ *            meadowsink_read does.
+ *
+ * At most the first 65,536 bytes of `listing` are used. After kinds 0 and 2 it is as it was. After a refusal other than 22 all areas are as they were.
+ *
+ * By the flat text that meadowsink_flat writes for a book, with the rules of the book's start sort allowed at the root, the result and all bytes afterwards are
+ * those of meadowsink_read by the book.
+ */
+uint64_t meadowsink_read_flat(const uint8_t *flat, size_t flat_length, const uint8_t *roots, size_t roots_length, const uint8_t *text, size_t text_length,
+                              uint8_t *chart, size_t chart_length, uint8_t *listing, size_t listing_length);
+
+/* The place of the refusal. It parses, and writes to `chart` and `listing`, as meadowsink_read_flat does. */
+uint64_t meadowsink_read_flat_place(const uint8_t *flat, size_t flat_length, const uint8_t *roots, size_t roots_length, const uint8_t *text,
+                                    size_t text_length, uint8_t *chart, size_t chart_length, uint8_t *listing, size_t listing_length);
 
 #ifdef __cplusplus
 }

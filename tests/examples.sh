@@ -30,10 +30,19 @@ run() {
     [ $status = 0 ] || echo "exit status $status"
 }
 
-# The answer alone.
+# The flat book of a book, NAME.flat, and the numbers at the top, NAME.top, with commas between them.
+flatten() { # NAME BOOK
+    "$examples/viewer" --flat "$2" > "$1.flat" 2> said
+    sed 's/^[^0-9]*//; y/ /,/' said > "$1.top"
+}
+
+# The answer alone. By the flat book all that is printed is the same.
 answer() {
     printf '%s, %s: ' "$1" "$(printf '%s' "$2" | cut -c 1-60)"
-    "$examples/viewer" "$here/books/$1.book" "$2" 2>&1 | head -n 1
+    "$examples/viewer" "$here/books/$1.book" "$2" > by_book 2>&1
+    head -n 1 by_book
+    flatten "$1" "$here/books/$1.book"
+    "$examples/viewer" --from-flat "$1.flat" --top "$(cat "$1.top")" "$2" 2>&1 | cmp by_book -
 }
 
 # What stands at a byte of a book.
@@ -156,6 +165,64 @@ sheets() {
     run viewer --sheet lines empty
 }
 
+# What is in the file `f` is refused as a flat book.
+refused_flat() {
+    awk '{ gsub(/\r/, "^M"); print "| " $0 }' f
+    run viewer --from-flat f --top 258-260 8
+}
+
+# One, none and several, as by the book, and with fewer numbers at the top.
+from_flat() {
+    echo '# reading by a flat book'
+    for name in T d i j any; do flatten $name $name.book; done
+    run viewer --from-flat T.flat --top 258-260 '8/4*2'
+    run viewer --from-flat T.flat --top 258,259 '8/4*2'
+    run viewer --from-flat T.flat --top 258,260-260 '8/4*2'
+    printf '8*2\n' | run viewer --from-flat T.flat --top 259
+    run viewer --from-flat T.flat --top 258-260 ''
+    run viewer --from-flat d.flat --top 258,259,260 '8/4*2'
+    run viewer --from-flat i.flat --top 258 ''
+    run viewer --from-flat j.flat --top 258-259 8
+    run viewer --from-flat j.flat --top 258 8
+    run viewer --from-flat any.flat --top 258-259 "$(printf "'\n\303\251")"
+    run viewer --from-flat T.flat --top 258-260 "$(repeat 201 8)"
+    flatten power "$here/books/power.book"
+    run viewer --from-flat power.flat --top 289 ''
+}
+
+# A flat book of 64 lines of 3,690 bytes: eight classes with every second character. It is read, and refused without its last byte.
+wide_flat() {
+    awk 'BEGIN {
+        for (k = 0; k < 256; k += 2) class = class "\\" k
+        for (r = 0; r < 64; r++) {
+            for (i = 0; i < 8; i++) printf "[%s] ", class
+            printf "-> [\\%d]\n", 258 + r
+        }
+    }' > wide.flat
+    wc -c < wide.flat | tr -d ' '
+    run viewer --from-flat wide.flat --top 321 '@@@@@@@@'
+    head -c 236159 wide.flat > f
+    run viewer --from-flat f --top 321 '@@@@@@@@'
+}
+
+# 27: nothing, two ranges that touch, a character and a number of a line, not the line's own number, a second space, carriage returns, an empty line, cut short,
+# and a book. 28: a class, and the top; and it comes before 10.
+refused_flats() {
+    echo '# refused flat books'
+    for text in '' '[\\48\\49] -> [\\258]\n' '[\\47\\258] -> [\\258]\n' '-> [\\258]\n-> [\\260]\n'; do
+        printf %b "$text" > f
+        refused_flat
+    done
+    sed '2s/ /  /' T.flat > f && refused_flat
+    sed "s/\$/$(printf '\r')/" T.flat > f && refused_flat
+    { cat T.flat && echo; } > f && refused_flat
+    head -c 89 T.flat > f && refused_flat
+    run viewer --from-flat T.book --top 258-260 8
+    head -n 2 T.flat > f && refused_flat
+    run viewer --from-flat T.flat --top 258,262-263,261 8
+    run viewer --from-flat T.flat --top 321 "$(repeat 201 8)"
+}
+
 lengths() {
     echo '# long lines'
     answer arithmetic "12+(3*4-5)/6*$(repeat 187 7)"
@@ -225,6 +292,19 @@ misuse() {
     repeat 65537 a > large
     run viewer large 8
     run viewer --sheet large T.book
+    run viewer --from-flat large --top 258 8
+    repeat 524289 a > large
+    run viewer --from-flat large --top 258 8
+    run viewer --from-flat
+    run viewer --from-flat T.flat
+    run viewer --from-flat T.flat 8
+    run viewer --from-flat T.flat --top
+    run viewer --from-flat T.flat --top 258 8 8
+    run viewer --from-flat T.flat --names T.names --top 258 8
+    run viewer --from-flat missing --top 258 8
+    for numbers in 257 322 2580 0258 25 x '' 258, ,258 258,,259 258- -258 260-258 258-322 258-259-260 '258 259' 258x; do
+        run viewer --from-flat T.flat --top "$numbers" 8
+    done
 }
 
 # The lines that the texts in books/ give as examples.
@@ -258,11 +338,11 @@ wrapper() {
     run wrapper b 8
     run wrapper empty 8
     run wrapper i.book ''
-    run wrapper loops.book '-1.5m' | tail -n 3
-    run wrapper any.book "$(printf '\303\251')" | tail -n 3
+    run wrapper loops.book '-1.5m' | tail -n 7
+    run wrapper any.book "$(printf '\303\251')" | tail -n 7
     run wrapper missing
-    run wrapper "$here/books/ladder.book" "$(repeat 200 a)" | tail -n 6 | cut -c 1-80
-    run wrapper "$here/books/power.book" '' | tail -n 2
+    run wrapper "$here/books/ladder.book" "$(repeat 200 a)" | tail -n 10 | cut -c 1-80
+    run wrapper "$here/books/power.book" '' | tail -n 6
     run wrapper "$here/books/power.book" "$(printf '\n.')" | tail -n 3
 }
 
@@ -276,6 +356,9 @@ everything() {
     equal
     pages
     sheets
+    from_flat
+    wide_flat
+    refused_flats
     lengths
     refusals
     misuse

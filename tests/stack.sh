@@ -65,6 +65,22 @@ reading() {
     both "$READ_STACK" 'kind 0 value 0' 0 read "$books/groups.book" 200
 }
 
+# The flat text of a book in books/.
+flat_text() { # NAME
+    "$call" flat "$books/$1.book" "$dir/$1.flat" > "$dir/said" || exit 1
+}
+
+# The same by their flat texts, with a rule of the start sort at the root: the only one of ladder, deepest and power.
+reading_flat() {
+    for name in ladder deepest power dense groups; do flat_text $name; done
+    both "$READ_STACK" 'kind 1 value 18204 levels 12003' 0 read_flat "$dir/ladder.flat" 200 320
+    both "$READ_STACK" 'kind 1 value 19094 levels 12663' 0 read_flat "$dir/deepest.flat" 200 258
+    both "$READ_STACK" 'kind 3 value 22' 32768 read_flat "$dir/power.flat" 0 289
+    both "$READ_STACK" 'kind 2 value 0' 0 read_flat "$dir/dense.flat" 200 258
+    both "$READ_STACK" 'kind 0 value 0' 0 read_flat "$dir/groups.flat" 200 258 321
+    both "$READ_STACK" 'kind 3 value 28' 290 read_flat "$dir/power.flat" 0 289 290 321
+}
+
 # The same as lines: a step's value is 4 * 201 + its byte, and 4 * 1 + 1 for the empty line.
 sheets() {
     both "$READ_STACK" 'kind 1 value 2 bytes 1 1' 0 sheet "$books/ladder.book" 200
@@ -112,9 +128,14 @@ others() {
     both "$CALL_STACK" 'kind 1 value 1309' 0 flat "$books/deepest.book"
     both "$CALL_STACK" 'kind 1 value 19481' 0 flat "$books/limits.book"
     both "$CALL_STACK" 'kind 1 value 63532' 0 flat "$books/dense.book"
+    both "$CALL_STACK" 'kind 1 value 64' 0 check_flat "$dir/deepest.flat"
+    both "$CALL_STACK" 'kind 1 value 64' 0 check_flat "$dir/dense.flat"
+    both "$CALL_STACK" 'kind 1 value 32' 0 check_flat "$dir/power.flat"
+    both "$CALL_STACK" 'kind 3 value 27' 0 check_flat "$books/deepest.book"
 }
 
 reading
+reading_flat
 sheets
 listings
 others

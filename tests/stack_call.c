@@ -6,7 +6,9 @@
  *     stack_call sheet_step BOOK N       the first of them
  *     stack_call check BOOK
  *     stack_call conflict BOOK P I Q
- *     stack_call flat BOOK
+ *     stack_call flat BOOK [FILE]        FILE is where the flat text goes
+ *     stack_call check_flat FLAT
+ *     stack_call read_flat FLAT N NUMBER..    a text of N times a, with the lines of these numbers allowed at the root
  *     stack_call check_listing BOOK N NUMBER.. [/ NUMBER..]
  *     stack_call page BOOK N NUMBER.. [/ NUMBER..]
  *     stack_call text_under BOOK N NUMBER.. [/ NUMBER..]        under the last number
@@ -42,7 +44,8 @@ enum {
 
 /* Nothing large is on this program's own stack. */
 static uint8_t book[book_limit], text[text_limit], two[2 * text_limit + 2], chart[chart_limit], out[listing_limit], lines[line_length * checked_limit];
-static size_t book_length, text_length;
+static uint8_t roots[rule_limit];
+static size_t book_length, text_length; /* the book may be a flat text */
 static int pending[listing_limit];
 
 static int fail(const char *what) {
@@ -63,22 +66,48 @@ static void load_text(const char *length) {
     memset(text, 'a', text_length);
 }
 
+static void load_roots(int count, char **numbers) {
+    for (int i = 0; i < count; i++) {
+        unsigned long number = strtoul(numbers[i], NULL, 10);
+        if (number < first_rule || number >= first_rule + rule_limit) fail("no such line");
+        roots[number - first_rule] = 1;
+    }
+}
+
+/* ---- the levels of a listing */
+
+static const uint8_t *argument_counts = book + header;
+
+/* A line of a flat text has a class for each argument, and one for its own number. */
+static void count_arguments(void) {
+    static uint8_t counts[rule_limit];
+    size_t line = 0;
+    for (size_t at = 0; at < book_length; at++)
+        if (book[at] == '\n')
+            counts[line++]--;
+        else
+            counts[line] += book[at] == '[';
+    argument_counts = counts;
+}
+
 static unsigned number_at(size_t index) {
     return out[2 * index] + 256u * out[2 * index + 1];
 }
 
-/* How deep rules stand in one another; the listing has each rule before its arguments, and the book the count of these. */
+/* How deep rules stand in one another; the listing has each rule before its arguments. */
 static size_t levels(size_t count) {
     size_t depth = 0, deepest = 0;
     for (size_t at = 0; at < count; at++) {
         if (at > 0 && depth == 0) fail("the listing goes on behind the tree");
-        pending[depth++] = number_at(at) >= first_rule ? book[header + number_at(at) - first_rule] : 0;
+        pending[depth++] = number_at(at) >= first_rule ? argument_counts[number_at(at) - first_rule] : 0;
         if (number_at(at) >= first_rule && depth > deepest) deepest = depth;
         while (depth > 0 && pending[depth - 1] == 0)
             if (--depth > 0) pending[depth - 1]--;
     }
     return deepest;
 }
+
+/* ---- the calls */
 
 static void print_answer(uint64_t answer) {
     printf("kind %llu value %llu", (unsigned long long)(answer % 4), (unsigned long long)(answer / 4));
@@ -112,6 +141,19 @@ static void read_text(int place) {
     uint64_t answer = meadowsink_read(book, book_length, text, text_length, chart, sizeof chart, out, sizeof out);
     print_answer(answer);
     if (answer % 4 == 1) printf(" levels %zu", levels(answer / 4));
+}
+
+/* The levels are counted when the answer is there, and a flat text is then known to be one. */
+static void read_flat(int place) {
+    if (place) {
+        print_place(meadowsink_read_flat_place(book, book_length, roots, sizeof roots, text, text_length, chart, sizeof chart, out, sizeof out));
+        return;
+    }
+    uint64_t answer = meadowsink_read_flat(book, book_length, roots, sizeof roots, text, text_length, chart, sizeof chart, out, sizeof out);
+    print_answer(answer);
+    if (answer % 4 != 1) return;
+    count_arguments();
+    printf(" levels %zu", levels(answer / 4));
 }
 
 /* Each line has its line feed: without one an empty second line would be none. */
@@ -152,11 +194,26 @@ static void conflict(int place, char **numbers) {
         print_answer(meadowsink_conflict(book, book_length, p, i, q));
 }
 
-static void flat(int place) {
-    if (place)
+static void save(const char *name, size_t length) {
+    FILE *file = fopen(name, "wb");
+    if (file == NULL || fwrite(out, 1, length, file) != length || fclose(file) != 0) fail("the file can't be written");
+}
+
+static void flat(int place, const char *name) {
+    if (place) {
         print_place(meadowsink_flat_place(book, book_length, out, sizeof out));
+        return;
+    }
+    uint64_t answer = meadowsink_flat(book, book_length, out, sizeof out);
+    print_answer(answer);
+    if (name != NULL && answer % 4 == 1) save(name, answer / 4);
+}
+
+static void check_flat(int place) {
+    if (place)
+        print_place(meadowsink_check_flat_place(book, book_length));
     else
-        print_answer(meadowsink_flat(book, book_length, out, sizeof out));
+        print_answer(meadowsink_check_flat(book, book_length));
 }
 
 static void check_listing(int place, size_t length) {
@@ -193,6 +250,23 @@ static void with_listing(const char *operation, int place, size_t length) {
     if (!place) printf(" numbers %zu levels %zu", length / 2, levels(length / 2));
 }
 
+/* A call that is lent a text, but no listing; says whether it is one. */
+static int with_text(const char *operation, int place, int count, char **words) {
+    if (strcmp(operation, "read") == 0 && count == 0) {
+        read_text(place);
+    } else if (strcmp(operation, "sheet") == 0 && count == 0) {
+        sheet(place);
+    } else if (strcmp(operation, "sheet_step") == 0 && count == 0) {
+        step(place);
+    } else if (strcmp(operation, "read_flat") == 0) {
+        load_roots(count, words);
+        read_flat(place);
+    } else {
+        return 0;
+    }
+    return 1;
+}
+
 static void make_call(int count, char **words) {
     if (count < 3) fail("too few words");
     char *suffix = strstr(words[1], "_place");
@@ -201,22 +275,15 @@ static void make_call(int count, char **words) {
     load_book(words[2]);
     if (strcmp(words[1], "check") == 0) {
         check(place);
+    } else if (strcmp(words[1], "check_flat") == 0) {
+        check_flat(place);
     } else if (strcmp(words[1], "flat") == 0) {
-        flat(place);
+        flat(place, words[3]);
     } else if (strcmp(words[1], "conflict") == 0 && count == 6) {
         conflict(place, words + 3);
-    } else if (strcmp(words[1], "read") == 0 && count == 4) {
+    } else if (count > 3) {
         load_text(words[3]);
-        read_text(place);
-    } else if (strcmp(words[1], "sheet") == 0 && count == 4) {
-        load_text(words[3]);
-        sheet(place);
-    } else if (strcmp(words[1], "sheet_step") == 0 && count == 4) {
-        load_text(words[3]);
-        step(place);
-    } else if (count > 4) {
-        load_text(words[3]);
-        with_listing(words[1], place, fill_listing(count - 4, words + 4));
+        if (!with_text(words[1], place, count - 4, words + 4)) with_listing(words[1], place, fill_listing(count - 4, words + 4));
     } else {
         fail("no such call");
     }

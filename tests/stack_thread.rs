@@ -7,7 +7,7 @@ mod library;
 #[allow(dead_code)]
 mod prng;
 
-use library::{check, check_listing, conflict, flat, page, read, sheet, sheet_step, text_under, Lent, Make};
+use library::{check, check_flat, check_listing, conflict, flat, page, read, read_flat, sheet, sheet_step, text_under, Lent, Make};
 use prng::Dice;
 use std::path::{Path, PathBuf};
 use std::{env, fs, process, thread};
@@ -15,12 +15,15 @@ use std::{env, fs, process, thread};
 const LISTING_BYTES: usize = 65_536;
 const CHECKED_NUMBERS: usize = 4_096;
 const LINE_BYTES: usize = 73;
+const LINES: usize = 64;
+const FIRST_LINE: usize = 258;
 // Room for the chart of 64 rules of 8 arguments and 200 characters.
 const CHART_BYTES: usize = 64 * 9 * 201 * 202 / 2;
 
 // The answers, as 4 * value + kind.
 const ONE: u64 = 1;
 const WRITTEN: u64 = 1;
+const ACCEPTED: u64 = 1; // of a flat text
 const CONFLICT: u64 = 1;
 const REFUSED: u64 = 3;
 
@@ -57,10 +60,37 @@ impl Areas {
             let answer = read(make, &mut book, &mut text, &mut chart, &mut listing);
             self.expect(&format!("read {}", name), expected, answer);
         }
+        self.expect_written(&chart, &listing, if expected % 4 == ONE { expected / 4 } else { place });
+    }
+
+    // Numbers are behind one another, and a 0 is none.
+    fn expect_written(&mut self, chart: &Lent, listing: &Lent, numbers: u64) {
         let stayed = chart.sides_stayed() && listing.sides_stayed();
         self.expect("the bytes beside what read was lent", 1, stayed as u64);
         let written = listing.contents().chunks(2).take_while(|number| number != &[0, 0]).count() as u64;
-        self.expect("the numbers that read wrote", if expected % 4 == ONE { expected / 4 } else { place }, written);
+        self.expect("the numbers that read wrote", numbers, written);
+    }
+
+    fn flat_text(&mut self, path: PathBuf) -> Lent {
+        let mut book = self.book(path);
+        let mut out = self.lend(&vec![0; LISTING_BYTES]);
+        let length = flat(Make::Number, &mut book, &mut out) / 4;
+        self.lend(&out.contents()[..length as usize])
+    }
+
+    // The same by the flat text of the book, which has so many lines and one of them at the root.
+    fn expect_flat_reading(&mut self, path: PathBuf, (lines, root): (u64, usize), length: usize, expected: u64, place: u64) {
+        let name = path.display().to_string();
+        let mut roots = [0; LINES];
+        roots[root - FIRST_LINE] = 1;
+        let (flat_text, roots, text) = (self.flat_text(path), self.lend(&roots), self.lend(&vec![b'a'; length]));
+        let mut areas = [flat_text, roots, text, self.lend(&vec![0; CHART_BYTES]), self.lend(&vec![0; LISTING_BYTES])];
+        for (make, lines, expected) in [(Make::Number, 4 * lines + ACCEPTED, expected), (Make::Place, 0, place)] {
+            self.expect(&format!("check_flat {}", name), lines, check_flat(make, &mut areas[0]));
+            self.expect(&format!("read_flat {}", name), expected, read_flat(make, &mut areas));
+        }
+        let [_, _, _, chart, listing] = &areas;
+        self.expect_written(chart, listing, if expected % 4 == ONE { expected / 4 } else { place });
     }
 
     // Two lines, each `length` times a, that have one reading each; and a step, behind whose line the second starts.
@@ -109,6 +139,9 @@ fn make_calls(books: &Path, others: &Path) -> usize {
     areas.expect_reading(books.join("ladder.book"), 200, 4 * 18_204 + ONE, 0);
     areas.expect_reading(books.join("deepest.book"), 200, 4 * 19_094 + ONE, 0);
     areas.expect_reading(books.join("power.book"), 0, 4 * 22 + REFUSED, LISTING_BYTES as u64 / 2);
+    areas.expect_flat_reading(books.join("ladder.book"), (63, 320), 200, 4 * 18_204 + ONE, 0);
+    areas.expect_flat_reading(books.join("deepest.book"), (64, 258), 200, 4 * 19_094 + ONE, 0);
+    areas.expect_flat_reading(books.join("power.book"), (32, 289), 0, 4 * 22 + REFUSED, LISTING_BYTES as u64 / 2);
     areas.expect_sheet(books.join("deepest.book"), 200);
     areas.expect_sheet(books.join("power.book"), 0);
     areas.expect_listing(others.join("loop.book"), b"", &[258], &[259]);

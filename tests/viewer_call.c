@@ -60,11 +60,12 @@ static void conflict(void) {
 
 /* ---- writing a character class grammar */
 
+static const char flat_t[] = "[\\48-\\57] -> [\\258]\n"
+                             "[\\258-\\260] [\\42] [\\258] -> [\\259]\n"
+                             "[\\258-\\260] [\\47] [\\258] -> [\\260]\n";
+
 static void flat(void) {
-    static const char wanted[] = "[\\48-\\57] -> [\\258]\n"
-                                 "[\\258-\\260] [\\42] [\\258] -> [\\259]\n"
-                                 "[\\258-\\260] [\\47] [\\258] -> [\\260]\n";
-    size_t length = strlen(wanted);
+    size_t length = strlen(flat_t);
     uint8_t out[200];
     memset(out, 0x5a, sizeof out);
     expect(meadowsink_flat(book_t, sizeof book_t, out, length - 1) == 4 * 21 + 3, "21: one byte short");
@@ -74,11 +75,11 @@ static void flat(void) {
     expect(meadowsink_flat_place(book_t, 5, out, sizeof out) == 5, "1: with their places");
     expect(untouched(out, 0, sizeof out, 0x5a), "a refusal changes nothing");
     expect(meadowsink_flat(book_t, sizeof book_t, out, sizeof out) == 4 * length + 1, "written");
-    expect(memcmp(out, wanted, length) == 0, "the text");
+    expect(memcmp(out, flat_t, length) == 0, "the text");
     expect(untouched(out, length, sizeof out, 0x5a), "bytes beyond the text stay");
     memset(out, 0x5a, sizeof out);
     expect(meadowsink_flat_place(book_t, sizeof book_t, out, sizeof out) == 0, "no place if written");
-    expect(memcmp(out, wanted, length) == 0 && untouched(out, length, sizeof out, 0x5a), "the call for the place writes, too");
+    expect(memcmp(out, flat_t, length) == 0 && untouched(out, length, sizeof out, 0x5a), "the call for the place writes, too");
 }
 
 /* ---- checking a listing */
@@ -162,6 +163,175 @@ static void read_place(void) {
     expect(memcmp(listing, wanted, 20) == 0 && untouched(listing, 20, sizeof listing, 0x5a), "the call for the place writes, too");
     expect(chart[0] == 1 && untouched(chart, 210, sizeof chart, 0xa5), "and fills the chart");
     expect(meadowsink_read_place(book_t, 5, (const uint8_t *)"8", 1, chart, sizeof chart, listing, sizeof listing) == 5, "1: the book's places");
+}
+
+/* ---- flat texts */
+
+/* A letter; and case (j): 8, or that or itself once more. */
+static const char letter[] = "[\\97] -> [\\258]\n", loops[] = "[\\56] -> [\\258]\n[\\258-\\259] -> [\\259]\n";
+
+static void expect_checked(const char *flat_text, size_t length, uint64_t answer, uint64_t place, const char *what) {
+    expect(meadowsink_check_flat((const uint8_t *)flat_text, length) == answer, what);
+    expect(meadowsink_check_flat_place((const uint8_t *)flat_text, length) == place, what);
+}
+
+static void check_flat(void) {
+    static const struct {
+        const char *flat_text;
+        uint64_t number, place;
+    } refusals[] = {
+        {"", 27, 0},
+        {"\n", 27, 0},
+        {"[\\48\\49]", 27, 5},                  /* 48 and 49 would be one range, and no number from 50 to 255 begins with 4 */
+        {"[\\48-\\48]", 27, 7},                 /* nor has a number from 49 to 255 the digits 48 first */
+        {"[\\048]", 27, 3},                     /* a zero in front */
+        {"[\\256]", 27, 4},                     /* no character and no number of a line */
+        {"[\\322]", 27, 4},
+        {"[\\97\\258]", 27, 7},                 /* a character, and 258 where only 255 is left */
+        {"[\\258\\97]", 27, 6},                 /* from 260 on each begins with 2 or 3 */
+        {"[\\255\\", 27, 5},                    /* nothing is above */
+        {"[\\255-", 27, 5},
+        {"[\\321-", 27, 5},
+        {"[]->", 27, 2},                        /* no space */
+        {"[] [] [] [] [] [] [] [] [", 27, 24},  /* a ninth argument */
+        {"-> [\\259]\n", 27, 7},                /* not the line's own number */
+        {"-> [\\258] \n", 27, 9},
+        {"-> [\\258]\n-> [\\258]\n", 27, 17},
+        {"-> [\\258]\n\n", 27, 10},             /* an empty line */
+        {"[\\259] -> [\\258]", 27, 16},         /* cut short, before 28 */
+        {"[\\259] -> [\\258]\n", 28, 259},
+        {"[\\321] -> [\\258]\n", 28, 321},
+        {"[\\258-\\321] -> [\\258]\n", 28, 259},
+        {"[] [\\300] [\\270] -> [\\258]\n", 28, 300},
+    };
+    expect_checked(letter, strlen(letter), 4 * 1 + 1, 0, "one line");
+    expect_checked(flat_t, strlen(flat_t), 4 * 3 + 1, 0, "the three lines of T");
+    for (size_t n = 0; n < strlen(letter); n++) expect_checked(letter, n, 4 * 27 + 3, n, "27: a line that is cut short");
+    for (size_t i = 0; i < sizeof refusals / sizeof refusals[0]; i++)
+        expect_checked(refusals[i].flat_text, strlen(refusals[i].flat_text), 4 * refusals[i].number + 3, refusals[i].place, refusals[i].flat_text);
+}
+
+/* Lines without arguments, ten bytes each. */
+static void count_lines(void) {
+    static char lines[65 * 10 + 1];
+    for (int r = 0; r < 65; r++) sprintf(lines + 10 * r, "-> [\\%d]\n", 258 + r);
+    expect_checked(lines, 64 * 10, 4 * 64 + 1, 0, "64 lines");
+    expect_checked(lines, 65 * 10, 4 * 27 + 3, 640, "27: a line too many");
+}
+
+typedef uint64_t FlatCall(const uint8_t *, size_t, const uint8_t *, size_t, const uint8_t *, size_t, uint8_t *, size_t, uint8_t *, size_t);
+
+static uint64_t call_flat(FlatCall *operation, const char *flat_text, const char *roots, size_t roots_length, const char *text) {
+    fill();
+    return operation((const uint8_t *)flat_text, strlen(flat_text), (const uint8_t *)roots, roots_length, (const uint8_t *)text, strlen(text), chart,
+                     sizeof chart, listing, sizeof listing);
+}
+
+/* For one line of one argument the chart has (1 + 1) * 2 * 3 / 2 bytes. */
+static void read_letter(FlatCall *operation, uint64_t one, const char *what) {
+    static const uint8_t entries[] = {1, 0, 1, 0, 1, 0}, numbers_of_a[] = {258 % 256, 258 / 256, 97, 0};
+    expect(call_flat(operation, letter, "\1", 1, "a") == one, what);
+    expect(memcmp(listing, numbers_of_a, 4) == 0 && untouched(listing, 4, sizeof listing, 0x5a), "the listing of a, and bytes beyond it");
+    expect(memcmp(chart, entries, 6) == 0 && untouched(chart, 6, sizeof chart, 0xa5), "the chart of a, and bytes beyond it");
+}
+
+static void read_flat(void) {
+    static uint8_t other[sizeof chart];
+    read_letter(meadowsink_read_flat, 4 * 2 + 1, "one, two numbers");
+    read_letter(meadowsink_read_flat_place, 0, "no place if one");
+    expect(call_flat(meadowsink_read_flat, letter, "\377", 1, "a") == 4 * 2 + 1, "any byte but 0 is yes");
+    expect(call_flat(meadowsink_read_flat, letter, "\0", 1, "a") == 0, "none: the line isn't allowed at the root");
+    expect(call_flat(meadowsink_read_flat, letter, "", 0, "a") == 0, "none: no line is");
+    expect(untouched(chart, 6, sizeof chart, 0xa5) && chart[4] == 1, "the chart is filled all the same");
+    expect(call_flat(meadowsink_read_flat, letter, "\1", 1, "b") == 0, "none: another letter");
+    expect(untouched(listing, 0, sizeof listing, 0x5a), "after none the listing stays");
+    expect(call_flat(meadowsink_read_flat, loops, "\1\1", 2, "8") == 2, "several, by a loop");
+    expect(untouched(listing, 0, sizeof listing, 0x5a), "after several the listing stays");
+    expect(call_flat(meadowsink_read_flat, loops, "\1", 1, "8") == 4 * 2 + 1, "one, if the loop isn't allowed at the root");
+    expect(call_flat(meadowsink_read_flat_place, loops, "\1\1", 2, "8") == 0, "no place if several");
+
+    expect(call("8/4*2", sizeof chart, sizeof listing) == 4 * 10 + 1, "by T: one");
+    memcpy(other, chart, sizeof chart);
+    expect(call_flat(meadowsink_read_flat, flat_t, "\1\1\1", 3, "8/4*2") == 4 * 10 + 1, "by its flat text: one");
+    uint8_t wanted[20];
+    list(wanted);
+    expect(memcmp(chart, other, sizeof chart) == 0, "the chart is that of the book");
+    expect(memcmp(listing, wanted, 20) == 0 && untouched(listing, 20, sizeof listing, 0x5a), "and so is the listing");
+}
+
+/* What is lent in each of these: a flat text, bytes for the root, a text, and so many bytes of the chart. */
+typedef struct {
+    const char *what, *flat_text, *roots;
+    size_t roots_length;
+    const char *text;
+    size_t chart_length;
+    uint64_t number, place;
+} FlatRefusal;
+
+static void expect_flat_refused(FlatRefusal r) {
+    const uint8_t *flat_text = (const uint8_t *)r.flat_text, *roots = (const uint8_t *)r.roots, *text = (const uint8_t *)r.text;
+    size_t length = strlen(r.flat_text), text_length = strlen(r.text);
+    fill();
+    expect(meadowsink_read_flat(flat_text, length, roots, r.roots_length, text, text_length, chart, r.chart_length, listing, 0) == 4 * r.number + 3, r.what);
+    expect(meadowsink_read_flat_place(flat_text, length, roots, r.roots_length, text, text_length, chart, r.chart_length, listing, 0) == r.place, r.what);
+    expect(untouched(chart, 0, sizeof chart, 0xa5) && untouched(listing, 0, sizeof listing, 0x5a), "a refusal changes nothing");
+}
+
+static void refuse_flat(void) {
+    static char overlong[202], many[65], few[64];
+    memset(overlong, 'a', 201);
+    many[0] = many[64] = 1;
+    few[0] = few[2] = few[63] = 1;
+    const FlatRefusal refusals[] = {
+        {"27: no flat text", "", "\1", 1, "a", 6, 27, 0},
+        {"27: two ranges that touch", "[\\48\\49] -> [\\258]\n", "\1", 1, "a", 6, 27, 5},
+        {"28: in a class", "[\\259] -> [\\258]\n", "\1", 1, "a", 6, 28, 259},
+        {"28: at the root", letter, "\1\1", 2, "a", 6, 28, 259},
+        {"28: the lowest at the root", letter, few, 64, "a", 6, 28, 260},
+        {"10: a text of 201 bytes", letter, "\1", 1, overlong, 6, 10, 201},
+        {"20: one byte short", letter, "\1", 1, "a", 5, 20, 6},
+        {"20: an entry behind the last is ignored", letter, many, 65, "a", 5, 20, 6},
+        /* two faults at once */
+        {"27 before 28", "[\\259] -> [\\258]", "\1\1", 2, "a", 6, 27, 16},
+        {"27 before 10", "-", "\1", 1, overlong, 6, 27, 1},
+        {"27 before 20", "-", "\1", 1, "a", 0, 27, 1},
+        {"28 in a class before the root", "[\\300] -> [\\258]\n", "\1\1", 2, "a", 6, 28, 300},
+        {"28 before 10", letter, "\1\1", 2, overlong, 6, 28, 259},
+        {"28 in a class before 10", "[\\259] -> [\\258]\n", "\1", 1, overlong, 6, 28, 259},
+        {"28 before 20", letter, "\1\1", 2, "a", 0, 28, 259},
+        {"10 before 20", letter, "\1", 1, overlong, 0, 10, 201},
+    };
+    for (size_t i = 0; i < sizeof refusals / sizeof refusals[0]; i++) expect_flat_refused(refusals[i]);
+}
+
+/* The listing of a has four bytes. */
+static void shorten_listing(void) {
+    const uint8_t *lent = (const uint8_t *)letter;
+    const uint8_t root = 1, a = 'a';
+    fill();
+    expect(meadowsink_read_flat(lent, strlen(letter), &root, 1, &a, 1, chart, 6, listing, 3) == 4 * 22 + 3, "22: three bytes");
+    expect(meadowsink_read_flat_place(lent, strlen(letter), &root, 1, &a, 1, chart, 6, listing, 3) == 1, "22: the place is how many numbers");
+    expect(listing[0] == 258 % 256 && listing[1] == 258 / 256 && untouched(listing, 2, sizeof listing, 0x5a), "22: the first number; the odd byte stays");
+    expect(chart[4] == 1 && untouched(chart, 6, sizeof chart, 0xa5), "22: the chart is filled");
+    expect(meadowsink_read_flat(lent, strlen(letter), &root, 1, &a, 1, chart, 6, listing, 4) == 4 * 2 + 1, "6 and an exact fit are enough");
+}
+
+/*
+ * Each line has eight arguments, all of the next line, but for the last of the first, which is the last line, and that has none: trees of 1, 9, 73, 585 and
+ * 4,681 numbers, and at the root 1 + 7 * 4,681 + 1, one too many for 65,536 bytes.
+ */
+static void exceed_listing(void) {
+    static char tower[5 * 66 + 10 + 1];
+    char *at = tower;
+    for (int r = 0; r < 5; r++) {
+        for (int i = 0; i < 8; i++) at += sprintf(at, "[\\%d] ", r == 0 && i == 7 ? 263 : 259 + r);
+        at += sprintf(at, "-> [\\%d]\n", 258 + r);
+    }
+    sprintf(at, "-> [\\263]\n");
+    expect(call_flat(meadowsink_read_flat, tower, "\1", 1, "") == 4 * 22 + 3, "22: 32,769 numbers");
+    expect(listing[65534] == 263 - 256 && listing[65535] == 1 && untouched(listing, 65536, sizeof listing, 0x5a), "22: no more than 65,536 bytes are used");
+    expect(call_flat(meadowsink_read_flat_place, tower, "\1", 1, "") == 32768, "22: 32,768 are written");
+    expect(call_flat(meadowsink_read_flat, tower, "\0\1", 2, "") == 4 * 4681 + 1, "one, 4,681 numbers");
 }
 
 /* ---- the page, and the text under a number */
@@ -303,6 +473,17 @@ static void empty_areas(void) {
     expect(meadowsink_text_under(empty_rule, sizeof empty_rule, NULL, 0, its_listing, 2, 0) == 0, "no part of no text");
     expect(meadowsink_sheet(empty_rule, sizeof empty_rule, NULL, 0, NULL, 0, NULL, 0) == 4 * 0 + 1, "no line of no sheet");
     expect(meadowsink_sheet_step(empty_rule, sizeof empty_rule, NULL, 0, 0, NULL, 0) == 0, "and no step");
+}
+
+static void empty_flat_areas(void) {
+    const uint8_t *empty_line = (const uint8_t *)"-> [\\258]\n";
+    const uint8_t root = 1;
+    expect(meadowsink_check_flat(NULL, 0) == 4 * 27 + 3 && meadowsink_check_flat_place(NULL, 0) == 0, "27: no flat text at all");
+    expect(meadowsink_read_flat(NULL, 0, NULL, 0, NULL, 0, NULL, 0, NULL, 0) == 4 * 27 + 3, "27: no flat text to read by");
+    expect(meadowsink_read_flat(empty_line, 10, NULL, 0, NULL, 0, NULL, 0, NULL, 0) == 4 * 20 + 3, "20: no chart by a flat text");
+    expect(meadowsink_read_flat_place(empty_line, 10, NULL, 0, NULL, 0, NULL, 0, NULL, 0) == 1, "20: its place");
+    expect(meadowsink_read_flat(empty_line, 10, NULL, 0, NULL, 0, chart, 1, NULL, 0) == 0, "no line at the root, no parse");
+    expect(meadowsink_read_flat(empty_line, 10, &root, 1, NULL, 0, chart, 1, NULL, 0) == 4 * 22 + 3, "22: no listing by a flat text");
 }
 
 /* T with its digits written downwards: each call gives what it gives with T, and writes the same bytes. */
@@ -449,6 +630,9 @@ static void shared_areas(void) {
     expect(meadowsink_check_listing(book_t, sizeof book_t, listing + 2, 1, listing, 4) == 0, "a text inside the listing");
     expect(meadowsink_page(book_t, sizeof book_t, listing + 2, 1, listing, 4, page, sizeof page) == 4 * 146 + 1, "its page");
     expect(meadowsink_text_under(book_t, sizeof book_t, listing + 2, 1, listing, 4, 1) == 256 * 0 + 1, "the text under its character");
+    const uint8_t *bracket = (const uint8_t *)"[\\91] -> [\\258]\n";
+    expect(meadowsink_read_flat(bracket, 16, bracket, 1, bracket, 1, chart, sizeof chart, listing, 4) == 4 * 2 + 1, "root and text inside the flat text");
+    expect(listing[0] == 2 && listing[1] == 1 && listing[2] == 91 && listing[3] == 0, "its listing");
 }
 
 int main(void) {
@@ -458,10 +642,17 @@ int main(void) {
     check_listing();
     read_text();
     read_place();
+    check_flat();
+    count_lines();
+    read_flat();
+    refuse_flat();
+    shorten_listing();
+    exceed_listing();
     write_page();
     text_under();
     refuse_page();
     empty_areas();
+    empty_flat_areas();
     downward_ranges();
     equal_rules();
     read_sheet();

@@ -1,10 +1,10 @@
-// Each call of the wrapper once: checks a book, writes its flat book, reads a line, checks the listing, writes its page, takes parts of the line, and reads it as
-// a sheet, at once and step by step.
+// Each call of the wrapper once: checks a book, writes its flat book, reads a line, checks the listing, writes its page, takes parts of the line, reads it by
+// the flat book alone, and reads it as a sheet, at once and step by step.
 //
 //     wrapper [BOOK [LINE]]    book T and the line 8/4*2 if nothing is said
 mod meadowsink;
 
-use meadowsink::{Answer, Conflict, Judgement, Step, Summary, Verdict, Written};
+use meadowsink::{Answer, Conflict, FlatVerdict, Judgement, Step, Summary, Verdict, Written, LINE_LIMIT};
 use std::ffi::OsString;
 use std::os::unix::ffi::OsStrExt;
 use std::{env, fs, process};
@@ -26,19 +26,54 @@ fn print_book(book: &[u8]) {
 }
 
 fn print_reading(book: &[u8], line: &[u8]) {
-    let mut chart = Vec::new();
-    match meadowsink::read(book, line, &mut chart) {
-        Answer::None => println!("readings: none"),
-        Answer::Several => println!("readings: several"),
-        Answer::Refused { number, place } => println!("readings: refused {number} {place}"),
+    let answer = meadowsink::read(book, line, &mut Vec::new());
+    print_answer("readings", &answer);
+    if let Answer::One(listing) = answer {
+        print_judgement(meadowsink::check_listing(book, line, &listing));
+        print_written("page", meadowsink::page(book, line, &listing));
+        print_parts(book, line, &listing);
+    }
+}
+
+fn print_answer(what: &str, answer: &Answer) {
+    match answer {
+        Answer::None => println!("{what}: none"),
+        Answer::Several => println!("{what}: several"),
+        Answer::Refused { number, place } => println!("{what}: refused {number} {place}"),
         Answer::One(listing) => {
             let words: Vec<String> = listing.iter().map(u16::to_string).collect();
-            println!("readings: one {}", words.join(" "));
-            print_judgement(meadowsink::check_listing(book, line, &listing));
-            print_written("page", meadowsink::page(book, line, &listing));
-            print_parts(book, line, &listing);
+            println!("{what}: one {}", words.join(" "));
         }
     }
+}
+
+// A book that is refused has no flat book. Without its last byte a flat book is cut short, and few have a line for each number that could be at the top.
+fn print_flat_reading(book: &[u8], line: &[u8]) {
+    let Written::Text(text) = meadowsink::flat(book) else { return };
+    let flat = text.as_bytes();
+    print_lines("lines of the flat book", meadowsink::check_flat(flat));
+    print_lines("without its last byte", meadowsink::check_flat(&flat[..flat.len() - 1]));
+    print_answer("readings by the flat book", &meadowsink::read_flat(flat, &roots(book), line, &mut Vec::new()));
+    print_answer("with each number at the top", &meadowsink::read_flat(flat, &[true; LINE_LIMIT], line, &mut Vec::new()));
+}
+
+fn print_lines(what: &str, verdict: FlatVerdict) {
+    match verdict {
+        FlatVerdict::Lines(lines) => println!("{what}: {lines}"),
+        FlatVerdict::Refused { number, place } => println!("{what}: refused {number} {place}"),
+    }
+}
+
+// The rules of the start sort of an accepted book: behind the counts of rules and classes each rule has a byte for its result, and then its arguments.
+fn roots(book: &[u8]) -> [bool; LINE_LIMIT] {
+    let (rules, classes, start) = (book[1] as usize, book[2] as usize, book[4]);
+    let mut roots = [false; LINE_LIMIT];
+    let mut at = 6 + rules + classes;
+    for rule in 0..rules {
+        roots[rule] = book[at] == start;
+        at += 1 + book[6 + rule] as usize;
+    }
+    roots
 }
 
 // Both parts are slices of the line, and are held at once.
@@ -89,5 +124,6 @@ fn main() {
     let line = words.get(1).map_or(LINE.as_bytes(), |line| line.as_bytes());
     print_book(&book);
     print_reading(&book, line);
+    print_flat_reading(&book, line);
     print_sheet(&book, line);
 }

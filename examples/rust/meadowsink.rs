@@ -25,6 +25,13 @@ pub enum Written {
     Refused { number: u64, place: u64 },
 }
 
+/// Whether a flat text is in the written form, and how many lines it has.
+#[derive(Debug, PartialEq)]
+pub enum FlatVerdict {
+    Lines(u64),
+    Refused { number: u64, place: u64 },
+}
+
 /// How many parses a text has, and the numbers of the only one.
 #[derive(Debug, PartialEq)]
 pub enum Answer {
@@ -71,11 +78,15 @@ const PAGE_SHORT: u64 = 24;
 const LISTING_BYTES: usize = 65_536; // the library writes no longer listing
 const TEXT_LIMIT: usize = 200; // nor does it read a longer text
 
+/// Lines of the longest flat text.
+pub const LINE_LIMIT: usize = 64;
+
 // ---- the calls in C, each by the slices it takes
 
 type OfBook = unsafe extern "C" fn(*const u8, usize) -> u64;
 type OfRules = unsafe extern "C" fn(*const u8, usize, usize, usize, usize) -> u64;
 type OfFlat = unsafe extern "C" fn(*const u8, usize, *mut u8, usize) -> u64;
+type OfFlatText = unsafe extern "C" fn(*const u8, usize, *const u8, usize, *const u8, usize, *mut u8, usize, *mut u8, usize) -> u64;
 type OfListing = unsafe extern "C" fn(*const u8, usize, *const u8, usize, *const u8, usize) -> u64;
 type OfPage = unsafe extern "C" fn(*const u8, usize, *const u8, usize, *const u8, usize, *mut u8, usize) -> u64;
 type OfStep = unsafe extern "C" fn(*const u8, usize, *const u8, usize, usize, *mut u8, usize) -> u64;
@@ -98,11 +109,20 @@ extern "C" {
     fn meadowsink_sheet_place(book: *const u8, n: usize, sheet: *const u8, s: usize, chart: *mut u8, c: usize, summary: *mut u8, m: usize) -> u64;
     fn meadowsink_sheet_step(book: *const u8, n: usize, sheet: *const u8, s: usize, start: usize, chart: *mut u8, c: usize) -> u64;
     fn meadowsink_sheet_step_place(book: *const u8, n: usize, sheet: *const u8, s: usize, start: usize, chart: *mut u8, c: usize) -> u64;
+    fn meadowsink_check_flat(flat: *const u8, n: usize) -> u64;
+    fn meadowsink_check_flat_place(flat: *const u8, n: usize) -> u64;
+    fn meadowsink_read_flat(
+        flat: *const u8, n: usize, roots: *const u8, r: usize, text: *const u8, t: usize, chart: *mut u8, c: usize, listing: *mut u8, l: usize,
+    ) -> u64;
+    fn meadowsink_read_flat_place(
+        flat: *const u8, n: usize, roots: *const u8, r: usize, text: *const u8, t: usize, chart: *mut u8, c: usize, listing: *mut u8, l: usize,
+    ) -> u64;
     fn meadowsink_text_under(book: *const u8, n: usize, text: *const u8, t: usize, listing: *const u8, l: usize, index: usize) -> u64;
 }
 
 // In each of these the pointers and lengths are those of slices that live during the call; those that are written are borrowed exclusively.
 
+// A book, or a flat text.
 fn call_book(operation: OfBook, book: &[u8]) -> u64 {
     unsafe { operation(book.as_ptr(), book.len()) }
 }
@@ -136,6 +156,11 @@ fn call_text(operation: OfText, book: &[u8], text: &[u8], chart: &mut [u8], list
     unsafe { operation(book.as_ptr(), book.len(), text.as_ptr(), text.len(), chart.as_mut_ptr(), chart.len(), listing.as_mut_ptr(), listing.len()) }
 }
 
+fn call_flat_text(operation: OfFlatText, [flat, roots, text]: [&[u8]; 3], chart: &mut [u8], listing: &mut [u8]) -> u64 {
+    let ((f, r, t), (c, l)) = ((flat.as_ptr(), roots.as_ptr(), text.as_ptr()), (chart.as_mut_ptr(), listing.as_mut_ptr()));
+    unsafe { operation(f, flat.len(), r, roots.len(), t, text.len(), c, chart.len(), l, listing.len()) }
+}
+
 // ---- the operations
 
 /// Checks a book.
@@ -162,19 +187,8 @@ pub fn flat(book: &[u8]) -> Written {
 
 /// Parses a text. The chart is room to work in: it may be empty at first, grows as needed, and may be lent again.
 pub fn read(book: &[u8], text: &[u8], chart: &mut Vec<u8>) -> Answer {
-    let mut listing = vec![0; LISTING_BYTES];
-    let mut result = split(call_text(meadowsink_read, book, text, chart, &mut listing));
-    if result == (3, CHART_SHORT) {
-        let needed = call_text(meadowsink_read_place, book, text, chart, &mut listing);
-        chart.resize(needed as usize, 0);
-        result = split(call_text(meadowsink_read, book, text, chart, &mut listing));
-    }
-    match result {
-        (0, _) => Answer::None,
-        (1, length) => Answer::One(listing.chunks_exact(2).take(length as usize).map(|n| u16::from_le_bytes([n[0], n[1]])).collect()),
-        (2, _) => Answer::Several,
-        (_, number) => Answer::Refused { number, place: call_text(meadowsink_read_place, book, text, chart, &mut listing) },
-    }
+    let answer = |chart: &mut [u8], listing: &mut [u8]| call_text(meadowsink_read, book, text, chart, listing);
+    parse(chart, answer, |chart, listing| call_text(meadowsink_read_place, book, text, chart, listing))
 }
 
 /// Checks whether numbers are the listing of a parse of a text.
@@ -198,6 +212,24 @@ pub fn page(book: &[u8], text: &[u8], listing: &[u16]) -> Written {
 pub fn text_under<'a>(book: &[u8], text: &'a [u8], listing: &[u16], index: usize) -> &'a [u8] {
     let places = call_number(book, text, &to_bytes(listing), index) as usize;
     &text[places / 256..places % 256]
+}
+
+// ---- flat texts
+
+/// Checks a flat text: a character class grammar in the form in which `flat` writes it.
+pub fn check_flat(flat: &[u8]) -> FlatVerdict {
+    match split(call_book(meadowsink_check_flat, flat)) {
+        (1, lines) => FlatVerdict::Lines(lines),
+        (_, number) => FlatVerdict::Refused { number, place: call_book(meadowsink_check_flat_place, flat) },
+    }
+}
+
+/// Parses a text by a flat text alone. The roots say of each of its lines whether it is allowed at the root. The chart is room to work in, as for `read`.
+pub fn read_flat(flat: &[u8], roots: &[bool; LINE_LIMIT], text: &[u8], chart: &mut Vec<u8>) -> Answer {
+    let bytes = roots.map(u8::from);
+    let lent = [flat, &bytes, text];
+    let answer = |chart: &mut [u8], listing: &mut [u8]| call_flat_text(meadowsink_read_flat, lent, chart, listing);
+    parse(chart, answer, |chart, listing| call_flat_text(meadowsink_read_flat_place, lent, chart, listing))
 }
 
 // ---- sheets
@@ -283,6 +315,23 @@ fn write(short: u64, answer: impl Fn(&mut [u8]) -> u64, place: impl Fn(&mut [u8]
     let (_, length) = split(answer(&mut out));
     out.truncate(length as usize);
     Written::Text(String::from_utf8_lossy(&out).into_owned())
+}
+
+// A chart that is too short is refused by a number of its own, whose place is how many bytes are needed.
+fn parse(chart: &mut Vec<u8>, answer: impl Fn(&mut [u8], &mut [u8]) -> u64, place: impl Fn(&mut [u8], &mut [u8]) -> u64) -> Answer {
+    let mut listing = vec![0; LISTING_BYTES];
+    let mut result = split(answer(chart, &mut listing));
+    if result == (3, CHART_SHORT) {
+        let needed = place(chart, &mut listing);
+        chart.resize(needed as usize, 0);
+        result = split(answer(chart, &mut listing));
+    }
+    match result {
+        (0, _) => Answer::None,
+        (1, length) => Answer::One(listing.chunks_exact(2).take(length as usize).map(|n| u16::from_le_bytes([n[0], n[1]])).collect()),
+        (2, _) => Answer::Several,
+        (_, number) => Answer::Refused { number, place: place(chart, &mut listing) },
+    }
 }
 
 // The kind and the value of a result.

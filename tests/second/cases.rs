@@ -151,7 +151,7 @@ pub fn make(dice: &mut Dice) -> Case {
 }
 
 /// A chart exactly long enough, one too short, longer, or of any length.
-pub fn chart_length(dice: &mut Dice, study: &Study) -> usize {
+pub fn chart_length<B>(dice: &mut Dice, study: &Study<B>) -> usize {
     let need = if study.book.is_err() || study.text.len() > 200 { dice.below(300) } else { study.need };
     match dice.below(16) {
         0 => need.saturating_sub(1),
@@ -162,7 +162,7 @@ pub fn chart_length(dice: &mut Dice, study: &Study) -> usize {
 }
 
 /// A listing buffer exactly long enough, short by one byte or two, odd, empty or longer.
-pub fn listing_length(dice: &mut Dice, study: &Study) -> usize {
+pub fn listing_length<B>(dice: &mut Dice, study: &Study<B>) -> usize {
     let exact = match &study.listing {
         Some(only) => 2 * only.numbers.len(),
         None => dice.below(60),

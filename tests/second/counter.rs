@@ -4,8 +4,11 @@
 //! items derive anything at all (the least fixed point of the booleans). Then Tarjan's search goes over the items that
 //! do, along "is made from": a component with a cycle has endlessly many lists, and everything made from it too; every
 //! other item is counted exactly from items already counted. No chart is filled in any order of columns.
+//!
+//! Rules come as the lines of a flat book: that of a book, or one that is given as text (request [7] of 02).
 
-use crate::book::{Argument, Book};
+use crate::book::Book;
+use crate::flat::{lines_in, Rooted};
 
 /// Endlessly many, or too many for the type.
 pub const ENDLESS: u64 = u64::MAX;
@@ -27,13 +30,23 @@ pub struct Layout {
 
 impl Layout {
     pub fn new(book: &Book, length: usize) -> Layout {
+        Layout::of_counts(book.rules.iter().map(|rule| rule.arguments.len()), length)
+    }
+
+    /// For rules with so many arguments.
+    pub fn of_counts(counts: impl Iterator<Item = usize>, length: usize) -> Layout {
         let mut rows = vec![];
         let mut all_rows = 0;
-        for rule in &book.rules {
+        for count in counts {
             rows.push(all_rows);
-            all_rows += rule.arguments.len() + 1;
+            all_rows += count + 1;
         }
         Layout { length, rows, all_rows }
+    }
+
+    /// For the lines of a flat book.
+    pub fn of_lines(lines: &Rooted, length: usize) -> Layout {
+        Layout::of_counts(lines.flat.lines.iter().map(|arguments| arguments.len()), length)
     }
 
     fn spans(&self) -> usize {
@@ -52,7 +65,7 @@ impl Layout {
 }
 
 pub struct Counter<'a> {
-    pub book: &'a Book,
+    pub lines: &'a Rooted,
     pub text: &'a [u8],
     pub layout: Layout,
     /// For each rule and argument, the rules that may stand there.
@@ -71,13 +84,11 @@ struct Agenda {
 }
 
 impl<'a> Counter<'a> {
-    pub fn new(book: &'a Book, text: &'a [u8]) -> Counter<'a> {
-        let layout = Layout::new(book, text.len());
+    pub fn new(lines: &'a Rooted, text: &'a [u8]) -> Counter<'a> {
+        let layout = Layout::of_lines(lines, text.len());
         let need = layout.need();
-        let allowed = (0..book.rules.len())
-            .map(|r| (0..book.count(r)).map(|at| book.allowed(r, at)).collect())
-            .collect();
-        let mut counter = Counter { book, text, layout, allowed, lives: vec![false; need], counts: vec![0; need] };
+        let allowed = lines.flat.lines.iter().map(|sets| sets.iter().map(|set| lines_in(set)).collect()).collect();
+        let mut counter = Counter { lines, text, layout, allowed, lives: vec![false; need], counts: vec![0; need] };
         counter.find_living();
         counter.counts = crate::loops::count_all(&counter);
         counter
@@ -91,22 +102,26 @@ impl<'a> Counter<'a> {
         self.counts[self.layout.place(item)]
     }
 
+    pub fn rules(&self) -> usize {
+        self.lines.flat.lines.len()
+    }
+
     /// The rule with all its arguments over a span.
     pub fn whole(&self, rule: usize, start: usize, end: usize) -> Item {
-        Item { rule, dots: self.book.count(rule), start, end }
+        Item { rule, dots: self.lines.flat.count(rule), start, end }
     }
 
     fn find_living(&mut self) {
         let width = self.text.len() + 1;
         let mut agenda =
             Agenda { open: vec![], trees_from: vec![vec![]; width], waiting_at: vec![vec![]; width] };
-        for rule in 0..self.book.rules.len() {
+        for rule in 0..self.rules() {
             for at in 0..width {
                 self.wake(Item { rule, dots: 0, start: at, end: at }, &mut agenda);
             }
         }
         while let Some(item) = agenda.open.pop() {
-            if item.dots == self.book.count(item.rule) {
+            if item.dots == self.lines.flat.count(item.rule) {
                 self.tree_found(item, &mut agenda);
             } else {
                 self.argument_due(item, &mut agenda);
@@ -135,10 +150,10 @@ impl<'a> Counter<'a> {
 
     /// An item short of an argument takes a character, or every tree already known there, and waits for more.
     fn argument_due(&mut self, item: Item, agenda: &mut Agenda) {
-        if let Argument::Class(_) = self.book.rules[item.rule].arguments[item.dots] {
-            if self.character_fits(item.rule, item.dots, item.end, item.end + 1) {
-                self.wake(Item { dots: item.dots + 1, end: item.end + 1, ..item }, agenda);
-            }
+        if self.character_fits(item.rule, item.dots, item.end, item.end + 1) {
+            self.wake(Item { dots: item.dots + 1, end: item.end + 1, ..item }, agenda);
+        }
+        if self.allowed[item.rule][item.dots].is_empty() {
             return;
         }
         agenda.waiting_at[item.end].push(item);
@@ -151,16 +166,11 @@ impl<'a> Counter<'a> {
     }
 
     fn character_fits(&self, rule: usize, at: usize, start: usize, end: usize) -> bool {
-        match self.book.rules[rule].arguments[at] {
-            Argument::Class(k) => {
-                end == start + 1 && start < self.text.len() && self.book.classes[k][self.text[start] as usize]
-            }
-            Argument::Sort(_) => false,
-        }
+        end == start + 1 && start < self.text.len() && self.lines.flat.lines[rule][at][self.text[start] as usize]
     }
 
     /// The ways to make an item with a dot: what stands before the last argument, and the living trees that the last
-    /// argument may be (none listed if it is a character).
+    /// argument may be (none listed if it is a character; no class has both characters and rules).
     pub fn ways(&self, item: Item) -> Vec<(Item, Vec<Item>)> {
         let mut ways = vec![];
         let last = item.dots - 1;
@@ -185,15 +195,12 @@ impl<'a> Counter<'a> {
         ways
     }
 
-    /// How many readings: a rule of the start sort over the whole text.
+    /// How many readings: a rule that may stand at the root over the whole text.
     pub fn readings(&self) -> u64 {
         self.starts().iter().fold(0, |sum, &t| sum.saturating_add(self.count(t)))
     }
 
     pub fn starts(&self) -> Vec<Item> {
-        (0..self.book.rules.len())
-            .filter(|&r| self.book.rules[r].result == self.book.start)
-            .map(|r| self.whole(r, 0, self.text.len()))
-            .collect()
+        self.lines.roots.iter().map(|&r| self.whole(r, 0, self.text.len())).collect()
     }
 }

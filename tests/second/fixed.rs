@@ -9,7 +9,7 @@ use crate::prng::Dice;
 use crate::reading::{Answer, Study};
 use crate::tally::Tally;
 use crate::tries::listings;
-use crate::{groups, others, turned};
+use crate::{flat_cases, groups, others, turned};
 
 /// Book T of document 01 with these declarations.
 pub fn book_t(declarations: &[[u8; 3]]) -> Vec<u8> {
@@ -135,7 +135,8 @@ fn whole_case(book: &[u8], text: &[u8], dice: &mut Dice, tally: &mut Tally) -> R
     let study = Study::new(book, text);
     crate::all_calls(&case, &study, dice, tally)?;
     groups::same_answers(&case, &study, "fixed, spelled", dice, tally)?;
-    turned::same_answers(&case, &study, "fixed, turned", dice, tally)
+    turned::same_answers(&case, &study, "fixed, turned", dice, tally)?;
+    flat_cases::of_book(&case, &study, "fixed, own flat", dice, tally)
 }
 
 /// (k), and listing buffers of every small size.
@@ -297,6 +298,8 @@ pub fn run(tally: &mut Tally) -> Result<(), Mismatch> {
     crate::fixed_steps::run(&mut dice, tally)?;
     crate::fixed_numerals::run(&mut dice, tally)?;
     crate::fixed_passing::run(&mut dice, tally)?;
+    crate::fixed_forms::run(&mut dice, tally)?;
+    crate::fixed_flat_reads::run(&mut dice, tally)?;
     damaged(&book_t(&[[2, 1, 1], [1, 1, 2]]), &mut dice, tally)?;
     damaged(&book_t(&[[5, 1, 2], [7, 2, 2]]), &mut dice, tally)
 }

@@ -2,17 +2,35 @@
 
 use crate::book::{Argument, Book, FIRST_RULE};
 
+/// The number of the first rule.
+pub const RULES: usize = FIRST_RULE as usize;
 /// Numbers run from 0 (a character) to 258 + 63 (a rule).
-const NUMBERS: usize = FIRST_RULE as usize + 64;
+pub const NUMBERS: usize = RULES + 64;
+
+/// For each number, whether it is in a class.
+pub type Set = Vec<bool>;
+
+/// The lines of a flat book: for each argument the numbers that may stand there.
+#[derive(Clone, PartialEq, Eq, Debug)]
+pub struct Flat {
+    pub lines: Vec<Vec<Set>>,
+}
+
+/// A flat book, and the lines that may stand at the root, lowest first.
+#[derive(Clone, PartialEq, Eq, Debug)]
+pub struct Rooted {
+    pub flat: Flat,
+    pub roots: Vec<usize>,
+}
 
 /// The numbers due at an argument: the class's characters, or the rules of the sort that do not clash there.
-pub fn due(book: &Book, rule: usize, at: usize) -> Vec<bool> {
+pub fn due(book: &Book, rule: usize, at: usize) -> Set {
     let mut set = vec![false; NUMBERS];
     match book.rules[rule].arguments[at] {
         Argument::Class(k) => set[..256].copy_from_slice(&book.classes[k]),
         Argument::Sort(_) => {
             for q in book.allowed(rule, at) {
-                set[FIRST_RULE as usize + q] = true;
+                set[RULES + q] = true;
             }
         }
     }
@@ -38,15 +56,45 @@ fn class_text(set: &[bool]) -> String {
     text + "]"
 }
 
-/// The whole text, a line to each rule.
-pub fn text(book: &Book) -> Vec<u8> {
-    let mut out = String::new();
-    for rule in 0..book.rules.len() {
-        for at in 0..book.count(rule) {
-            out += &class_text(&due(book, rule, at));
-            out += " ";
-        }
-        out += &format!("-> [\\{}]\n", FIRST_RULE as usize + rule);
+/// The lines whose numbers are in a set.
+pub fn lines_in(set: &[bool]) -> Vec<usize> {
+    (RULES..NUMBERS).filter(|&n| set[n]).map(|n| n - RULES).collect()
+}
+
+/// One line of the text.
+pub fn line_text(line: usize, arguments: &[Set]) -> String {
+    let classes: String = arguments.iter().map(|set| class_text(set) + " ").collect();
+    format!("{classes}-> [\\{}]\n", RULES + line)
+}
+
+impl Flat {
+    /// The flat book of a book.
+    pub fn of(book: &Book) -> Flat {
+        let line = |rule: usize| (0..book.count(rule)).map(|at| due(book, rule, at)).collect();
+        Flat { lines: (0..book.rules.len()).map(line).collect() }
     }
-    out.into_bytes()
+
+    /// How many arguments a line has.
+    pub fn count(&self, line: usize) -> usize {
+        self.lines[line].len()
+    }
+
+    /// The whole text.
+    pub fn text(&self) -> Vec<u8> {
+        let lines = self.lines.iter().enumerate();
+        lines.map(|(line, arguments)| line_text(line, arguments)).collect::<String>().into_bytes()
+    }
+}
+
+impl Rooted {
+    /// The flat book of a book, with the rules of the start sort.
+    pub fn of(book: &Book) -> Rooted {
+        let is_root = |&rule: &usize| book.rules[rule].result == book.start;
+        Rooted { flat: Flat::of(book), roots: (0..book.rules.len()).filter(is_root).collect() }
+    }
+}
+
+/// The text of a book's flat book.
+pub fn text(book: &Book) -> Vec<u8> {
+    Flat::of(book).text()
 }

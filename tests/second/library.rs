@@ -20,6 +20,14 @@ extern "C" {
     fn meadowsink_sheet_place(b: *const u8, bn: usize, s: *const u8, sn: usize, c: *mut u8, cn: usize, m: *mut u8, mn: usize) -> u64;
     fn meadowsink_sheet_step(b: *const u8, bn: usize, s: *const u8, sn: usize, start: usize, c: *mut u8, cn: usize) -> u64;
     fn meadowsink_sheet_step_place(b: *const u8, bn: usize, s: *const u8, sn: usize, start: usize, c: *mut u8, cn: usize) -> u64;
+    fn meadowsink_check_flat(f: *const u8, fl: usize) -> u64;
+    fn meadowsink_check_flat_place(f: *const u8, fl: usize) -> u64;
+    fn meadowsink_read_flat(
+        f: *const u8, fl: usize, r: *const u8, rn: usize, t: *const u8, tn: usize, c: *mut u8, cn: usize, l: *mut u8, ln: usize,
+    ) -> u64;
+    fn meadowsink_read_flat_place(
+        f: *const u8, fl: usize, r: *const u8, rn: usize, t: *const u8, tn: usize, c: *mut u8, cn: usize, l: *mut u8, ln: usize,
+    ) -> u64;
 }
 
 /// Each call but the text under a number comes in two makes: one gives the number, the other the place.
@@ -133,5 +141,23 @@ pub fn sheet_step(make: Make, book: &mut Lent, sheet: &mut Lent, start: usize, c
     match make {
         Make::Number => unsafe { meadowsink_sheet_step(b, bn, s, sn, start, c, cn) },
         Make::Place => unsafe { meadowsink_sheet_step_place(b, bn, s, sn, start, c, cn) },
+    }
+}
+
+pub fn check_flat(make: Make, flat: &mut Lent) -> u64 {
+    let length = flat.length;
+    match make {
+        Make::Number => unsafe { meadowsink_check_flat(flat.lent(), length) },
+        Make::Place => unsafe { meadowsink_check_flat_place(flat.lent(), length) },
+    }
+}
+
+/// The reading by a flat text. What it is lent: flat text, roots, text, chart and listing, of which the last two are written.
+pub fn read_flat(make: Make, [flat, roots, text, chart, listing]: &mut [Lent; 5]) -> u64 {
+    let (fl, rn, tn, cn, ln) = (flat.length, roots.length, text.length, chart.length, listing.length);
+    let (f, r, t, c, l) = (flat.lent(), roots.lent(), text.lent(), chart.lent(), listing.lent());
+    match make {
+        Make::Number => unsafe { meadowsink_read_flat(f, fl, r, rn, t, tn, c, cn, l, ln) },
+        Make::Place => unsafe { meadowsink_read_flat_place(f, fl, r, rn, t, tn, c, cn, l, ln) },
     }
 }

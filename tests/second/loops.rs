@@ -35,8 +35,8 @@ pub fn count_all(counter: &Counter) -> Vec<u64> {
         frames: vec![],
         clock: 0,
     };
-    for rule in 0..counter.book.rules.len() {
-        for dots in 0..=counter.book.count(rule) {
+    for rule in 0..counter.rules() {
+        for dots in 0..=counter.lines.flat.count(rule) {
             search.all_spans(rule, dots);
         }
     }

@@ -9,7 +9,9 @@
 //! is also compared with the same book with some of its ranges turned round, or all of them. Sheets are compared whole and
 //! line by line: the count of lines, every byte of chart and summary, a walker's steps from line to line and from any start,
 //! and each line read alone. Of every two readings of a small case it is seen where their listings part. Each numeral that the
-//! library writes is read in base ten. Classes are tried with all 256 bytes, each alone as a text.
+//! library writes is read in base ten. Classes are tried with all 256 bytes, each alone as a text. Flat texts, whole and
+//! damaged, are checked, and texts are read by them with some lines allowed at the root; the text of each accepted book is read
+//! a second time by the flat text that the library writes for the book.
 //!
 //! The proved parser fills a chart by columns with counts that stop at 2. This program has neither a column nor a chart
 //! that is filled in order. It has two other methods, checked against each other on all small cases:
@@ -17,7 +19,9 @@
 //!   counter.rs  finds which items derive anything with an agenda, finds loops as strongly connected components
 //!               (endlessly many), and counts the rest exactly.
 //! Ranks are closed by depth-first search, clashes and equal rules come in two forms, listings are checked with a stack, and
-//! pages are made from trees that are put together from the last number to the first.
+//! pages are made from trees that are put together from the last number to the first. The written form of a flat text is judged
+//! by all words that may come next, numerals of every number among them, and again by writing its lines anew and by trying
+//! tails; readings by flat texts are counted by counter.rs, and again by the heights of trees.
 //!
 //! It was written from the papers alone, without reading the library's sources.
 //!
@@ -42,6 +46,8 @@ mod fixed;
 mod fixed_clashes;
 mod fixed_equal;
 mod fixed_equal_calls;
+mod fixed_flat_reads;
+mod fixed_forms;
 mod fixed_groups;
 mod fixed_limits;
 mod fixed_numerals;
@@ -53,6 +59,15 @@ mod fixed_steps;
 mod fixed_turned;
 mod fixed_twins;
 mod flat;
+mod flat_calls;
+mod flat_cases;
+mod flat_damage;
+mod flat_form;
+mod flat_heights;
+mod flat_lines;
+mod flat_notes;
+mod flat_plans;
+mod flat_tails;
 mod group_plans;
 mod groups;
 mod library;
@@ -101,7 +116,8 @@ pub fn all_calls(case: &Case, study: &Study, dice: &mut Dice, tally: &mut Tally)
     tries::listings(case, study, dice, tally)
 }
 
-/// One random case, its book with the groups spelled out, and with ranges turned round, a sheet, and a class of the book.
+/// One random case, its book with the groups spelled out, and with ranges turned round, a sheet, a class of the book, its own
+/// flat text; and a flat text to check and another to read by, which have nothing to do with the book.
 /// Groups, downward ranges and equal or nearly equal rules are counted here alone, so that random books must have them whatever
 /// the fixed ones have.
 fn random_case(case: &Case, dice: &mut Dice, tally: &mut Tally) -> Result<(), Mismatch> {
@@ -113,7 +129,10 @@ fn random_case(case: &Case, dice: &mut Dice, tally: &mut Tally) -> Result<(), Mi
     groups::same_answers(case, &study, "spelled out", dice, tally)?;
     turned::same_answers(case, &study, "turned", dice, tally)?;
     sheet_cases::perhaps(case, &study, dice, tally)?;
-    passing::perhaps(case, &study, dice, tally)
+    passing::perhaps(case, &study, dice, tally)?;
+    flat_cases::perhaps_of_book(case, &study, dice, tally)?;
+    flat_cases::form(dice, tally)?;
+    flat_cases::reading(dice, tally)
 }
 
 fn decimals(bytes: &[u8]) -> String {

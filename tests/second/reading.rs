@@ -1,7 +1,9 @@
-//! What 01 says of reading a text: the answer, and every byte of the lent chart and listing buffer afterwards.
+//! What 01 says of reading a text, by a book or (request [7] of 02) by a flat text: the answer, and every byte of the lent
+//! chart and listing buffer afterwards.
 
 use crate::book::{read_book, Book, Refusal};
 use crate::counter::{Counter, Layout};
+use crate::flat::Rooted;
 use crate::unfold::{unfold, Listing};
 
 /// The viewer's call uses at most this many bytes of the listing buffer.
@@ -43,9 +45,9 @@ impl Answer {
     }
 }
 
-/// A book and a text, worked through once; the lent buffers come later.
-pub struct Study {
-    pub book: Result<Book, Refusal>,
+/// A book and a text, worked through once; the lent buffers come later. The lines of a flat text may stand for the book.
+pub struct Study<B = Book> {
+    pub book: Result<B, Refusal>,
     pub text: Vec<u8>,
     /// Bytes that the chart needs (0 if the book is refused).
     pub need: usize,
@@ -64,28 +66,43 @@ pub struct Outcome {
 
 impl Study {
     pub fn new(bytes: &[u8], text: &[u8]) -> Study {
-        let mut study = Study {
-            book: read_book(bytes),
-            text: text.to_vec(),
-            need: 0,
-            counts: vec![],
-            readings: 0,
-            listing: None,
-        };
-        let Ok(book) = &study.book else {
-            return study;
-        };
-        study.need = Layout::new(book, text.len()).need();
-        if text.len() > 200 {
-            return study;
+        let book = read_book(bytes);
+        let lines = book.as_ref().ok().map(Rooted::of);
+        let mut study = Study::begun(book, text);
+        if let Some(lines) = lines {
+            study.work(&lines);
         }
-        let counter = Counter::new(book, text);
-        study.readings = counter.readings();
-        if study.readings == 1 {
-            study.listing = Some(unfold(&counter, MOST_LISTING / 2));
-        }
-        study.counts = counter.counts;
         study
+    }
+}
+
+impl Study<Rooted> {
+    /// By the lines of a flat text.
+    pub fn by_flat(lines: Result<Rooted, Refusal>, text: &[u8]) -> Study<Rooted> {
+        let mut study = Study::begun(lines.clone(), text);
+        if let Ok(lines) = &lines {
+            study.work(lines);
+        }
+        study
+    }
+}
+
+impl<B> Study<B> {
+    fn begun(book: Result<B, Refusal>, text: &[u8]) -> Study<B> {
+        Study { book, text: text.to_vec(), need: 0, counts: vec![], readings: 0, listing: None }
+    }
+
+    fn work(&mut self, lines: &Rooted) {
+        self.need = Layout::of_lines(lines, self.text.len()).need();
+        if self.text.len() > 200 {
+            return;
+        }
+        let counter = Counter::new(lines, &self.text);
+        self.readings = counter.readings();
+        if self.readings == 1 {
+            self.listing = Some(unfold(&counter, MOST_LISTING / 2));
+        }
+        self.counts = counter.counts;
     }
 
     fn refusal(&self, chart_length: usize) -> Option<Refusal> {

@@ -104,6 +104,29 @@ fn of_constants() -> Vec<(&'static str, Vec<String>)> {
     ]
 }
 
+/// Kinds of flat texts, of places in them, and of readings by them.
+fn of_flat_texts() -> Vec<(&'static str, Vec<String>)> {
+    vec![
+        ("check_flat", words(&["accepted"])),
+        ("check_flat", refusals(&[27, 28])),
+        ("27 at", words(&["cut short", "a 65th line", "a ninth argument", "a first digit", "a later digit", "a backslash"])),
+        ("27 at", words(&["a dash", "the end behind a numeral", "a bracket", "a feed", "a space", "another byte"])),
+        ("27 at", words(&["places found with tails"])),
+        ("28 at", words(&["the next line", "a later line"])),
+        ("form with", words(&["one line", "64 lines", "no argument", "8 arguments", "an empty class", "128 ranges"])),
+        ("form with", words(&["all characters", "character 0", "character 255", "number 321", "damage that leaves it one"])),
+        ("read_flat", words(&["none", "one", "several"])),
+        ("read_flat", refusals(&[27, 28, 10, 20, 22])),
+        ("read_flat with", words(&["endlessly many readings", "one reading beside a loop", "no line at the root"])),
+        ("read_flat with", words(&["every line at the root", "fewer entries than lines", "bytes behind the entries"])),
+        ("read_flat with", words(&["an empty class", "no argument", "equal lines", "64 lines", "an empty text"])),
+        ("flat order", words(&["27, with 28, 10 and 20", "28 twice, with 10 and 20", "28 by text and root"])),
+        ("flat order", words(&["28 by root, with 10 and 20", "28 by root", "10, with 20"])),
+        ("flat of a book", words(&["none", "one", "several"])),
+        ("flat of a book", refusals(&[10, 20, 22])),
+    ]
+}
+
 pub struct Tally {
     met: BTreeMap<(&'static str, String), u64>,
     /// Are the fixed cases done? Numerals of random cases are counted by themselves.
@@ -158,7 +181,7 @@ impl Tally {
 
     /// Every kind of answer that a long run must meet.
     fn wanted() -> Vec<(&'static str, String)> {
-        let lists = [of_calls(), of_books(), of_equal_rules(), of_sheets(), of_constants()];
+        let lists = [of_calls(), of_books(), of_equal_rules(), of_sheets(), of_constants(), of_flat_texts()];
         lists.into_iter().flatten().flat_map(|(call, kinds)| kinds.into_iter().map(move |k| (call, k))).collect()
     }
 
