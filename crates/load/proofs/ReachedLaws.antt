@@ -1,14 +1,12 @@
 -- A text byte by byte: where it is, and where it stops.
 use Prim.Native.Nat.{ℕ, suc, _+_, _≤_, _<_}
-use mathlib.Core.Bool.{false, true, true≢false}
+use mathlib.Core.Bool.{false, true}
 use mathlib.Core.List.{List}
 use mathlib.Core.Logic.{inl, inr}
 use mathlib.Core.Path.{_≡_, refl, sym, _∙_, ap, subst⁻¹}
 use native.Mathlib.Omega.{arith}
-use lib.Dec.{leb}
 use lib.ListN.{length, getD, take}
 use lib.Seq.{take-suc, take-all}
-use borrow.Author.Tests.{leb-true, leb-false, lt-leb}
 use Rattle.common.proofs.BoolLaws.{true-or-false}
 use Rattle.common.specs.Zeros.{AllZero}
 use Rattle.form.proofs.FormLaws.{end-says, longest-at, longest-all, off-form, open-form}
@@ -21,23 +19,9 @@ use Rattle.form.specs.declared.State.{State}
 use Rattle.grammar.specs.Limits.{productionLimit}
 use Rattle.load.proofs.HeldLaws.{held-step, held-nothing}
 use Rattle.load.specs.Check.{NotInForm}
-use Rattle.load.specs.Held.{goesOnAt, Noted, Reached, stopAnswer, LinesRead}
-use Rattle.load.specs.declared.FlatAnswer.the-variants.{Lines}
+use Rattle.load.specs.Held.{Noted, Reached, endAnswer, LinesRead}
+use Rattle.load.specs.declared.FlatAnswer.the-variants.{Lines, Refused}
 use Rattle.tables.specs.Layout.{tableWords}
-
--- ---- the test
-
-pub at-within : (text : List ℕ) (i : ℕ) (s : State) → goesOnAt text i s ≡ true → (i < length text) × (goesOn (step s (getD text i 0) .spot) ≡ true)
-unfolding goesOnAt
-at-within text i s e =
-    elim (true-or-false (leb (length text) i)) [
-      | inl past ↦ absurd (true≢false (sym (rw past at e)))
-      | inr before ↦ (leb-false (length text) i before, rw before at e)
-    ]
-
-at-off : (text : List ℕ) (i : ℕ) (s : State) → i < length text → goesOnAt text i s ≡ false → goesOn (step s (getD text i 0) .spot) ≡ false
-unfolding goesOnAt
-at-off text i s l e = rw (lt-leb (length text) i l) at e
 
 -- ---- the bytes
 
@@ -52,10 +36,9 @@ unfolding steps goesOn
 reached-none text t c zero many =
     record { within = omega arith; state = refl; on = refl; memory = nothing; told = told-nothing; held = held-nothing t c zero many }
 
-pub reached-more : (text : List ℕ) (i : ℕ) (s : State) (t₀ c₀ t c : List ℕ) → Reached text i s t₀ c₀ → goesOnAt text i s ≡ true → Noted (s .line) (s .argument) (s .spot) (getD text i 0) t₀ c₀ t c
-    → Reached text (i + 1) (step s (getD text i 0)) t c
-reached-more text i s t₀ c₀ t c h test noted =
-    let (l, on) = at-within text i s test in
+pub reached-more : (text : List ℕ) (i : ℕ) (s : State) (t₀ c₀ t c : List ℕ) → Reached text i s t₀ c₀ → i < length text → goesOn (step s (getD text i 0) .spot) ≡ true
+    → Noted (s .line) (s .argument) (s .spot) (getD text i 0) t₀ c₀ t c → Reached text (i + 1) (step s (getD text i 0)) t c
+reached-more text i s t₀ c₀ t c h l on noted =
     let b = getD text i 0 in
     let up : suc i ≡ i + 1 = omega arith in
     record {
@@ -69,16 +52,14 @@ reached-more text i s t₀ c₀ t c h test noted =
 
 -- ---- where it stops
 
-module _ (text : List ℕ) (i : ℕ) (s : State) (t c : List ℕ) (h : Reached text i s t c) (stop : goesOnAt text i s ≡ false) where
+module _ (text : List ℕ) (i : ℕ) (s : State) (t c : List ℕ) (h : Reached text i s t c) where
   -- before the end: no text goes on behind the next byte
-  stopped-before : i < length text → NotInForm text i
-  stopped-before l =
-      let off : goesOn (steps start (take (suc i) text) .spot) ≡ false =
-      let up : suc i ≡ i + 1 = omega arith in rw (up, ← (next-state text i s l (h .state))) (at-off text i s l stop) in
-      record {
-        outside = off-form text (suc i) l off;
-        longest = longest-at text i l (rw (← (h .state)) (h .on)) off;
-      }
+  pub reached-off : i < length text → goesOn (step s (getD text i 0) .spot) ≡ false → LinesRead text (Refused 27 i) t c
+  unfolding LinesRead
+  reached-off l stop =
+      let up : suc i ≡ i + 1 = omega arith in
+      let off : goesOn (steps start (take (suc i) text) .spot) ≡ false = rw (up, ← (next-state text i s l (h .state))) stop in
+      (refl, record { outside = off-form text (suc i) l off; longest = longest-at text i l (rw (← (h .state)) (h .on)) off })
 
   module _ (past : length text ≤ i) where
     whole : take i text ≡ text
@@ -101,13 +82,6 @@ module _ (text : List ℕ) (i : ℕ) (s : State) (t c : List ℕ) (h : Reached t
     unfolding LinesRead
     stopped-whole e = (h .memory, h .held, end-says s (h .memory) text (rw whole at (h .told)) e, h .told .line)
 
-  pub reached-end : LinesRead text (stopAnswer text i s) t c
-  unfolding stopAnswer LinesRead
-  reached-end =
-      elim (true-or-false (leb (length text) i)) [
-        | inl past ↦ elim (true-or-false (mayEnd s)) [
-          | inl e ↦ rw (past, e) (stopped-whole (leb-true (length text) i past) e)
-          | inr e ↦ rw (past, e) (refl, stopped-short (leb-true (length text) i past) e)
-        ]
-        | inr before ↦ rw before (refl, stopped-before (leb-false (length text) i before))
-      ]
+    pub reached-end : LinesRead text (endAnswer i s) t c
+    unfolding endAnswer LinesRead
+    reached-end = elim (true-or-false (mayEnd s)) [ inl e ↦ rw e (stopped-whole e) | inr e ↦ rw e (refl, stopped-short e) ]

@@ -13,7 +13,7 @@ use Rattle.charset.specs.Runs.{Range, covered}
 use Rattle.charset.specs.Set.{characters}
 use Rattle.form.specs.Form.{Says}
 use Rattle.form.specs.Read.{Memory, rangeTo, endsRange, Room, Told}
-use Rattle.form.specs.Step.{start, step, steps, goesOn, mayEnd}
+use Rattle.form.specs.Step.{start, steps, goesOn, mayEnd}
 use Rattle.form.specs.declared.Spot.{Spot}
 use Rattle.form.specs.declared.Spot.the-variants.{Between, Opened, Slash, Number, Dash, Closed, Ending, Stuck}
 use Rattle.form.specs.declared.State.{State}
@@ -25,10 +25,6 @@ use Rattle.tables.specs.Layout.{slot, slots, classBits, classBit, tableWords}
 use Rattle.theory.specs.Tree.{productionNumber}
 
 -- ---- one step
-
--- a text of the form goes on behind byte i
-unfoldable pub goesOnAt : List ℕ → ℕ → State → Bool
-goesOnAt text i s = cond (leb (length text) i) false (goesOn (step s (getD text i 0) .spot))
 
 -- the bit of a number in a class: characters first, and behind them productions
 unfoldable pub numberBit : ℕ → ℕ
@@ -91,9 +87,9 @@ pub record Reached (text : List ℕ) (i : ℕ) (s : State) (t counts : List ℕ)
   pub told : Told s memory (take i text)
   pub held : Held memory t counts
 
--- the answer where a text stops: all its lines, or 27
-unfoldable pub stopAnswer : List ℕ → ℕ → State → FlatAnswer
-stopAnswer text i s = cond (leb (length text) i && mayEnd s) (Lines (s .line)) (Refused 27 i)
+-- the answer at the end of a text: all its lines, or 27
+unfoldable pub endAnswer : ℕ → State → FlatAnswer
+endAnswer i s = cond (mayEnd s) (Lines (s .line)) (Refused 27 i)
 
 -- A text that is read: its lines are in the tables, or it is not in the form.
 unfoldable pub LinesRead : List ℕ → FlatAnswer → (t counts : List ℕ) → Type 0

@@ -1,5 +1,4 @@
 // A flat text (01's flat book, written) is read into tables, byte by byte; and the operation "checking a flat text" (02, [7]).
-use common::both;
 use common::either;
 use form::Spot;
 use form::State;
@@ -25,13 +24,12 @@ ghost use Rattle.ccg.specs.Tables.{tableClass, tableLine, tableGrammar};
 ghost use Rattle.ccg.specs.Text.{numberLimit};
 ghost use Rattle.common.specs.Zeros.{AllZero};
 ghost use Rattle.form.specs.Read.{rangeTo, endsRange};
-ghost use Rattle.form.specs.Step.{Small};
 ghost use Rattle.grammar.specs.Limits.{productionLimit};
 ghost use Rattle.tables.specs.Put.{CountsPut, ClassesKept};
 ghost use Rattle.tables.specs.Layout.{slots, classBits, tableWords, countsOf, ParserTables};
 ghost use Rattle.load.specs.Absent.{absentIn, absentInLine, absentNames};
 ghost use Rattle.load.specs.Check.{linesAnswer, Checked, Loaded};
-ghost use Rattle.load.specs.Held.{goesOnAt, numberBit, BitsAdded, RangeNoted, Noted, Notable, stopAnswer, LinesRead, Few};
+ghost use Rattle.load.specs.Held.{numberBit, BitsAdded, RangeNoted, Noted, Notable, endAnswer, LinesRead, Few};
 
 // What checking a flat text gives.
 pub enum FlatAnswer {
@@ -130,24 +128,11 @@ fn note(state: State, byte: u8, tables: &mut [u64], counts: &mut [u8])
 
 // ---- all bytes
 
-// Whether there is a byte at a place, and a text of the form goes on behind it.
-fn goes_on_at(text: &[u8], i: usize, state: State) -> bool
-    requires { ⌜ Small state ⌝ }
-    ensures { λ r. ⌜ r ≡ goesOnAt (now (text .entry)) i state ⌝ }
+// At the end of a text: all its lines, or 27.
+fn end_answer(i: usize, state: State) -> FlatAnswer
+    ensures { λ r. ⌜ r ≡ endAnswer i state ⌝ }
 {
-    if text.len() <= i {
-        return false;
-    }
-    let next = step(state, text[i]);
-    let spot = next.spot;
-    goes_on(spot)
-}
-
-// Where a text stops: all its lines, or 27.
-fn stop_answer(text: &[u8], i: usize, state: State) -> FlatAnswer
-    ensures { λ r. ⌜ r ≡ stopAnswer (now (text .entry)) i state ⌝ }
-{
-    if both(text.len() <= i, may_end(state)) {
+    if may_end(state) {
         return FlatAnswer::Lines(state.line);
     }
     FlatAnswer::Refused(27, i)
@@ -160,13 +145,17 @@ fn read_lines(text: &[u8], tables: &mut [u64], counts: &mut [u8]) -> FlatAnswer
 {
     let mut state = start();
     let mut i = 0;
-    while goes_on_at(text, i, state) {
-        note(state, text[i], tables, counts);
+    while i < text.len() {
         let next = step(state, text[i]);
+        let spot = next.spot;
+        if !goes_on(spot) {
+            return FlatAnswer::Refused(27, i);
+        }
+        note(state, text[i], tables, counts);
         state = next;
         i += 1;
     }
-    stop_answer(text, i, state)
+    end_answer(i, state)
 }
 
 // ---- numbers of lines that are not there
