@@ -4,3 +4,4 @@ pub mod RunLaws
 pub mod SeekLaws
 pub mod SameSetLaws
 pub mod SpansLaws
+pub mod BytesLaws

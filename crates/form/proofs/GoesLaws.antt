@@ -1,19 +1,20 @@
 -- Where the test says that a text goes on, one does; and where one goes on, it went on at every byte before.
 use Prim.Native.Nat.{ℕ, suc, _+_, _-_, _*_, _/_, _%_, _≤_, _<_}
-use mathlib.Core.Bool.{Bool, false, true, cond, true≢false, false≢true}
+use mathlib.Core.Bool.{Bool, false, true, cond, false≢true}
 use mathlib.Core.List.{List, [], _∷_, _++_}
 use mathlib.Core.Logic.{⊎-elim, by-cases}
-use mathlib.Core.Path.{_≡_, refl, sym, _∙_, ap, subst⁻¹}
+use mathlib.Core.Path.{_≡_, refl, _∙_, ap, subst⁻¹}
 use native.Mathlib.Decide.{decLt}
 use native.Mathlib.Nat.{le-refl}
 use native.Mathlib.Omega.{arith}
-use lib.Dec.{leb, eqb}
+use lib.Dec.{eqb}
 use lib.ListN.{drop}
-use borrow.Author.Tests.{le-leb, leb-true, eq-eqb}
+use borrow.Author.Tests.{le-leb, leb-true}
 use Rattle.ccg.specs.Text.{backslash, bracketClose, resultText}
 use Rattle.charset.specs.Runs.{Range}
-use Rattle.common.proofs.BoolLaws.{and-first-true, and-second-true, true-or-false}
-use Rattle.form.proofs.NumberLaws.{Begins, whole, withDigit, withTwo, allowed-kind, begun-some, some-begun, begun-shorter, begun-from}
+use Rattle.common.proofs.BoolLaws.{true-or-false}
+use Rattle.form.proofs.NumberLaws.{Begins, whole, withDigit, withTwo, allowed-kind, begun-some, some-begun, begun-shorter, begun-from, not-zero}
+use Rattle.form.proofs.StepLaws.{digit-value}
 use Rattle.form.proofs.StepsLaws.{steps-none, steps-more, steps-append, next-digit, steps-numeral, number-close, dash-slash, opened-ready, closed-space, steps-close, steps-ending, steps-result, lines-end}
 use Rattle.form.specs.Read.{Expected}
 use Rattle.form.specs.Step.{lastFrom, allowed, begun, state, endingLength, behindNumber, inNumber, behindSlash, behindDash, stepAt, step, steps, goesOn, mayEnd}
@@ -23,7 +24,7 @@ use Rattle.form.specs.declared.State.{State}
 use Rattle.grammar.specs.Limits.{productionLimit}
 use Rattle.theory.specs.Tree.{productionNumber}
 use Rattle.writing.specs.Bytes.{space}
-use Rattle.writing.specs.Digits.{isDigit, digitNine}
+use Rattle.writing.specs.Digits.{isDigit}
 use Rattle.writing.specs.Numeral.{digitZero, numeral}
 
 -- ---- backwards
@@ -39,13 +40,6 @@ unfolding goesOn
 on-unless true s h = absurd (false≢true h)
 on-unless false s h = (refl, h)
 
-pub digit-value : (b : ℕ) → isDigit b ≡ true → (digitZero ≤ b) × (b - digitZero < 10)
-unfolding isDigit
-digit-value b e =
-    let low = leb-true digitZero b (and-first-true (leb digitZero b) (leb b digitNine) e) in
-    let high = leb-true b digitNine (and-second-true (leb digitZero b) (leb b digitNine) e) in
-    (low, omega arith)
-
 number-back : (dashed : Bool) (low v b : ℕ) → goesOn (inNumber dashed low v b) ≡ true → begun low v ≡ true
 unfolding inNumber goesOn
 number-back dashed low v b h =
@@ -54,9 +48,6 @@ number-back dashed low v b h =
     begun-shorter low v (b - digitZero) (not-zero v some) (digit-value b e .1) more)
     (λ e. some-begun low v v (on-if (allowed low v) (behindNumber dashed v b) (rw e at h) .0) (whole refl))
     (true-or-false (isDigit b))
-  where
-    not-zero : (v : ℕ) → eqb v 0 ≡ false → 0 < v
-    not-zero v e = by-cases (decLt 0 v) (λ l. l) (λ m. absurd (true≢false (sym (eq-eqb v 0 (omega arith)) ∙ e)))
 
 pub on-back : (r a : ℕ) (s : Spot) (b : ℕ) → goesOn (stepAt r a s b .spot) ≡ true → goesOn s ≡ true
 unfolding stepAt goesOn behindSlash behindDash

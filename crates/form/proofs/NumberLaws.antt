@@ -1,6 +1,6 @@
 -- Which numbers may come next, and which numerals begin so.
 use Prim.Native.Nat.{ℕ, _+_, _*_, _/_, max, _≤_, _<_}
-use mathlib.Core.Bool.{Bool, true, _&&_, _||_}
+use mathlib.Core.Bool.{Bool, true, _&&_, _||_, false, true≢false}
 use mathlib.Core.Logic.{_⊎_, inl, inr, ⊎-elim, by-cases}
 use mathlib.Core.Path.{_≡_, refl, sym, _∙_}
 use native.Mathlib.Decide.{decLt}
@@ -13,6 +13,9 @@ use Rattle.common.proofs.BelowLaws.{between-in, between-ends}
 use Rattle.common.specs.Below.{between}
 use Rattle.form.specs.Step.{lastCharacter, lastNumber, lastFrom, allowed, meets, begins, begun}
 use Rattle.theory.specs.Tree.{productionNumber}
+
+pub not-zero : (v : ℕ) → eqb v 0 ≡ false → 0 < v
+not-zero v e = by-cases (decLt 0 v) (λ l. l) (λ m. absurd (true≢false (sym (eq-eqb v 0 (omega arith)) ∙ e)))
 
 -- ---- the end of a kind
 

@@ -18,8 +18,9 @@ use Rattle.common.proofs.BoolLaws.{or-first, or-second, true-or-false}
 use Rattle.common.proofs.ListLaws.{joined-append, joined-one}
 use Rattle.common.specs.Lists.{joined}
 use Rattle.form.proofs.EndingLaws.{ending-long}
-use Rattle.form.proofs.GoesLaws.{on-if, on-unless, digit-value, on-before}
-use Rattle.form.proofs.NumberLaws.{allowed-above, begun-small}
+use Rattle.form.proofs.GoesLaws.{on-if, on-unless, on-before}
+use Rattle.form.proofs.NumberLaws.{allowed-above, begun-small, not-zero}
+use Rattle.form.proofs.StepLaws.{digit-value}
 use Rattle.form.proofs.RangesLaws.{rising-to, rising-kind, rising-runs}
 use Rattle.form.specs.Read.{Memory, memory, nothing, rangeTo, withRange, withArgument, withLine, endsRange, remember, rangesText, dashedText, openText, completeText, Rising, Awaits, Expected, GoodLines, Told}
 use Rattle.form.specs.Step.{allowed, state, endingLength, endingByte, behindNumber, inNumber, behindOpen, behindSlash, behindDash, inLine, behindClass, inEnding, stepAt, step, start, steps, goesOn, SmallSpot, Small}
@@ -120,9 +121,6 @@ good-more g ccs good few kinds =
         classes = λ p i h. each-more (λ (q : ℕ) (x : Line). (j : ℕ) → j < length (x .arguments) → OneKind (getD (x .arguments) j noClass)) g l noLine (λ q k j. good .form .classes q j k) kinds p h i;
       };
     }
-
-not-zero : (v : ℕ) → eqb v 0 ≡ false → 0 < v
-not-zero v e = by-cases (decLt 0 v) (λ l. l) (λ m. absurd (true≢false (sym (eq-eqb v 0 (omega arith)) ∙ e)))
 
 not-last : (k : ℕ) → k < endingLength → eqb (k + 1) endingLength ≡ false → k + 1 < endingLength
 not-last k h e = by-cases (decLt (k + 1) endingLength) (λ l. l) (λ m. absurd (true≢false (sym (eq-eqb (k + 1) endingLength (omega arith)) ∙ e)))

@@ -15,9 +15,13 @@ use Rattle.writing.specs.Bytes.{space}
 use Rattle.writing.specs.Digits.{digitNine, isDigit}
 use Rattle.writing.specs.Numeral.{digitZero, numeralBase}
 
-pub digit-above : (b : ℕ) → isDigit b ≡ true → digitZero ≤ b
+-- a digit has a value below the base
+pub digit-value : (b : ℕ) → isDigit b ≡ true → (digitZero ≤ b) × (b - digitZero < numeralBase)
 unfolding isDigit
-digit-above b e = leb-true digitZero b (and-first-true (leb digitZero b) (leb b digitNine) e)
+digit-value b e =
+    let low = leb-true digitZero b (and-first-true (leb digitZero b) (leb b digitNine) e) in
+    let high = leb-true b digitNine (and-second-true (leb digitZero b) (leb b digitNine) e) in
+    (low, omega arith)
 
 pub short-number : (s : Spot) (dashed : Bool) (low v : ℕ) → ShortSpot s → s ≡ Number dashed low v → v < numberLimit * numeralBase
 unfolding ShortSpot
@@ -37,10 +41,6 @@ short-if : (t : Bool) (x y : Spot) → (t ≡ true → ShortSpot x) → ShortSpo
 short-if true x y h k = h refl
 short-if false x y h k = k
 
-digit-below : (b : ℕ) → isDigit b ≡ true → b - digitZero < numeralBase
-unfolding isDigit
-digit-below b e = omega (arith, leb-true b digitNine (and-second-true (leb digitZero b) (leb b digitNine) e))
-
 short-behind : (dashed : Bool) (v b : ℕ) → ShortSpot (behindNumber dashed v b)
 unfolding behindNumber ShortSpot
 short-behind dashed v b =
@@ -53,7 +53,7 @@ unfolding inNumber ShortSpot
 short-number-step dashed low v b h =
     let more = Number dashed low (v * numeralBase + (b - digitZero)) in
     short-if (isDigit b) (cond (eqb v 0) Stuck more) (cond (allowed low v) (behindNumber dashed v b) Stuck)
-    (λ e. short-if (eqb v 0) Stuck more (λ f. tt) (omega (arith, digit-below b e)))
+    (λ e. short-if (eqb v 0) Stuck more (λ f. tt) (omega (arith, digit-value b e .1)))
     (short-if (allowed low v) (behindNumber dashed v b) Stuck (λ e. short-behind dashed v b) tt)
 
 -- a state whose numbers are small has a next one whose value is short enough to be tested
@@ -65,7 +65,7 @@ short-after r a Between b h =
     (short-if (leb argumentLimit a) Stuck (cond (eqb b bracketOpen) Opened Stuck) (λ e. tt) (short-if (eqb b bracketOpen) Opened Stuck (λ e. tt) tt)))
 short-after r a Opened b h =
     short-if (eqb b backslash) (Slash false 0) (cond (eqb b bracketClose) Closed Stuck) (λ e. tt) (short-if (eqb b bracketClose) Closed Stuck (λ e. tt) tt)
-short-after r a (Slash dashed low) b h = short-if (isDigit b) (Number dashed low (b - digitZero)) Stuck (λ e. omega (arith, digit-below b e)) tt
+short-after r a (Slash dashed low) b h = short-if (isDigit b) (Number dashed low (b - digitZero)) Stuck (λ e. omega (arith, digit-value b e .1)) tt
 short-after r a (Number dashed low v) b h = short-number-step dashed low v b h
 short-after r a (Dash low) b h = short-if (eqb b backslash) (Slash true low) Stuck (λ e. tt) tt
 short-after r a Closed b h = elim (eqb b space) as (λ (t : Bool). ShortSpot (cond t (state r (a + 1) Between) (state r a Stuck) .spot)) [ true ↦ tt | false ↦ tt ]

@@ -1,4 +1,5 @@
 // The written form of a character class grammar (01's flat book), byte by byte: where in it a text is, and whether some text of the form goes on from there.
+use charset::CHARACTERS;
 use common::both;
 use common::either;
 use common::wide;
@@ -17,7 +18,7 @@ ghost use Rattle.writing.specs.Numeral.{digitZero, numeralBase};
 ghost use Rattle.form.specs.Step.{lastFrom, allowed, meets, begins, begun, state, endingLength, endingByte, behindNumber, inNumber, behindOpen, behindSlash, behindDash, inLine, behindClass, inEnding, step, start, goesOn, mayEnd, ShortSpot, Small};
 
 // The last character, and the last number that a line could have.
-const LAST_CHARACTER: usize = 255;
+const LAST_CHARACTER: usize = CHARACTERS - 1;
 
 const LAST_NUMBER: usize = FIRST_PRODUCTION + PRODUCTION_LIMIT - 1;
 // How many bytes the end of a line has, from its arrow on.

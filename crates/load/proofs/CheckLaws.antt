@@ -103,3 +103,12 @@ module _ (text : List ℕ) (r : FlatAnswer) (h : Checked text r) where
       (λ (place, not-in, is). inl (other-number (sym e ∙ is)))
       (λ (g, says, is). inr (names-number g n k (refused-answer g n k .0 (sym is ∙ e))))
       h
+
+-- For one text there is one answer.
+pub checked-unique : (text : List ℕ) (r r′ : FlatAnswer) → Checked text r → Checked text r′ → r ≡ r′
+unfolding Checked
+checked-unique text r r′ h k =
+    ⊎-elim
+    (λ (place, not-in, is). is ∙ sym (checked-form text r′ k place .1 not-in))
+    (λ (g, says, is). is ∙ sym (said text r′ k g says))
+    h

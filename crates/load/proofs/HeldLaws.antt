@@ -24,14 +24,14 @@ use Rattle.form.specs.declared.State.{State}
 use Rattle.grammar.specs.Limits.{productionLimit, argumentLimit}
 use Rattle.load.proofs.NoteLaws.{OneSort, has-range, has-other, table-zero}
 use Rattle.load.specs.Held.{numberBit, BitsAdded, RangeNoted, Noted, Notable, Has, Held}
+use Rattle.tables.proofs.LayoutLaws.{slot-in}
 use Rattle.tables.specs.Layout.{slot, slots, tableWords}
 use Rattle.theory.specs.Tree.{productionNumber}
 
 -- ---- slots
 
-slot-in : (p i : ℕ) → p < productionLimit → i < argumentLimit → slot p i ≤ slots
-unfolding slot
-slot-in p i l h = omega arith
+slot-below : (p i : ℕ) → p < productionLimit → i < argumentLimit → slot p i ≤ slots
+slot-below p i l h = omega (arith, slot-in p i l h)
 
 slot-apart : (p i r a : ℕ) → i < argumentLimit → a < argumentLimit → slot p i ≡ slot r a → (p ≡ r) × (i ≡ a)
 unfolding slot
@@ -62,12 +62,12 @@ module _ (m : Memory) (c : List ℕ) (few : FewLines m) where
         many = h .many;
         counted = h .counted;
         lines = λ p i lp li. let short : i < argumentLimit = omega (arith, few .1 p lp) in
-            other (slot p i) (getD (getD (m .lines) p noLine .arguments) i noClass) (slot-in p i (omega (arith, few .0)) short)
+            other (slot p i) (getD (getD (m .lines) p noLine .arguments) i noClass) (slot-below p i (omega (arith, few .0)) short)
             (λ e. omega (arith, slot-apart p i r a short (room .1) e)) (h .lines p i lp li);
-        arguments = λ i li. other (slot r i) (getD (m .arguments) i noClass) (slot-in r i (room .0) (omega (arith, room .1)))
+        arguments = λ i li. other (slot r i) (getD (m .arguments) i noClass) (slot-below r i (room .0) (omega (arith, room .1)))
             (λ e. omega (arith, slot-apart r i r a (omega (arith, room .1)) (room .1) e)) (h .arguments i li);
-        ranges = λ place. has-range (slot r a) x t₀ t kind added (slot-in r a (room .0) (room .1)) (m .ranges) (h .ranges place);
-        rest = λ p i lp li cases. other (slot p i) noClass (slot-in p i lp li)
+        ranges = λ place. has-range (slot r a) x t₀ t kind added (slot-below r a (room .0) (room .1)) (m .ranges) (h .ranges place);
+        rest = λ p i lp li cases. other (slot p i) noClass (slot-below p i lp li)
             (λ e. let same = slot-apart p i r a li (room .1) e in ⊎-elim (λ less. omega (arith, same)) (λ less. omega (arith, same, less)) cases) (h .rest p i lp li cases);
       }
 

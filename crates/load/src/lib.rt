@@ -1,4 +1,5 @@
 // A flat text (01's flat book, written) is read into tables, byte by byte; and the operation "checking a flat text" (02, [7]).
+use charset::CHARACTERS;
 use common::either;
 use form::Spot;
 use form::State;
@@ -38,8 +39,6 @@ pub enum FlatAnswer {
     // The refusal's number and its place.
     Refused(usize, usize),
 }
-
-const CHARACTERS: usize = 256;
 
 // ---- what is complete behind one byte more
 

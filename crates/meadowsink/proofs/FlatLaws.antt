@@ -3,13 +3,14 @@ use Prim.Native.Nat.{ℕ, _+_, _≤_, _<_}
 use mathlib.Core.Bool.{Bool, false, not}
 use mathlib.Core.List.{List}
 use mathlib.Core.Logic.{⊎-elim}
-use mathlib.Core.Path.{_≡_, refl, sym, _∙_, subst⁻¹}
+use mathlib.Core.Path.{_≡_, refl, sym, _∙_, subst⁻¹, ap}
 use native.Mathlib.Decide.{ℕ-discrete}
 use native.Mathlib.Omega.{arith}
 use lib.Dec.{eqb}
 use lib.ListN.{length, getD, set, take, length-set}
 use lib.Seq.{ext-getD, getD-set-same, getD-set-other}
 use Rattle.archive.proofs.RefusalLaws.{flat-numbers}
+use Rattle.archive.proofs.UniqueLaws.{flat-unique}
 use Rattle.archive.specs.Outcome.{treesOf, flatRefusal, FlatOutcome}
 use Rattle.ccg.specs.Ccg.{Line}
 use Rattle.common.proofs.ListLaws.{length-tabulate, getD-tabulate}
@@ -20,16 +21,18 @@ use Rattle.grammar.specs.Verdict.{unlessRefused}
 use Rattle.grammar.specs.declared.Verdict.{Verdict}
 use Rattle.grammar.specs.declared.Verdict.the-variants.{Accepted, Refused as Rejected}
 use Rattle.load.proofs.AbsentLaws.{names-number}
+use Rattle.load.proofs.CheckLaws.{checked-unique}
 use Rattle.load.specs.Absent.{absentNames}
 use Rattle.load.specs.Check.{linesAnswer, Checked}
 use Rattle.load.specs.declared.FlatAnswer.{FlatAnswer}
 use Rattle.load.specs.declared.FlatAnswer.the-variants.{Lines, Refused as NotLoaded}
-use Rattle.meadowsink.proofs.ViewerLaws.{after-fits, used-short}
-use Rattle.meadowsink.specs.Flat.{rootEntries}
+use Rattle.meadowsink.proofs.ViewerLaws.{after-fits, used-short, call-unique}
+use Rattle.meadowsink.specs.Flat.{rootEntries, FlatCall, CheckCall}
 use Rattle.meadowsink.specs.Viewer.{usedLimit, UsedOutcome}
 use Rattle.reply.proofs.ReplyLaws.{answered-fits, refused-fits}
 use Rattle.reply.specs.Answers.{readReply, linesReply}
 use Rattle.reply.specs.Reply.{Fits}
+use Rattle.reply.specs.declared.Reply.{Reply}
 
 -- ---- the root
 
@@ -81,3 +84,14 @@ check-flat-fits flat r h =
     (λ (place, not-in, is). subst⁻¹ (λ (x : FlatAnswer). Fits (linesReply x)) is (refused-fits 27 place (omega arith)))
     (λ (g, says, is). subst⁻¹ (λ (x : FlatAnswer). Fits (linesReply x)) is (lines-fit g (says .writable .few) (absentNames g) (names-number g)))
     h
+
+-- ---- the outcomes
+
+-- For one input, two outcomes of a call that meet its promise have the same number and the same bytes.
+pub flat-call-unique : (number : Reply → ℕ) (flat roots w c₀ l₀ : List ℕ) (r r′ : ℕ) (c c′ l l′ : List ℕ) → FlatCall number flat roots w c₀ l₀ r c l → FlatCall number flat roots w c₀ l₀ r′ c′ l′
+    → (r ≡ r′) × (c ≡ c′) × (l ≡ l′)
+flat-call-unique number flat roots w c₀ l₀ = call-unique (FlatOutcome flat (rootEntries roots) w) (flat-unique flat (rootEntries roots) w) c₀ l₀ number
+
+pub check-call-unique : (number : Reply → ℕ) (flat : List ℕ) (r r′ : ℕ) → CheckCall number flat r → CheckCall number flat r′ → r ≡ r′
+check-call-unique number flat r r′ h k =
+    h .isNumber ∙ ap (λ (answer : FlatAnswer). number (linesReply answer)) (checked-unique flat (h .answer) (k .answer) (h .outcome) (k .outcome)) ∙ sym (k .isNumber)

@@ -1,21 +1,12 @@
 -- `parse_loaded` meets its contract.
-use Prim.Native.Nat.{ℕ, _<_}
-use mathlib.Core.List.{List}
 use mathlib.Core.Path.{sym, _∙_}
 use native.Mathlib.Omega.{arith}
-use lib.ListN.{getD}
 use borrow.Author.Needs.{needs}
-use mir.Syntax.{w8}
-use mir.Val.{Fits}
 use Rattle.archive.proofs.OutcomeLaws.{tables-root, root-absent, root-refused, root-carried}
-use Rattle.charset.specs.Set.{characters}
+use Rattle.charset.proofs.BytesLaws.{bytes-of}
 use Rattle.tables.proofs.LayoutLaws.{counts-few}
 use Rattle.archive.proofs.parse_loaded.Statement.{statement}
 use Rattle.archive.proofs.parse_loaded.Tie as tie
-
--- what a slice holds are bytes
-bytes-of : (b : List ℕ) → ((k : ℕ) → Fits w8 (getD b k 0)) → (k : ℕ) → getD b k 0 < characters
-bytes-of b h k = omega (arith, h k)
 
 empty-requires : tie.Need-empty-requires
 empty-requires c κs = search needs

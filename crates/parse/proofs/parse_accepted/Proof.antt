@@ -1,19 +1,9 @@
 -- `parse_accepted` meets its contract: what the tables promise is carried to the grammar.
-use Prim.Native.Nat.{ℕ, _<_}
-use mathlib.Core.List.{List}
-use native.Mathlib.Omega.{arith}
-use lib.ListN.{getD}
 use borrow.Author.Needs.{needs}
-use mir.Syntax.{w8}
-use mir.Val.{Fits}
-use Rattle.charset.specs.Set.{characters}
+use Rattle.charset.proofs.BytesLaws.{bytes-of}
 use Rattle.parse.proofs.CarryLaws.{outcome-carried}
 use Rattle.parse.proofs.parse_accepted.Statement.{statement}
 use Rattle.parse.proofs.parse_accepted.Tie as tie
-
--- what a slice holds are bytes
-bytes-of : (b : List ℕ) → ((k : ℕ) → Fits w8 (getD b k 0)) → (k : ℕ) → getD b k 0 < characters
-bytes-of b h k = omega (arith, h k)
 
 zero-tables-requires : tie.Need-zero-tables-requires
 zero-tables-requires c κs = search needs
