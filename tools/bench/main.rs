@@ -3,6 +3,7 @@
 //     bench FOLDER
 //
 // Both get the same bytes and fill the same chart, which holds garbage before; the charts are compared. Times are the best of several runs.
+mod flats;
 mod pages;
 mod rival;
 mod sheets;
@@ -140,5 +141,6 @@ fn main() {
     fixed_cost(&folder);
     pages::pages(&folder);
     sheets::sheets(&folder);
+    flats::flats(&folder);
     println!("\n{over} of {} above {GOAL} times the rival", BENCHMARK.len() * 3);
 }
