@@ -9,7 +9,7 @@ use native.Mathlib.Omega.{arith}
 use lib.ListN.{length, getD}
 use Rattle.archive.proofs.RefusalLaws.{Numbers, flat-numbers}
 use Rattle.archive.proofs.TreesLaws.{root-number}
-use Rattle.archive.specs.Outcome.{rootClass, lineArity, treesOf, flatRefusal, FlatOutcome, LowestRoot, AllThere}
+use Rattle.archive.specs.Outcome.{rootClass, lineArity, treesOf, flatRefusal, FlatOutcome, LowestRoot, AllThere, GrammarOutcome}
 use Rattle.ccg.specs.Ccg.{Line}
 use Rattle.chart.specs.Layout.{textLimit, chartBytes}
 use Rattle.engine.proofs.AnswerLaws.{refused-is-long}
@@ -19,7 +19,7 @@ use Rattle.engine.specs.Refusals.{tooLong, chartTooShort}
 use Rattle.engine.specs.declared.Answer.{Answer}
 use Rattle.engine.specs.declared.Answer.the-variants.{Refused}
 use Rattle.form.proofs.FormLaws.{longest-unique, says-unique}
-use Rattle.form.specs.Form.{Says}
+use Rattle.form.specs.Form.{Says, NotInForm}
 use Rattle.grammar.proofs.VerdictLaws.{refuse-case, refuse-accepted, first-of, FirstIn, here, there, order-first}
 use Rattle.grammar.specs.Limits.{productionLimit}
 use Rattle.grammar.specs.declared.Verdict.{Verdict}
@@ -27,7 +27,6 @@ use Rattle.grammar.specs.declared.Verdict.the-variants.{Accepted, Refused as Re
 use Rattle.load.proofs.AbsentLaws.{class-number, names-number}
 use Rattle.load.proofs.NamesLaws.{class-names, class-accepted, names-first, names-accepted}
 use Rattle.load.specs.Absent.{absentAt, absentIn, absentNames, FirstNamed}
-use Rattle.load.specs.Check.{NotInForm}
 use Rattle.theory.specs.Tree.{productionNumber}
 
 -- ---- 28 for the root
@@ -144,12 +143,12 @@ module _ (g : List Line) (roots : List Bool) (w c₀ : List ℕ) where
 
 module _ (flat : List ℕ) (roots : List Bool) (w c₀ l₀ : List ℕ) (r : Answer) (c l : List ℕ) (o : FlatOutcome flat roots w c₀ l₀ r c l) where
   -- a text that says a grammar has that grammar's outcome
-  pub said-outcome : (g : List Line) → Says flat g → UnlessRefused (flatRefusal g roots w c₀) (treesOf g roots w) c₀ l₀ r c l
+  pub said-outcome : (g : List Line) → Says flat g → GrammarOutcome g roots w c₀ l₀ r c l
   unfolding FlatOutcome
   said-outcome g says =
       ⊎-elim
       (λ (place, not-in, is, chart, listing). absurd (not-in .outside (g, says)))
-      (λ (h, told, u). subst (λ (x : List Line). UnlessRefused (flatRefusal x roots w c₀) (treesOf x roots w) c₀ l₀ r c l) (says-unique flat h g told says) u)
+      (λ (h, told, u). subst (λ (x : List Line). GrammarOutcome x roots w c₀ l₀ r c l) (says-unique flat h g told says) u)
       o
 
   answer-rejected : (n k m j : ℕ) → Refused n k ≡ Refused m j → Rejected n k ≡ Rejected m j

@@ -8,7 +8,7 @@ use native.Mathlib.Omega.{arith}
 use lib.ListN.{length, getD}
 use Rattle.archive.proofs.RootLaws.{root-tables, root-grammar}
 use Rattle.archive.proofs.TreesLaws.{root-number, arity-of, trees-same}
-use Rattle.archive.specs.Outcome.{rootClass, lineArity, treesOf, flatRefusal, FlatOutcome}
+use Rattle.archive.specs.Outcome.{rootClass, lineArity, treesOf, flatRefusal, FlatOutcome, GrammarOutcome}
 use Rattle.ccg.proofs.TablesLaws.{table-of-production, table-length}
 use Rattle.ccg.specs.Ccg.{Class, Line}
 use Rattle.ccg.specs.Tables.{tableClass, tableGrammar}
@@ -70,7 +70,7 @@ module _ (t₀ t : List ℕ) (roots : List Bool) (chars subs : ℕ → Bool) (pu
 
   module _ (named : absentNames g ≡ Accepted) (w c₀ l₀ : List ℕ) where
     pub root-refused : (number place : ℕ) → absentIn (length g) (rootClass roots) ≡ Rejected number place
-        → UnlessRefused (flatRefusal g roots w c₀) (treesOf g roots w) c₀ l₀ (Refused number place) c₀ l₀
+        → GrammarOutcome g roots w c₀ l₀ (Refused number place) c₀ l₀
     unfolding UnlessRefused flatRefusal
     root-refused number place e = rw (named, e) (refl, refl, refl)
 
@@ -84,7 +84,7 @@ module _ (t₀ t : List ℕ) (roots : List Bool) (chars subs : ℕ → Bool) (pu
           (λ p l. sym (ap (λ (x : List Line). lineArity x p) (sym same) ∙ arity-of t tables-root p (omega (arith, count-is)))) in
           rw (named, accepted, need) refl
 
-      pub root-carried : (r : Answer) (c l : List ℕ) → TablesOutcome t w c₀ l₀ r c l → UnlessRefused (flatRefusal g roots w c₀) (treesOf g roots w) c₀ l₀ r c l
+      pub root-carried : (r : Answer) (c l : List ℕ) → TablesOutcome t w c₀ l₀ r c l → GrammarOutcome g roots w c₀ l₀ r c l
       unfolding TablesOutcome
       root-carried r c l o =
           let named′ : absentNames (tableGrammar t) ≡ Accepted = ap absentNames same ∙ named in
@@ -133,6 +133,6 @@ flat-refused flat roots w c₀ l₀ r number place t h e =
     names-refused (Rejected n p) k e = cc
 
 pub flat-carried : (flat : List ℕ) (roots : List Bool) (w c₀ l₀ : List ℕ) (r : Answer) (c l t : List ℕ) → Says flat (tableGrammar t)
-    → UnlessRefused (flatRefusal (tableGrammar t) roots w c₀) (treesOf (tableGrammar t) roots w) c₀ l₀ r c l → FlatOutcome flat roots w c₀ l₀ r c l
+    → GrammarOutcome (tableGrammar t) roots w c₀ l₀ r c l → FlatOutcome flat roots w c₀ l₀ r c l
 unfolding FlatOutcome
 flat-carried flat roots w c₀ l₀ r c l t says o = inr (tableGrammar t, says, o)

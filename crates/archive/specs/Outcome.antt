@@ -13,12 +13,11 @@ use Rattle.engine.specs.Outcome.{Parsing, UnlessRefused}
 use Rattle.engine.specs.Refusals.{tooLong, chartTooShort}
 use Rattle.engine.specs.declared.Answer.{Answer}
 use Rattle.engine.specs.declared.Answer.the-variants.{Refused}
-use Rattle.form.specs.Form.{Says}
+use Rattle.form.specs.Form.{Says, NotInForm}
 use Rattle.grammar.specs.Limits.{productionLimit}
 use Rattle.grammar.specs.Verdict.{inOrder}
 use Rattle.grammar.specs.declared.Verdict.{Verdict}
 use Rattle.load.specs.Absent.{absentIn, absentNames, Names}
-use Rattle.load.specs.Check.{NotInForm}
 use Rattle.theory.specs.Tree.{Tree, Forest, productionNumber, yield, yields}
 
 -- The numbers of the lines that are allowed at the root: an entry for each line that there could be.
@@ -46,12 +45,15 @@ unfoldable pub flatRefusal : List Line → (roots : List Bool) → (w chart : Li
 flatRefusal g roots w chart =
     inOrder (absentNames g ∷ absentIn (length g) (rootClass roots) ∷ tooLong w ∷ chartTooShort (chartBytes (lineArity g) (length g) (length w)) chart ∷ [])
 
--- Either the flat text is not in the written form: then it is refused by 27, and nothing is changed. Or it says a grammar: then by one of the other refusals nothing is
--- changed, and otherwise the answer and every lent byte afterwards are those of the grammar's trees.
+-- Reading by a grammar: by one of these refusals nothing is changed, and otherwise the answer and every lent byte afterwards are those of the grammar's trees.
+abbrev pub GrammarOutcome : List Line → (roots : List Bool) (w c₀ l₀ : List ℕ) → Answer → (c l : List ℕ) → Type 0
+GrammarOutcome g roots w c₀ l₀ r c l = UnlessRefused (flatRefusal g roots w c₀) (treesOf g roots w) c₀ l₀ r c l
+
+-- Either the flat text is not in the written form: then it is refused by 27, and nothing is changed. Or it says a grammar, and is read by that.
 unfoldable pub FlatOutcome : (flat : List ℕ) (roots : List Bool) (w c₀ l₀ : List ℕ) → Answer → (c l : List ℕ) → Type 0
 FlatOutcome flat roots w c₀ l₀ r c l =
     ((place : ℕ) × NotInForm flat place × (r ≡ Refused 27 place) × (c ≡ c₀) × (l ≡ l₀))
-    ⊎ ((g : List Line) × Says flat g × UnlessRefused (flatRefusal g roots w c₀) (treesOf g roots w) c₀ l₀ r c l)
+    ⊎ ((g : List Line) × Says flat g × GrammarOutcome g roots w c₀ l₀ r c l)
 
 -- ---- the refusals without a search
 

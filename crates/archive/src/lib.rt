@@ -14,11 +14,10 @@ use tables::put_class;
 use tables::zero_tables;
 ghost use mathlib.Core.Path.{_≡_};
 ghost use Rattle.ccg.specs.Tables.{tableGrammar};
-ghost use Rattle.engine.specs.Outcome.{UnlessRefused};
 ghost use Rattle.grammar.specs.declared.Verdict.the-variants.{Accepted};
 ghost use Rattle.load.specs.Absent.{absentNames};
 ghost use Rattle.tables.specs.Layout.{ParserTables};
-ghost use Rattle.archive.specs.Outcome.{treesOf, flatRefusal, FlatOutcome};
+ghost use Rattle.archive.specs.Outcome.{GrammarOutcome, FlatOutcome};
 
 // Parses a text by a flat text and the lines allowed at the root: 27, 28, 10 and 20 in order, and then the answer. What chart and listing held before is never read.
 pub fn parse_flat(
@@ -47,7 +46,7 @@ fn parse_loaded(
     listing: &mut [u8],
 ) -> Answer
     requires { ⌜ ParserTables (now tables) × (absentNames (tableGrammar (now tables)) ≡ Accepted) ⌝ }
-    ensures { λ r. ⌜ UnlessRefused (flatRefusal (tableGrammar (now (tables .entry))) roots (now (text .entry)) (now (chart .entry))) (treesOf (tableGrammar (now (tables .entry))) roots (now (text .entry))) (now (chart .entry)) (now (listing .entry)) r (now (chart .exit)) (now (listing .exit)) ⌝ }
+    ensures { λ r. ⌜ GrammarOutcome (tableGrammar (now (tables .entry))) roots (now (text .entry)) (now (chart .entry)) (now (listing .entry)) r (now (chart .exit)) (now (listing .exit)) ⌝ }
 {
     put_class(
         tables,

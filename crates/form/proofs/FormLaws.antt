@@ -19,7 +19,7 @@ use Rattle.common.specs.Lists.{joined}
 use Rattle.form.proofs.GoesLaws.{on-before, finish}
 use Rattle.form.proofs.ReadLaws.{told-steps}
 use Rattle.form.proofs.StepsLaws.{steps-append, writable-ends, lines-end}
-use Rattle.form.specs.Form.{Says, InForm, Viable, LongestViable}
+use Rattle.form.specs.Form.{Says, InForm, Viable, LongestViable, NotInForm}
 use Rattle.form.specs.Read.{Memory, completeText, openText, Told}
 use Rattle.form.specs.Step.{start, steps, goesOn, mayEnd, mayEndAt}
 use Rattle.form.specs.declared.Spot.{Spot}
@@ -98,7 +98,7 @@ steps-take t n k l on =
     further n k l = (k - n, omega arith)
 
 -- the byte behind which no text goes on
-pub longest-at : (t : List ℕ) (k : ℕ) → k < length t → goesOn (steps start (take k t) .spot) ≡ true → goesOn (steps start (take (suc k) t) .spot) ≡ false → LongestViable t k
+longest-at : (t : List ℕ) (k : ℕ) → k < length t → goesOn (steps start (take k t) .spot) ≡ true → goesOn (steps start (take (suc k) t) .spot) ≡ false → LongestViable t k
 longest-at t k l on off =
     record {
       within = omega arith;
@@ -107,7 +107,7 @@ longest-at t k l on off =
     }
 
 -- a text that goes on to its end
-pub longest-all : (t : List ℕ) → goesOn (steps start t .spot) ≡ true → LongestViable t (length t)
+longest-all : (t : List ℕ) → goesOn (steps start t .spot) ≡ true → LongestViable t (length t)
 longest-all t on =
     record {
       within = le-refl (length t);
@@ -116,13 +116,21 @@ longest-all t on =
     }
 
 -- a text that stops, or that may not end, is not of the form
-pub off-form : (t : List ℕ) (k : ℕ) → k ≤ length t → goesOn (steps start (take k t) .spot) ≡ false → InForm t → ⊥
+off-form : (t : List ℕ) (k : ℕ) → k ≤ length t → goesOn (steps start (take k t) .spot) ≡ false → InForm t → ⊥
 off-form t k l off form =
     let whole = take-all (length t) t (le-refl (length t)) in
     true≢false (sym (steps-take t k (length t) l (rw whole (end-on (steps start t) (form-ends t form)))) ∙ off)
 
-pub open-form : (t : List ℕ) → mayEnd (steps start t) ≡ false → InForm t → ⊥
+open-form : (t : List ℕ) → mayEnd (steps start t) ≡ false → InForm t → ⊥
 open-form t e form = true≢false (sym (form-ends t form) ∙ e)
+
+-- so 27 has its place where no text goes on behind the next byte
+pub stops-at : (t : List ℕ) (k : ℕ) → k < length t → goesOn (steps start (take k t) .spot) ≡ true → goesOn (steps start (take (suc k) t) .spot) ≡ false → NotInForm t k
+stops-at t k l on off = record { outside = off-form t (suc k) l off; longest = longest-at t k l on off }
+
+-- and at the end of a text that is cut short
+pub stops-short : (t : List ℕ) → goesOn (steps start t .spot) ≡ true → mayEnd (steps start t) ≡ false → NotInForm t (length t)
+stops-short t on unfinished = record { outside = open-form t unfinished; longest = longest-all t on }
 
 -- two such places are one
 pub longest-unique : (t : List ℕ) (k n : ℕ) → LongestViable t k → LongestViable t n → k ≡ n

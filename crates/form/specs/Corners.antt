@@ -1,7 +1,7 @@
 -- Texts whose place of refusal 27 is easily taken for another (02, [7]).
 use Prim.Native.Nat.{ℕ}
 use mathlib.Core.List.{List, [], _∷_}
-use Rattle.form.specs.Form.{InForm, LongestViable}
+use Rattle.form.specs.Form.{NotInForm}
 
 -- A text and its place.
 pub record Corner : Type 0 where
@@ -11,10 +11,9 @@ pub record Corner : Type 0 where
 abbrev pub corner : List ℕ → ℕ → Corner
 corner text place = record { text = text; place = place }
 
--- It is not in the form, and the place is how far some text in the form begins so.
-pub record StopsThere (c : Corner) : Type 0 where
-  pub outside : InForm (c .text) → ⊥
-  pub longest : LongestViable (c .text) (c .place)
+-- It is refused by 27, at this place.
+abbrev pub StopsThere : Corner → Type 0
+StopsThere c = NotInForm (c .text) (c .place)
 
 -- the text, written out, and why it stops there
 abbrev pub corners : List Corner

@@ -34,3 +34,8 @@ pub record LongestViable (text : List ℕ) (k : ℕ) : Type 0 where
   pub within : k ≤ length text
   pub viable : Viable (take k text)
   pub longest : (n : ℕ) → n ≤ length text → Viable (take n text) → n ≤ k
+
+-- Refusal 27: the text is not in the written form; the place is how far one in the form begins so.
+pub record NotInForm (text : List ℕ) (place : ℕ) : Type 0 where
+  pub outside : InForm text → ⊥
+  pub longest : LongestViable text place

@@ -8,13 +8,13 @@ use lib.ListN.{length}
 use Rattle.ccg.specs.Ccg.{Line}
 use Rattle.ccg.specs.Tables.{tableGrammar}
 use Rattle.form.proofs.FormLaws.{longest-unique, says-unique}
-use Rattle.form.specs.Form.{Says}
+use Rattle.form.specs.Form.{Says, NotInForm}
 use Rattle.grammar.proofs.VerdictLaws.{unless-answer, unless-refused}
 use Rattle.grammar.specs.declared.Verdict.the-variants.{Accepted, Refused as Rejected}
 use Rattle.load.proofs.AbsentLaws.{names-number}
 use Rattle.load.proofs.NamesLaws.{names-first, names-accepted}
 use Rattle.load.specs.Absent.{absentNames, Names, FirstNamed}
-use Rattle.load.specs.Check.{NotInForm, linesAnswer, Checked, Loaded}
+use Rattle.load.specs.Check.{linesAnswer, Checked, Loaded}
 use Rattle.load.specs.declared.FlatAnswer.{FlatAnswer}
 use Rattle.load.specs.declared.FlatAnswer.the-variants.{Lines, Refused}
 

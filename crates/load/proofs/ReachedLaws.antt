@@ -9,16 +9,15 @@ use lib.ListN.{length, getD, take}
 use lib.Seq.{take-suc, take-all}
 use Rattle.common.proofs.BoolLaws.{true-or-false}
 use Rattle.common.specs.Zeros.{AllZero}
-use Rattle.form.proofs.FormLaws.{end-says, longest-at, longest-all, off-form, open-form}
+use Rattle.form.proofs.FormLaws.{end-says, stops-at, stops-short}
 use Rattle.form.proofs.ReadLaws.{told-step, told-nothing}
 use Rattle.form.proofs.StepsLaws.{steps-last}
-use Rattle.form.specs.Form.{LongestViable}
+use Rattle.form.specs.Form.{NotInForm}
 use Rattle.form.specs.Read.{nothing, remember}
 use Rattle.form.specs.Step.{start, step, steps, goesOn, mayEnd}
 use Rattle.form.specs.declared.State.{State}
 use Rattle.grammar.specs.Limits.{productionLimit}
 use Rattle.load.proofs.HeldLaws.{held-step, held-nothing}
-use Rattle.load.specs.Check.{NotInForm}
 use Rattle.load.specs.Held.{Noted, Reached, endAnswer, LinesRead}
 use Rattle.load.specs.declared.FlatAnswer.the-variants.{Lines, Refused}
 use Rattle.tables.specs.Layout.{tableWords}
@@ -59,7 +58,7 @@ module _ (text : List ℕ) (i : ℕ) (s : State) (t c : List ℕ) (h : Reached t
   reached-off l stop =
       let up : suc i ≡ i + 1 = omega arith in
       let off : goesOn (steps start (take (suc i) text) .spot) ≡ false = rw (up, ← (next-state text i s l (h .state))) stop in
-      (refl, record { outside = off-form text (suc i) l off; longest = longest-at text i l (rw (← (h .state)) (h .on)) off })
+      (refl, stops-at text i l (rw (← (h .state)) (h .on)) off)
 
   module _ (past : length text ≤ i) where
     whole : take i text ≡ text
@@ -72,10 +71,7 @@ module _ (text : List ℕ) (i : ℕ) (s : State) (t c : List ℕ) (h : Reached t
     stopped-short : mayEnd s ≡ false → NotInForm text i
     stopped-short e =
         let same : i ≡ length text = omega (arith, h .within) in
-        record {
-          outside = open-form text (rw ended e);
-          longest = subst⁻¹ (λ (k : ℕ). LongestViable text k) same (longest-all text (rw ended (h .on)));
-        }
+        subst⁻¹ (λ (k : ℕ). NotInForm text k) same (stops-short text (rw ended (h .on)) (rw ended e))
 
     -- and where it may
     stopped-whole : mayEnd s ≡ true → LinesRead text (Lines (s .line)) t c

@@ -6,17 +6,12 @@ use mathlib.Core.Logic.{_⊎_}
 use lib.ListN.{length}
 use Rattle.ccg.specs.Ccg.{Line}
 use Rattle.ccg.specs.Tables.{tableGrammar}
-use Rattle.form.specs.Form.{Says, InForm, LongestViable}
+use Rattle.form.specs.Form.{Says, NotInForm}
 use Rattle.grammar.specs.Verdict.{unlessRefused}
 use Rattle.load.specs.Absent.{absentNames}
 use Rattle.load.specs.declared.FlatAnswer.{FlatAnswer}
 use Rattle.load.specs.declared.FlatAnswer.the-variants.{Lines, Refused}
 use Rattle.tables.specs.Layout.{ParserTables}
-
--- 27: the text is not in the written form; the place is how far one in the form begins so.
-pub record NotInForm (text : List ℕ) (place : ℕ) : Type 0 where
-  pub outside : InForm text → ⊥
-  pub longest : LongestViable text place
 
 -- the answer for a text that says a grammar: 28, or how many lines there are
 unfoldable pub linesAnswer : List Line → FlatAnswer

@@ -11,14 +11,13 @@ use Rattle.ccg.specs.Tables.{tableClass}
 use Rattle.ccg.specs.Text.{numberLimit}
 use Rattle.charset.specs.Runs.{Range, covered}
 use Rattle.charset.specs.Set.{characters}
-use Rattle.form.specs.Form.{Says}
+use Rattle.form.specs.Form.{Says, NotInForm}
 use Rattle.form.specs.Read.{Memory, rangeTo, endsRange, Room, Told}
 use Rattle.form.specs.Step.{start, steps, goesOn, mayEnd}
 use Rattle.form.specs.declared.Spot.{Spot}
 use Rattle.form.specs.declared.Spot.the-variants.{Between, Opened, Slash, Number, Dash, Closed, Ending, Stuck}
 use Rattle.form.specs.declared.State.{State}
 use Rattle.grammar.specs.Limits.{productionLimit, argumentLimit}
-use Rattle.load.specs.Check.{NotInForm}
 use Rattle.load.specs.declared.FlatAnswer.{FlatAnswer}
 use Rattle.load.specs.declared.FlatAnswer.the-variants.{Lines, Refused}
 use Rattle.tables.specs.Layout.{slot, slots, classBits, classBit, tableWords}

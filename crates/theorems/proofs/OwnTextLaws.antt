@@ -2,7 +2,7 @@
 use Prim.Native.Nat.{ℕ, _-_, _≤_, _<_}
 use mathlib.Core.Bool.{false, _&&_, true≢false}
 use mathlib.Core.List.{List}
-use mathlib.Core.Logic.{_↔_, ⊎-elim, by-cases}
+use mathlib.Core.Logic.{_↔_, by-cases}
 use mathlib.Core.Path.{_≡_, refl, sym, _∙_, ap, fun-ext, subst, subst⁻¹}
 use native.Mathlib.Decide.{decLt}
 use native.Mathlib.Omega.{arith}
@@ -10,6 +10,7 @@ use lib.Dec.{ltb, eqb}
 use lib.ListN.{length, getD, List·getD-eq-default}
 use lib.Seq.{slice}
 use borrow.Author.Tests.{lt-ltb, le-ltb, le-leb, lt-leb}
+use Rattle.archive.proofs.ExactLaws.{said-outcome}
 use Rattle.archive.proofs.TreesLaws.{root-number}
 use Rattle.archive.specs.Outcome.{rootClass, lineArity, treesOf, flatRefusal, FlatOutcome}
 use Rattle.ccg.specs.Ccg.{Class, Line, noLine, noClass, Generated, Each}
@@ -25,7 +26,6 @@ use Rattle.flatten.proofs.FlatWrittenLaws.{flat-written}
 use Rattle.flatten.proofs.TableTextLaws.{flat-of-production}
 use Rattle.flatten.specs.Flat.{isProduction, flatClass, flatGrammar, plainClass}
 use Rattle.flatten.specs.Reading.{Reading, EntryList}
-use Rattle.form.proofs.FormLaws.{says-unique}
 use Rattle.form.specs.Form.{Writable, Says}
 use Rattle.grammar.proofs.ClassesLaws.{sort-no-class}
 use Rattle.grammar.specs.Formed.{WellFormed}
@@ -149,13 +149,8 @@ module _ (b : List ℕ) (bytes : (k : ℕ) → getD b k 0 < characters) (accepte
 
     -- What is promised of the flat text is promised of the grammar.
     pub own-outcome : (c₀ l₀ : List ℕ) (r : Answer) (c l : List ℕ) → FlatOutcome (grammarText g) (startEntries b) w c₀ l₀ r c l → Outcome b w c₀ l₀ r c l
-    unfolding FlatOutcome Outcome
+    unfolding Outcome
     own-outcome c₀ l₀ r c l o =
-        ⊎-elim
-        (λ (place, not-in, is, chart, listing). absurd (not-in .outside (g, own-says)))
-        (λ (h, says, u). let same = says-unique (grammarText g) h g says own-says in
-        let own : UnlessRefused (flatRefusal g (startEntries b) w c₀) (treesOf g (startEntries b) w) c₀ l₀ r c l =
-        subst (λ (x : List Line). UnlessRefused (flatRefusal x (startEntries b) w c₀) (treesOf x (startEntries b) w) c₀ l₀ r c l) same u in
         unless-same (treesOf g (startEntries b) w) (readingBy b w) own-trees (refusal b w c₀) c₀ l₀ r c l
-        (subst (λ (v : Verdict). UnlessRefused v (treesOf g (startEntries b) w) c₀ l₀ r c l) (own-refusal c₀) own))
-        o
+        (subst (λ (v : Verdict). UnlessRefused v (treesOf g (startEntries b) w) c₀ l₀ r c l) (own-refusal c₀)
+        (said-outcome (grammarText g) (startEntries b) w c₀ l₀ r c l o g own-says))

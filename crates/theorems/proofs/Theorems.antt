@@ -459,7 +459,7 @@ pub checks-flat : ChecksFlat
 checks-flat text r h =
     record {
       lines = checked-lines text r h;
-      notInForm = λ k. let e = checked-form text r h k in ((λ is. let n = e .0 is in (n .outside, n .longest)), (λ (out, longest). e .1 (record { outside = out; longest = longest })));
+      notInForm = checked-form text r h;
       absent = checked-absent text r h;
       noOther = checked-numbers text r h;
     }
@@ -467,7 +467,7 @@ checks-flat text r h =
 pub refuses-flat : RefusesFlat
 refuses-flat flat roots w chart₀ l₀ r chart l o =
     record {
-      notInForm = λ k. let e = form-exactly flat roots w chart₀ l₀ r chart l o k in ((λ is. let n = e .0 is in (n .outside, n .longest)), (λ (out, longest). e .1 (record { outside = out; longest = longest })));
+      notInForm = form-exactly flat roots w chart₀ l₀ r chart l o;
       absent = λ g says k. let answer = flat-refused-exactly flat roots w chart₀ l₀ r chart l o g says 28 k (λ e. omega arith) in
           let line = refusal-named g roots w chart₀ k in (
             (λ e. ⊎-elim (λ f. inl f) (λ (a, f). inr (names-accepted g .0 a, f)) (line .0 (answer .0 e))),

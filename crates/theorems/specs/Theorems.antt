@@ -50,7 +50,7 @@ use Rattle.ccg.specs.Tables.{tableGrammar}
 use Rattle.common.specs.Lists.{tabulate, All}
 use Rattle.engine.specs.Outcome.{Parsing}
 use Rattle.form.specs.Corners.{corner, StopsThere, corners}
-use Rattle.form.specs.Form.{Writable, Says, InForm, LongestViable}
+use Rattle.form.specs.Form.{Writable, Says, NotInForm}
 use Rattle.load.specs.Absent.{Names, FirstNamed}
 use Rattle.load.specs.Check.{Checked, Loaded}
 use Rattle.load.specs.declared.FlatAnswer.{FlatAnswer}
@@ -617,12 +617,12 @@ pub record RoundTrips : Type 0 where
   -- the tables that `load::load` fills from a text in the form are those of the grammar that it says, so `ccg::put_grammar` writes its bytes from them
   pub tables : (text : List ℕ) (r : FlatAnswer) (t : List ℕ) → Loaded text r t → (g : List Line) → Says text g → tableGrammar t ≡ g
 
--- "27 not the written form, in which a class may name any rule number a line could have, place the first byte at which no such text goes on so, or the length": the longest
--- beginning that some text in the form has too. "28 a class … naming an absent line, place that number, the first such in the flat book." Each exactly so, and else the lines
+-- "27 not the written form, in which a class may name any rule number a line could have, place the first byte at which no such text goes on so, or the length": `NotInForm` says
+-- that the text is not in the form, and that the place is the length of the longest beginning that some text in the form has too. "28 a class … naming an absent line, place that number, the first such in the flat book." Each exactly so, and else the lines
 -- are counted.
 pub record CheckedExactly (text : List ℕ) (r : FlatAnswer) : Type 0 where
   pub lines : (n : ℕ) → (r ≡ Lines n) ↔ ((g : List Line) × Says text g × ((p i q : ℕ) → Names g p i q → ⊥) × (n ≡ length g))
-  pub notInForm : (k : ℕ) → (r ≡ NotLoaded 27 k) ↔ ((InForm text → ⊥) × LongestViable text k)
+  pub notInForm : (k : ℕ) → (r ≡ NotLoaded 27 k) ↔ NotInForm text k
   pub absent : (k : ℕ) → (r ≡ NotLoaded 28 k) ↔ ((g : List Line) × Says text g × FirstNamed g k)
   pub noOther : (n k : ℕ) → r ≡ NotLoaded n k → (n ≡ 27) ⊎ (n ≡ 28)
 
@@ -631,7 +631,7 @@ ChecksFlat = (text : List ℕ) (r : FlatAnswer) → Checked text r → CheckedEx
 
 -- So are the refusals of reading, in order; "or the root …, else the lowest at the root". By none of them is anything changed.
 pub record FlatRefused (flat : List ℕ) (roots : List Bool) (w chart₀ l₀ : List ℕ) (r : Answer) (chart l : List ℕ) : Type 0 where
-  pub notInForm : (k : ℕ) → (r ≡ NotRead 27 k) ↔ ((InForm flat → ⊥) × LongestViable flat k)
+  pub notInForm : (k : ℕ) → (r ≡ NotRead 27 k) ↔ NotInForm flat k
   pub absent : (g : List Line) → Says flat g → (k : ℕ) → (r ≡ NotRead 28 k) ↔ (FirstNamed g k ⊎ (((p i q : ℕ) → Names g p i q → ⊥) × LowestRoot g roots k))
   pub ten : (g : List Line) → Says flat g → (k : ℕ) → (r ≡ NotRead 10 k) ↔ (AllThere g roots × (textLimit < length w) × (k ≡ length w))
   pub twenty : (g : List Line) → Says flat g → (k : ℕ)
