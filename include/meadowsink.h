@@ -33,7 +33,7 @@ extern "C" {
  *   4    the book's length is not the one its counts call for. Place: the smaller of the two.
  *   5    a result or argument names nothing. Place: its byte.
  *   7    a declaration has no such kind or names no rule, or a group's first rule is above its last. Place: its byte; for the group that of the first rule.
- *        For the conflict question also: there is no such rule or no such argument. Place: 0.
+ *        For meadowsink_conflict and meadowsink_reason also: there is no such rule or no such argument. Place: 0.
  *   8    two rules are equal: their results are, and each argument is the same sort or the same set of characters, whatever class names it. Place: the byte at which the
  *        later one starts.
  *   9    a rule is ranked above itself. Place: the rule, the lowest such.
@@ -84,6 +84,32 @@ uint64_t meadowsink_conflict(const uint8_t *book, size_t book_length, size_t p, 
 
 /* The place of the refusal. */
 uint64_t meadowsink_conflict_place(const uint8_t *book, size_t book_length, size_t p, size_t i, size_t q);
+
+/*
+ * Asks the same, and for what is behind a conflict. Three lines make a conflict where rule q gives the sort of argument i of rule p:
+ *
+ *   line 1   p is higher than q;
+ *   line 2   argument i is the first of two or more, and the pair is declared right or not together;
+ *   line 3   argument i is the last of two or more, and the pair is declared left or not together.
+ *
+ *   book     the bytes of the grammar
+ *   p, i, q  as for meadowsink_conflict
+ *   chain    where the declarations go by which p is higher than q; there are never more than 63
+ *
+ * The result is 4 * value + kind:
+ *
+ *   kind 0   no conflict; the value is 0. `chain` is as it was.
+ *   kind 1   a conflict; the value is 4 * n + line, for the lowest line that holds. Declarations are counted from 0.
+ *            Line 1: n declarations of kind 1 lead from p to q, the second rule of each the first rule of the next, and no fewer do. Their indices stand at the
+ *            start of `chain`, a byte each, as many as fit; bytes beyond them are as they were. If several such rows are equally short, it is one of them.
+ *            Lines 2 and 3: n is the index of the lowest declaration, of two rules or of a group, of a kind that the line names and that covers the pair, either
+ *            way round. `chain` is as it was.
+ *   kind 3   refused; the value is the number of the refusal, 1 to 9, as for meadowsink_conflict. `chain` is as it was.
+ */
+uint64_t meadowsink_reason(const uint8_t *book, size_t book_length, size_t p, size_t i, size_t q, uint8_t *chain, size_t chain_length);
+
+/* The place of the refusal. It writes to `chain` as meadowsink_reason does. */
+uint64_t meadowsink_reason_place(const uint8_t *book, size_t book_length, size_t p, size_t i, size_t q, uint8_t *chain, size_t chain_length);
 
 /*
  * Writes the character class grammar of a book: a grammar with the same parses that needs no ranks, as text, a line to a rule.
