@@ -1,7 +1,7 @@
--- Laws of sums and tests over the numbers below a bound, and of numbers between two.
+-- Laws of sums, tests and counts over the numbers below a bound, and of numbers between two.
 use Prim.Native.Nat.{ℕ, zero, suc, _+_, _*_, _≤_, _<_}
 use mathlib.Core.Path.{_≡_, refl, sym, _∙_, ap, ap₂, subst}
-use mathlib.Core.Bool.{Bool, false, true, _&&_, _||_, false≢true, and-false, or-true}
+use mathlib.Core.Bool.{Bool, false, true, _&&_, _||_, false≢true, and-false, or-true, or-false}
 use mathlib.Core.Logic.{_≢_, _⊎_, inl, inr, ⊎-elim, by-cases}
 use native.Mathlib.Omega.{arith}
 use native.Mathlib.Decide.{ℕ-discrete, decLt}
@@ -10,7 +10,7 @@ use native.Mathlib.Numerals.{add-one}
 use lib.Dec.{leb, eqb}
 use borrow.Author.Tests.{le-leb, lt-leb, leb-true, eq-eqb, ne-eqb}
 use Rattle.common.proofs.BoolLaws.{or-cases, or-first-false, or-second-false, and-both, and-first-true, and-second-true}
-use Rattle.common.specs.Below.{sumBelow, allBelow, anyBelow, bitOf, between}
+use Rattle.common.specs.Below.{sumBelow, allBelow, anyBelow, bitOf, countBelow, between}
 
 -- ---- sums
 
@@ -199,3 +199,32 @@ module _ (low high x : ℕ) where
 -- a number that is 0 or 1 is the bit of the test for 1
 pub bit-test : (v : ℕ) → v ≤ 1 → v ≡ bitOf (eqb v 1)
 bit-test v l = elim (ℕ-discrete v 1) [ yes e ↦ rw (eq-eqb v 1 e) e | no e ↦ rw (ne-eqb v 1 e) (omega arith) ]
+
+pub bit-one : (v : Bool) → 1 ≤ bitOf v → v ≡ true
+bit-one true h = refl
+bit-one false h = absurd (omega arith)
+
+pub bit-small : (v : Bool) → bitOf v ≤ 1
+bit-small true = omega arith
+bit-small false = omega arith
+
+-- ---- counts
+
+pub count-small : (n : ℕ) (f : ℕ → Bool) → countBelow n f ≤ n
+unfolding countBelow
+count-small n f = omega (arith, sum-bound 1 (λ k. bitOf (f k)) (λ k. bit-small (f k)) n)
+
+-- one more, at which f did not hold
+pub count-more : (n : ℕ) (f : ℕ → Bool) (q : ℕ) → q < n → f q ≡ false → countBelow n (λ k. f k || eqb k q) ≡ countBelow n f + 1
+unfolding countBelow
+count-more n f q l e = sum-change (λ k. bitOf (f k)) (λ k. bitOf (f k || eqb k q)) n q 1 l (λ k i o. away (f k) (eqb k q) (ne-eqb k q o)) (here (f q) (eqb q q) e (eq-eqb q q refl))
+  where
+    here : (a b : Bool) → a ≡ false → b ≡ true → bitOf (a || b) ≡ bitOf a + 1
+    here a b e h = rw (e, h) refl
+
+    away : (a b : Bool) → b ≡ false → bitOf (a || b) ≡ bitOf a
+    away a b e = rw e (ap bitOf (or-false a))
+
+pub count-one : (n q : ℕ) → q < n → 1 ≤ countBelow n (λ k. eqb k q)
+unfolding countBelow
+count-one n q l = omega (arith, sum-at (λ k. bitOf (eqb k q)) n q l, ap bitOf (eq-eqb q q refl))

@@ -71,3 +71,9 @@ pub part-slice : {A : Type 0} (l : List A) (i j : ℕ) → i ≤ j → j ≤ len
 part-slice {A} l i j h k =
     let e : i + (j - i) ≡ j = omega arith in
     sym (ap (λ (n : ℕ). drop i (take n l)) (sym e) ∙ ap (drop i) (take-add i (j - i) l) ∙ drop-at (take i l) (take (j - i) (drop i l)) i (length-take-le i l (omega arith)))
+
+-- at a place that is there it doesn't matter what stands for one that isn't
+pub getD-there : {A : Type 0} (l : List A) (i : ℕ) (d e : A) → i < length l → getD l i d ≡ getD l i e
+getD-there [] i d e h = absurd (omega arith)
+getD-there (a ∷ l) zero d e h = refl
+getD-there (a ∷ l) (suc i) d e h = getD-there l i d e (omega arith)

@@ -26,3 +26,7 @@ bitOf false = 0
 -- x is one of low, low + 1, … high
 abbrev pub between : (low high : ℕ) → ℕ → Bool
 between low high x = leb low x && leb x high
+
+-- how many of them there are at which f holds
+unfoldable pub countBelow : ℕ → (ℕ → Bool) → ℕ
+countBelow n f = sumBelow n (λ k. bitOf (f k))

@@ -13,7 +13,7 @@ use Rattle.chart.proofs.LayoutLaws.{row-shift, rows-few}
 use Rattle.chart.specs.Layout.{rowLimit, rowOf}
 use Rattle.tables.specs.Layout.{arityIn, rowCount}
 use Rattle.tables.specs.Theory.{grammarOf}
-use Rattle.common.proofs.BelowLaws.{sum-bound, sum-same}
+use Rattle.common.proofs.BelowLaws.{sum-bound, sum-same, bit-small}
 use Rattle.common.specs.Below.{sumBelow, bitOf}
 use Rattle.common.specs.Zeros.{AllZero}
 use Rattle.empty.proofs.GrowLaws.{spare-grows, spare-tight, heldSpan, exact-held, exact-empty, step-held, grown-right}
@@ -25,7 +25,6 @@ use Rattle.empty.specs.Turns.{emptySpan, Begun, Followed}
 use Rattle.span.proofs.SpanLaws.{argument-same}
 use Rattle.span.specs.Span.{whole, usedSum, argumentOf, spare}
 use Rattle.span.specs.Tables.{userAt, spanOf, Links, UsersAre, Loads, Exact, Founded, Settled}
-use Rattle.theory.proofs.SoundLaws.{bit-small}
 use Rattle.theory.specs.Steps.{cap}
 
 -- Every production is closed with these arguments.

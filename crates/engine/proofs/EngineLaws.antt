@@ -1,7 +1,7 @@
 -- A filled chart answers: its cells at the root count the parses, and the tree written is the parse if there is one.
 use Prim.Native.Nat.{ℕ, _-_, _≤_, _<_}
 use mathlib.Core.Path.{_≡_, refl, _∙_, ap, subst, subst⁻¹}
-use mathlib.Core.Bool.{Bool, false, true}
+use mathlib.Core.Bool.{Bool, true}
 use mathlib.Core.List.{List}
 use native.Mathlib.Omega.{arith}
 use native.Mathlib.Nat.{le-refl}
@@ -10,7 +10,7 @@ use lib.Seq.{length-take-le, take-all, sets}
 use Rattle.chart.proofs.CountedLaws.{counted-front}
 use Rattle.chart.specs.Counted.{CountedBy}
 use Rattle.chart.specs.Layout.{chartNeed, ChartFits}
-use Rattle.common.proofs.BelowLaws.{sum-at}
+use Rattle.common.proofs.BelowLaws.{sum-at, bit-one}
 use Rattle.common.proofs.OverwrittenLaws.{overwritten-of, sets-front}
 use Rattle.common.proofs.ProductLaws.{product-one, right-below}
 use Rattle.common.specs.Below.{sumBelow, bitOf}
@@ -43,10 +43,6 @@ filled-all tables w chart h counted =
     record { walkable = record { fits = h; wanted = everything; dues = everything-due (theoryOf tables) w; counted = counted }; rootsWanted = λ p l e. refl }
 
 -- ---- the parses
-
-bit-one : (b : Bool) → 1 ≤ bitOf b → b ≡ true
-bit-one true l = refl
-bit-one false l = absurd (omega arith)
 
 module _ (tables w chart : List ℕ) (h : Filled tables w chart) where
   abbrev g : Grammar

@@ -7,12 +7,12 @@ use native.Mathlib.Omega.{arith}
 use native.Mathlib.Nat.{mul-zero}
 use lib.Dec.{eqb}
 use lib.ListN.{length, getD}
+use Rattle.common.proofs.BelowLaws.{bit-small}
 use Rattle.tables.specs.Layout.{slot, countsOf, takesChar, arityIn, rowCount}
 use Rattle.chart.proofs.LayoutLaws.{row-in, table-rows-few}
 use Rattle.chart.specs.Layout.{places, rowLimit, rowOf}
 use Rattle.chart.specs.ByEnds.{placeAt}
 use Rattle.chart.proofs.RowsLaws.{rows-small}
-use Rattle.theory.proofs.SoundLaws.{bit-small}
 use Rattle.column.specs.Scattered.{Scattered}
 use Rattle.column.specs.Sums.{SplitsAdded}
 use Rattle.common.specs.Below.{bitOf}

@@ -12,6 +12,7 @@ use lib.ListN.{length, getD, set, length-set}
 use lib.Seq.{getD-set-same, getD-set-other}
 use Rattle.charset.proofs.BitLaws.{bit-or, bit-zero}
 use Rattle.charset.specs.Set.{bit}
+use Rattle.common.proofs.BelowLaws.{bit-small}
 use Rattle.common.proofs.BoolLaws.{or-first, or-second, true-or-false}
 use Rattle.common.specs.Below.{bitOf}
 use Rattle.common.specs.Region.{Region}
@@ -24,7 +25,6 @@ use Rattle.chart.specs.Layout.{rowLimit, rowOf}
 use Rattle.chart.specs.Rows.{RowsFilled}
 use Rattle.links.specs.Linked.{Joined, UsedOctets, BitsTurned, UsersTo, UsesTo}
 use Rattle.span.specs.Tables.{userAt, useAt, userBytes, useBytes, Links, UsersAre}
-use Rattle.theory.proofs.SoundLaws.{bit-small}
 
 -- ---- octets
 

@@ -9,11 +9,11 @@ use native.Mathlib.Decide.{decLt}
 use native.Mathlib.Nat.{le-refl}
 use lib.ListN.{length}
 use lib.Seq.{take-length}
-use Rattle.common.proofs.BelowLaws.{sum-one, sum-two, sum-at, sum-pair}
+use Rattle.common.proofs.BelowLaws.{sum-one, sum-two, sum-at, sum-pair, bit-one, bit-small}
 use Rattle.common.proofs.ProductLaws.{product-one, product-two, one-product, right-below}
 use Rattle.common.specs.Below.{bitOf}
 use Rattle.theory.proofs.ClosedLaws.{meets, true-bit, spells-counted, spells-same}
-use Rattle.theory.proofs.SoundLaws.{bit-one, bit-small, node-forest, node-number}
+use Rattle.theory.proofs.SoundLaws.{node-forest, node-number}
 use Rattle.theory.proofs.SpellsLaws.{spells-yield, spells-derived, derived-spells}
 use Rattle.theory.specs.Counts.{Two, Counts}
 use Rattle.theory.specs.Grammar.{Grammar, Spells, Parse}

@@ -1,7 +1,7 @@
 -- In an only tree no production stands below itself over the same part of the text; so paths downwards are short, and the tree is low.
 use Prim.Native.Nat.{ℕ, zero, suc, _+_, _-_, _*_, _≤_, _<_}
 use mathlib.Core.Path.{_≡_, refl, sym, _∙_, ap, subst, subst₂}
-use mathlib.Core.Bool.{Bool, false, true, _||_, or-false, or-true}
+use mathlib.Core.Bool.{Bool, false, true, _||_, or-true}
 use mathlib.Core.List.{List}
 use mathlib.Core.Logic.{⊎-elim, by-cases}
 use native.Mathlib.Omega.{arith}
@@ -9,12 +9,11 @@ use native.Mathlib.Decide.{decLt}
 use native.Mathlib.Nat.{le-refl, mul-le-mul}
 use lib.Dec.{eqb}
 use lib.ListN.{length}
-use borrow.Author.Tests.{eqb-true, ne-eqb, eq-eqb}
-use Rattle.common.proofs.BelowLaws.{sum-bound, sum-change, sum-at}
+use borrow.Author.Tests.{eqb-true, eq-eqb}
+use Rattle.common.proofs.BelowLaws.{count-small, count-more, count-one}
 use Rattle.common.proofs.BoolLaws.{or-cases}
-use Rattle.common.specs.Below.{sumBelow, bitOf}
+use Rattle.common.specs.Below.{countBelow}
 use Rattle.theory.proofs.AroundLaws.{nodes, Around, around-none, around-both, around-under}
-use Rattle.theory.proofs.SoundLaws.{bit-small}
 use Rattle.theory.proofs.SpellsLaws.{spells-rises, stands-rises}
 use Rattle.theory.specs.Counts.{Only}
 use Rattle.theory.specs.Grammar.{Grammar, Spells, Stands}
@@ -73,30 +72,6 @@ module _ (g : Grammar) (w : List ℕ) (wanted : Wanted) (dues : DueWanted g w wa
   path-wanted q₀ i₀ j₀ q m e n w₀ (down {p = p} {i = i} {j = j} {n = n′} c u) =
       under-wanted p (g .arity p) i j q m e (path-count g w q₀ i₀ j₀ p i j n′ c) (le-refl (g .arity p)) (path-wanted q₀ i₀ j₀ p i j n′ w₀ c) u
 
--- ---- how many productions were seen
-
-how-many : ℕ → (ℕ → Bool) → ℕ
-how-many n seen = sumBelow n (λ k. bitOf (seen k))
-
-many-small : (n : ℕ) (seen : ℕ → Bool) → how-many n seen ≤ n
-unfolding how-many
-many-small n seen = omega (arith, sum-bound 1 (λ k. bitOf (seen k)) (λ k. bit-small (seen k)) n)
-
-or-here : (a b : Bool) → a ≡ false → b ≡ true → bitOf (a || b) ≡ bitOf a + 1
-or-here a b e h = rw (e, h) refl
-
-or-else : (a b : Bool) → b ≡ false → bitOf (a || b) ≡ bitOf a
-or-else a b e = rw e (ap bitOf (or-false a))
-
-many-more : (n : ℕ) (seen : ℕ → Bool) (q : ℕ) → q < n → seen q ≡ false → how-many n (λ k. seen k || eqb k q) ≡ how-many n seen + 1
-unfolding how-many
-many-more n seen q l e =
-    sum-change (λ k. bitOf (seen k)) (λ k. bitOf (seen k || eqb k q)) n q 1 l (λ k i o. or-else (seen k) (eqb k q) (ne-eqb k q o)) (or-here (seen q) (eqb q q) e (eq-eqb q q refl))
-
-one-seen : (n q : ℕ) → q < n → 1 ≤ how-many n (λ k. eqb k q)
-unfolding how-many
-one-seen n q l = omega (arith, sum-at (λ k. bitOf (eqb k q)) n q l, ap bitOf (eq-eqb q q refl))
-
 false-or-true : {A : Type 0} (b : Bool) → (b ≡ false → A) → (b ≡ true → A) → A
 false-or-true false x y = x refl
 false-or-true true x y = y refl
@@ -110,7 +85,7 @@ record Seen (g : Grammar) (w : List ℕ) (q₀ i₀ j₀ q m e n : ℕ) : Type 0
   above : (x : ℕ) → seen x ≡ true → Around g w q₀ (g .arity q₀) i₀ j₀ x m e × Around g w x (g .arity x) m e q m e
   shorter : ℕ
   places : shorter + e + i₀ ≤ j₀ + m
-  few : n ≤ g .count * shorter + how-many (g .count) seen
+  few : n ≤ g .count * shorter + countBelow (g .count) seen
 
 module _ (g : Grammar) (w : List ℕ) (q₀ i₀ j₀ : ℕ) (o : Single g w q₀ i₀ j₀) where
   abbrev Step : (p q m e : ℕ) → Type 0
@@ -125,7 +100,7 @@ module _ (g : Grammar) (w : List ℕ) (q₀ i₀ j₀ : ℕ) (o : Single g w q�
         above = λ k y. subst (λ (z : ℕ). Step z q m e) (sym (eqb-true k q y)) (x, around-none g w q m e);
         shorter = shorter;
         places = c;
-        few = omega (arith, one-seen (g .count) q l);
+        few = omega (arith, count-one (g .count) q l);
       }
 
   -- over the same part, it is one that was not seen there
@@ -143,7 +118,7 @@ module _ (g : Grammar) (w : List ℕ) (q₀ i₀ j₀ : ℕ) (o : Single g w q�
             (or-cases (s .seen k) (eqb k q) y);
         shorter = s .shorter;
         places = s .places;
-        few = omega (arith, s .few, many-more (g .count) (s .seen) q (under-count g w p (g .arity p) m e q m e u) new);
+        few = omega (arith, s .few, count-more (g .count) (s .seen) q (under-count g w p (g .arity p) m e q m e u) new);
       })
       (λ old. let a = s .above q old in
       absurd (not-itself g w q m e p m e (around-single g w q₀ i₀ j₀ q m e o (a .0)) (a .1) x big h r))
@@ -154,7 +129,7 @@ module _ (g : Grammar) (w : List ℕ) (q₀ i₀ j₀ : ℕ) (o : Single g w q�
       seen-first q m e (suc n) (suc (s .shorter)) (under-count g w p (g .arity p) i j q m e u)
       (around-both g w q₀ (g .arity q₀) i₀ j₀ p i j q m e (s .above p (s .here) .0) x)
       (omega (arith, s .places))
-      (omega (arith, s .few, many-small (g .count) (s .seen)))
+      (omega (arith, s .few, count-small (g .count) (s .seen)))
 
   seen-down : (p i j q m e n : ℕ) → Seen g w q₀ i₀ j₀ p i j n → Under g w p (g .arity p) i j q m e → (h : Forest) → Spells g w q h (g .arity q) m e → Seen g w q₀ i₀ j₀ q m e (suc n)
   seen-down p i j q m e n s u h r =
@@ -180,7 +155,7 @@ module _ (g : Grammar) (w : List ℕ) (q₀ i₀ j₀ : ℕ) (o : Single g w q�
       let s = seen-path q m e n c h r in
       let a = spells-rises g w q h (g .arity q) m e r in
       let k : s .shorter + 1 ≤ j₀ - i₀ + 1 = omega (arith, s .places, a .0) in
-      omega (arith, s .few, many-small (g .count) (s .seen), mul-le-mul (le-refl (g .count)) k)
+      omega (arith, s .few, count-small (g .count) (s .seen), mul-le-mul (le-refl (g .count)) k)
 
 -- A path down from a production with an only list of trees, to one that has trees there, has at most as many productions as there are productions and places.
 pub path-bound : (g : Grammar) (w : List ℕ) (q₀ i₀ j₀ : ℕ) (f : Forest) → OnlyTrees g w q₀ i₀ j₀ f → (q m e n : ℕ) → Path g w q₀ i₀ j₀ q m e n

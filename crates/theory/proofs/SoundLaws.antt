@@ -1,7 +1,7 @@
 -- What a sum shows: a sum of products of numbers that have their lists of trees has its own.
 use Prim.Native.Nat.{ℕ, suc, _+_, _-_, _*_, max, _≤_, _<_}
 use mathlib.Core.Path.{_≡_, refl, subst}
-use mathlib.Core.Bool.{Bool, false, true, _&&_}
+use mathlib.Core.Bool.{_&&_}
 use mathlib.Core.List.{List}
 use mathlib.Core.Logic.{⊎-elim, by-cases}
 use native.Mathlib.Omega.{arith}
@@ -9,7 +9,7 @@ use native.Mathlib.Decide.{decLt}
 use lib.Dec.{eqb}
 use lib.ListN.{length, getD}
 use borrow.Author.Tests.{eqb-true}
-use Rattle.common.proofs.BelowLaws.{sum-one, sum-two}
+use Rattle.common.proofs.BelowLaws.{sum-one, sum-two, bit-one, bit-small}
 use Rattle.common.proofs.BoolLaws.{and-first-true, and-second-true}
 use Rattle.common.proofs.ProductLaws.{product-one, product-two}
 use Rattle.common.specs.Below.{sumBelow, bitOf}
@@ -18,14 +18,6 @@ use Rattle.theory.specs.Counts.{Two, Shown}
 use Rattle.theory.specs.Grammar.{Grammar, Spells, Stands}
 use Rattle.theory.specs.Steps.{charEntry}
 use Rattle.theory.specs.Tree.{Tree, leaf, node, Forest, _▷_}
-
-pub bit-one : (v : Bool) → 1 ≤ bitOf v → v ≡ true
-bit-one true h = refl
-bit-one false h = absurd (omega arith)
-
-pub bit-small : (v : Bool) → bitOf v ≤ 1
-bit-small true = omega arith
-bit-small false = omega arith
 
 -- ---- different trees
 
