@@ -3,7 +3,7 @@ use Prim.Native.Nat.{ℕ, _+_, _*_}
 use mathlib.Core.List.{List}
 use lib.ListN.{getD}
 use Rattle.common.specs.Below.{sumBelow}
-use Rattle.grammar.specs.Limits.{headerLength}
+use Rattle.grammar.specs.Limits.{headerLength, declarationLength}
 
 -- Byte k.
 abbrev pub byteAt : List ℕ → ℕ → ℕ
@@ -78,7 +78,7 @@ high b k r = byteAt b (rangeAt b k r + 1)
 
 -- declaration d: kind, first production, second production
 unfoldable pub declarationAt : List ℕ → ℕ → ℕ
-declarationAt b d = classAt b (classes b) + 3 * d
+declarationAt b d = classAt b (classes b) + declarationLength * d
 
 unfoldable pub kind : List ℕ → ℕ → ℕ
 kind b d = byteAt b (declarationAt b d)
@@ -93,4 +93,4 @@ second b d = byteAt b (declarationAt b d + 2)
 
 unfoldable pub neededLength : List ℕ → ℕ
 neededLength b =
-    headerLength + productions b + classes b + sumBelow (productions b) (λ p. 1 + argumentCount b p) + 2 * sumBelow (classes b) (λ k. rangeCount b k) + 3 * declarations b
+    headerLength + productions b + classes b + sumBelow (productions b) (λ p. 1 + argumentCount b p) + 2 * sumBelow (classes b) (λ k. rangeCount b k) + declarationLength * declarations b

@@ -40,3 +40,7 @@ classBase = 64
 -- the bytes before the contents
 abbrev pub headerLength : ℕ
 headerLength = 6
+
+-- the bytes of a declaration
+abbrev pub declarationLength : ℕ
+declarationLength = 3

@@ -15,6 +15,7 @@ use crate::layout::start_sort;
 use crate::limits::ARGUMENT_LIMIT;
 use crate::limits::CLASS_BASE;
 use crate::limits::CLASS_LIMIT;
+use crate::limits::DECLARATION_LENGTH;
 use crate::limits::HEADER_LENGTH;
 use crate::limits::KIND_LIMIT;
 use crate::limits::PAIR_KIND_LIMIT;
@@ -243,7 +244,7 @@ fn check_declarations(book: &[u8]) -> Verdict
         let Verdict::Accepted = found else {
             return found;
         };
-        at += 3;
+        at += DECLARATION_LENGTH;
         d += 1;
     }
     Verdict::Accepted

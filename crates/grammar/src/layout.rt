@@ -1,4 +1,5 @@
 // Where each part of a grammar stands among its bytes, and what it says.
+use crate::limits::DECLARATION_LENGTH;
 use crate::limits::HEADER_LENGTH;
 use common::wide;
 ghost use mathlib.Core.Path.{_≡_};
@@ -115,7 +116,7 @@ pub fn declaration_at(book: &[u8], d: usize) -> usize
     requires { ⌜ d ≤ declarations (now book) ⌝ }
     ensures { λ r. ⌜ r ≡ declarationAt (now (book .entry)) d ⌝ }
 {
-    class_at(book, class_count(book)) + 3 * d
+    class_at(book, class_count(book)) + DECLARATION_LENGTH * d
 }
 
 // ---- what the bodies say

@@ -20,3 +20,5 @@ pub const GROUP_STEP: usize = 3;
 pub const CLASS_BASE: usize = 64;
 // The bytes before the contents.
 pub const HEADER_LENGTH: usize = 6;
+// The bytes of a declaration.
+pub const DECLARATION_LENGTH: usize = 3;

@@ -9,6 +9,7 @@ use grammar::layout::byte_at;
 use grammar::layout::declaration_at;
 use grammar::layout::declaration_count;
 use grammar::layout::production_count;
+use grammar::limits::DECLARATION_LENGTH;
 use grammar::limits::GROUP_STEP;
 use grammar::limits::PRODUCTION_LIMIT;
 ghost use mathlib.Core.Path.{_≡_};
@@ -90,10 +91,10 @@ pub fn declared_pairs(
 {
     let mut table = no_pairs();
     let count = declaration_count(book);
-    let mut at = declaration_at(book, 0);
+    let start = declaration_at(book, 0);
     let mut d = 0;
     while d < count {
-        let own = read_declaration(book, d, at);
+        let own = read_declaration(book, start, d);
         let first = own.first;
         let second = own.second;
         let said = said_kind(own.kind);
@@ -105,19 +106,19 @@ pub fn declared_pairs(
             let wider = with_group(table, first, second);
             table = wider;
         }
-        at += 3;
         d += 1;
     }
     table
 }
 
-// Declaration d, which stands at `at`.
-fn read_declaration(book: &[u8], d: usize, at: usize) -> Declaration
+// Declaration d of those that begin at `start`.
+pub fn read_declaration(book: &[u8], start: usize, d: usize) -> Declaration
     requires { ⌜ WellFormed (now book) ⌝ }
-    requires { ⌜ (d < declarations (now book)) × (at ≡ declarationAt (now book) d) ⌝ }
+    requires { ⌜ (d < declarations (now book)) × (start ≡ declarationAt (now book) 0) ⌝ }
     ensures { λ r. ⌜ r ≡ declarationOf (now (book .entry)) d ⌝ }
     ensures { λ r. ⌜ (r .first < productionLimit) × (r .second < productionLimit) ⌝ }
 {
+    let at = start + DECLARATION_LENGTH * d;
     Declaration {
         kind: byte_at(book, at),
         first: byte_at(book, at + 1),
@@ -126,7 +127,7 @@ fn read_declaration(book: &[u8], d: usize, at: usize) -> Declaration
 }
 
 // The kind that is said: a kind of groups says what the one `GROUP_STEP` below it says of two productions.
-fn said_kind(own: usize) -> usize
+pub fn said_kind(own: usize) -> usize
     ensures { λ r. ⌜ r ≡ saidKind own ⌝ }
 {
     if is_group(own) {

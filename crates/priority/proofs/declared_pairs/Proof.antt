@@ -9,11 +9,10 @@ use lib.Dec.{eqb}
 use lib.ListN.{getD, set}
 use Rattle.common.specs.Below.{between}
 use Rattle.common.specs.Lists.{tabulate}
-use Rattle.grammar.proofs.FormedLaws.{bodies-in, declaration-in}
-use Rattle.grammar.proofs.LayoutLaws.{declaration-next}
+use Rattle.grammar.proofs.FormedLaws.{bodies-in}
 use Rattle.grammar.specs.Check.{isGroup}
 use Rattle.grammar.specs.Formed.{WellFormed}
-use Rattle.grammar.specs.Layout.{declarations, declarationAt}
+use Rattle.grammar.specs.Layout.{declarations}
 use Rattle.grammar.specs.Limits.{productionLimit}
 use Rattle.priority.proofs.CoverLaws.{declared-none, pairs-more}
 use Rattle.priority.proofs.TableLaws.{square-put}
@@ -24,9 +23,8 @@ use Rattle.priority.proofs.declared_pairs.Statement.{statement}
 use Rattle.priority.proofs.declared_pairs.Tie as tie
 
 -- the first d declarations are taken up, of these two kinds
-record Taken (b : List ℕ) (kind also count at d : ℕ) (table : List (List Bool)) : Type 0 where
+record Taken (b : List ℕ) (kind also count d : ℕ) (table : List (List Bool)) : Type 0 where
   square : Square productionLimit table
-  place : at ≡ declarationAt b d
   within : d ≤ count
   pairs : (k k′ : Kind) → kind ≡ kindNumber k → also ≡ kindNumber k′ → (x y : ℕ)
       → entry table x y ≡ (declaredIn (tabulate d (declarationOf b)) k x y || declaredIn (tabulate d (declarationOf b)) k′ x y)
@@ -46,10 +44,10 @@ module _ (t wider : List (List Bool)) (first second : ℕ) (on : Bool) (x y : �
   group-off e = rw e (sym (or-false (entry t x y)))
 
 abbrev Inv-loop : tie.InvT-loop
-Inv-loop book kind also table₀ count at₀ d₀ table at d = Taken book kind also count at d table
+Inv-loop book kind also table₀ count start d₀ table d = Taken book kind also count d table
 
 abbrev μ-loop : tie.MeasureT-loop
-μ-loop book kind also table₀ count at₀ d₀ table at d = count - d
+μ-loop book kind also table₀ count start d₀ table d = count - d
 
 no-pairs-requires : tie.Need-no-pairs-requires Inv-loop μ-loop
 no-pairs-requires c κs = tt
@@ -68,13 +66,12 @@ loop-holds c =
     let no-pairs = c .before .before .no-pairs in
     record {
       square = no-pairs .ensures .0;
-      place = c .declaration-at .ensures;
       within = omega arith;
       pairs = λ k k′ e e′ x y. no-pairs .ensures .1 x y ∙ sym (ap₂ _||_ (declared-none k x y) (declared-none k′ x y));
     }
 
 read-declaration-requires : tie.Need-read-declaration-requires Inv-loop μ-loop
-read-declaration-requires c κs = (c .before .before .before .before .before .before .pre, (omega (arith, c .before .before .before .declaration-count .ensures), c .before .loop .inv .place))
+read-declaration-requires c κs = (c .before .before .before .before .before .before .pre, (omega (arith, c .before .before .before .declaration-count .ensures), c .before .before .declaration-at .ensures))
 
 said-kind-requires : tie.Need-said-kind-requires Inv-loop μ-loop
 said-kind-requires c κs = tt
@@ -141,12 +138,6 @@ with-group-requires c κs =
     let (sf, ss) = read-declaration .ensures .1 in
     (ss, square-put productionLimit _ (l .second) (l .first) (c .before .before .before .either3 .result) (square-put productionLimit (turn .table) (l .first) (l .second) (c .before .before .before .before .before .either2 .result) (turn .inv .square) sf ss) ss sf)
 
-add-at : tie.Need-add-at Inv-loop μ-loop
-add-at c =
-    let start = c .before .before .before .before .before .before .before .before .before .before .before .before .before .before .before .before .before in
-    let turn = c .before .before .before .before .before .before .before .before .before .before .before .before .loop in
-    omega (arith, turn .inv .place, declaration-in (start .args .book .now) (start .pre .framed) (turn .d) (omega (arith, c .before .before .before .before .before .before .before .before .before .before .before .before .before .before .declaration-count .ensures)))
-
 add-d : tie.Need-add-d Inv-loop μ-loop
 add-d c = omega arith
 
@@ -185,10 +176,9 @@ loop-again c =
     let square = square-put productionLimit t₁ (l .second) (l .first) w (square-put productionLimit t (l .first) (l .second) v (turn .inv .square) sf ss) ss sf in
     let next : (wider : List (List Bool)) → Square productionLimit wider
     → ((x y : ℕ) → entry wider x y ≡ (entry t₂ x y || (written && isGroup (l .kind)) && (between (l .first) (l .second) x && between (l .first) (l .second) y)))
-    → Taken b (start .args .kind) (start .args .also) (declaration-count .result) (turn .at + 3) (d + 1) wider =
+    → Taken b (start .args .kind) (start .args .also) (declaration-count .result) (d + 1) wider =
     λ wider q e. record {
       square = q;
-      place = omega (arith, turn .inv .place, declaration-next b d);
       within = omega arith;
       pairs = λ k k′ i i′. pairs-more productionLimit d (declarationOf b) l own t (turn .inv .square) sf ss rises k k′ (turn .inv .pairs k k′ i i′) written turned v w
           (ew ∙ ap₂ (λ (m n : ℕ). eqb (saidKind (l .kind)) m || eqb (saidKind (l .kind)) n) i i′) et (either2 .ensures) (either3 .ensures) wider e;
@@ -236,7 +226,6 @@ declared-pairs-spec =
     is-group-requires
     both-requires-2
     with-group-requires
-    add-at
     add-d
     loop-less
     loop-again
