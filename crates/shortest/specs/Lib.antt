@@ -1,0 +1,4 @@
+-- What the contracts of the shortest chain cite.
+pub mod Chain
+pub mod Written
+pub mod Search
