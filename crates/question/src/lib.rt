@@ -119,7 +119,7 @@ fn is_conflict(above: bool, book: &[u8], p: usize, i: usize, q: usize) -> bool
 }
 
 // One entry of a table.
-fn entry_at(pairs: [[bool; PRODUCTION_LIMIT]; PRODUCTION_LIMIT], p: usize, q: usize) -> bool
+pub fn entry_at(pairs: [[bool; PRODUCTION_LIMIT]; PRODUCTION_LIMIT], p: usize, q: usize) -> bool
     requires { ⌜ (p < productionLimit) × (q < productionLimit) ⌝ }
     ensures { λ r. ⌜ r ≡ entry pairs p q ⌝ }
 {

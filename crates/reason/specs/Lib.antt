@@ -1,0 +1,2 @@
+-- What the contracts of the question for the reason cite.
+pub mod Reason
