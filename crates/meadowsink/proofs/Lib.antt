@@ -4,3 +4,4 @@ pub mod ViewerLaws
 pub mod FlatLaws
 pub mod PageLaws
 pub mod SheetLaws
+pub mod ReasonLaws

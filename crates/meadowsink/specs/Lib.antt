@@ -3,3 +3,4 @@ pub mod Viewer
 pub mod Flat
 pub mod Page
 pub mod Sheet
+pub mod Reason

@@ -10,4 +10,5 @@ pub mod read_flat;
 pub mod step;
 pub mod summary;
 pub mod text_under;
+pub mod why;
 pub mod write_page;

@@ -1,5 +1,6 @@
 -- What each answer of an operation is for programs in C (include/meadowsink.h): its kind, its value and, of a refusal, its place.
-use Prim.Native.Nat.{ℕ, _+_, _*_, _≤_}
+use Prim.Native.Nat.{ℕ, _+_, _*_, _≤_, _<_}
+use Rattle.common.specs.Bytes.{byteValues}
 use Rattle.writing.specs.declared.WriteAnswer.{WriteAnswer}
 use Rattle.writing.specs.declared.WriteAnswer.the-variants.{Written}
 use Rattle.engine.specs.declared.Answer.{Answer}
@@ -12,6 +13,8 @@ use Rattle.load.specs.declared.FlatAnswer.the-variants.{Lines, Refused as NotLo
 use Rattle.listing.specs.declared.ListingAnswer.the-variants.{Right, Wrong}
 use Rattle.question.specs.declared.ConflictAnswer.{ConflictAnswer}
 use Rattle.question.specs.declared.ConflictAnswer.the-variants.{Yes, No}
+use Rattle.reason.specs.declared.ReasonAnswer.{ReasonAnswer}
+use Rattle.reason.specs.declared.ReasonAnswer.the-variants.{Free, Higher, AtFirst, AtLast, Refused as NotReasoned}
 use Rattle.reply.specs.Reply.{answered, refused}
 use Rattle.reply.specs.declared.Reply.{Reply}
 use Rattle.sheet.specs.Refusals.{sheetLimit}
@@ -72,3 +75,23 @@ Near (NotTaken number place) next = Unit {0}
 unfoldable pub linesReply : FlatAnswer → Reply
 linesReply (Lines n) = answered 1 n
 linesReply (NotLoaded number place) = refused number place
+
+-- how many values the line of a conflict may have, with room for none
+abbrev pub lineValues : ℕ
+lineValues = 4
+
+-- the reason of a conflict: 0 no conflict, 1 a conflict, the value is 4 × n + its line, where n is how long the chain is, or which declaration it is
+unfoldable pub reasonReply : ReasonAnswer → Reply
+reasonReply Free = answered 0 0
+reasonReply (Higher n) = answered 1 (lineValues * n + 1)
+reasonReply (AtFirst d) = answered 1 (lineValues * d + 2)
+reasonReply (AtLast d) = answered 1 (lineValues * d + 3)
+reasonReply (NotReasoned number place) = refused number place
+
+-- What a reason counts is small enough for the value: declarations are counted by a byte.
+unfoldable pub Few : ReasonAnswer → Type 0
+Few Free = Unit {0}
+Few (Higher n) = n < byteValues
+Few (AtFirst d) = d < byteValues
+Few (AtLast d) = d < byteValues
+Few (NotReasoned number place) = Unit {0}

@@ -5,6 +5,7 @@ pub mod check_listing;
 pub mod conflict;
 pub mod read;
 pub mod step;
+pub mod why;
 pub mod write;
 
 ghost use mathlib.Core.Path.{_≡_};
