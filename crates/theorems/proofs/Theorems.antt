@@ -71,10 +71,13 @@ use Rattle.priority.specs.declared.Declaration.{Declaration}
 use Rattle.priority.specs.Spelled.{spelledOut}
 use Rattle.priority.proofs.RefusalLaws.{refused-first, first-refused, accepted-free, free-accepted, checked-not-six}
 use Rattle.priority.proofs.TurnedLaws.{turned-checked, turned-conflict, rising-judged}
+use Rattle.reason.proofs.ExactlyLaws.{free-exactly, refused-exactly as reason-refused-exactly, higher-exactly, first-exactly, last-exactly, chain-written, buffer-kept, one-answer, any-shortest}
+use Rattle.reason.specs.declared.ReasonAnswer.the-variants.{Higher as ByChain}
 use Rattle.rows.proofs.RowsLaws.{row-number}
 use Rattle.rows.proofs.UnderLaws.{row-stands}
 use Rattle.rows.specs.declared.Row.{Row}
 use Rattle.sheet.proofs.AnswerLaws.{sheet-grammar, sheet-too-long, summary-too-short, sheet-numbers, sheet-unchanged, sheet-read-exactly, sheet-in-turn, sheet-beyond, step-grammar, step-too-long, step-numbers, step-no-line, step-stays, step-line-says, step-others}
+use Rattle.shortest.proofs.ChainLaws.{higher-leads, leads-higher, leads-short}
 use Rattle.split.proofs.JoinedLaws.{lines-joined, lines-plain, lines-only}
 use Rattle.sheet.proofs.LineLaws.{line-alone}
 use Rattle.sheet.proofs.OutcomeLaws.{sheet-unique, step-unique}
@@ -85,7 +88,7 @@ use Rattle.writing.proofs.DigitsLaws.{numeral-plain, numeral-only}
 use Rattle.writing.proofs.NumeralLaws.{numeral-value, numeral-leading}
 use Rattle.writing.specs.declared.WriteAnswer.{WriteAnswer}
 use Rattle.writing.specs.declared.WriteAnswer.the-variants.{Written, Refused as NotWritten}
-use Rattle.theorems.specs.Theorems.{Bytes, AcceptedExactly, RefusedExactly, ConflictExactly, FlatExactly, Refuses, OneOutcome, ListingExactly, OneIsRight, Declares, FlatIsVisser, FlatIsCompleted, FlatTrees, FlatArguments, ReadingsAreFlat, Read, TextDetermines, Archived, FlatIsWritten, ListingDetermines, OneListed, PageExactly, PageSays, Pages, Parts, SaysOfGroup, GroupsSay, Spells, GroupsAreTheirPairs, SpelledBooks, PairsAsBefore, RangesSay, TurnedRangesSame, RangesCanRise, RisingRangesAsBefore, NeverSix, LinesSay, Sheets, LinesAlone, EachStep, WalkersGoDown, EqualExactly, ReadingsPart, SeveralPart, TwinsRefused, EqualAsBefore, NumeralsSay, FlatNumerals, PageNumerals, PassesClass, MarkedCases, RoundTrips, ChecksFlat, RefusesFlat, ReadFlat, OneFlatOutcome, startEntries, LodgedAndRead, Corners, ReadExactly}
+use Rattle.theorems.specs.Theorems.{Bytes, AcceptedExactly, RefusedExactly, ConflictExactly, FlatExactly, Refuses, OneOutcome, ListingExactly, OneIsRight, Declares, FlatIsVisser, FlatIsCompleted, FlatTrees, FlatArguments, ReadingsAreFlat, Read, TextDetermines, Archived, FlatIsWritten, ListingDetermines, OneListed, PageExactly, PageSays, Pages, Parts, SaysOfGroup, GroupsSay, Spells, GroupsAreTheirPairs, SpelledBooks, PairsAsBefore, RangesSay, TurnedRangesSame, RangesCanRise, RisingRangesAsBefore, NeverSix, LinesSay, Sheets, LinesAlone, EachStep, WalkersGoDown, EqualExactly, ReadingsPart, SeveralPart, TwinsRefused, EqualAsBefore, NumeralsSay, FlatNumerals, PageNumerals, PassesClass, MarkedCases, RoundTrips, ChecksFlat, RefusesFlat, ReadFlat, OneFlatOutcome, startEntries, LodgedAndRead, Corners, Chains, Reasons, OneReason, ReadExactly}
 
 -- ---- demand 1
 
@@ -497,6 +500,34 @@ lodged-and-read b bytes out₀ n e w chart₀ l₀ r r′ chart chart′ l l′ 
 
 pub corners-computed : Corners
 corners-computed = record { table = all-corners; full = full-stops }
+
+-- ---- request 8
+
+pub chains : (b : List ℕ) (x y : ℕ) → Chains b x y
+chains b x y =
+    record {
+      some = ((λ h. higher-leads b h), (λ (chain, c). leads-higher b c));
+      short = λ e chain c. leads-short b e c;
+    }
+
+pub reasons : Reasons
+reasons b p i q chain₀ r chain o =
+    record {
+      free = free-exactly b p i q chain₀ r chain o;
+      refused = reason-refused-exactly b p i q chain₀ r chain o;
+      higher = higher-exactly b p i q chain₀ r chain o;
+      first = first-exactly b p i q chain₀ r chain o;
+      last = last-exactly b p i q chain₀ r chain o;
+    }
+
+pub one-reason : (b : List ℕ) (p i q : ℕ) (chain₀ : List ℕ) → OneReason b p i q chain₀
+one-reason b p i q chain₀ =
+    record {
+      answer = one-answer b p i q chain₀;
+      kept = buffer-kept b p i q chain₀;
+      written = λ n chain o. let w = chain-written b p i q chain₀ (ByChain n) chain o n refl in (w .chain, w .shortest, w .isLength, w .isWritten);
+      unfixed = any-shortest b p i q chain₀;
+    }
 
 -- ---- the marked cases
 

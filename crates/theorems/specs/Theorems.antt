@@ -4,6 +4,7 @@
 -- before a call, chart and l afterwards. The contracts of the operations, none of which asks anything of its input, say that
 --     priority::check_grammar      answers  checked b
 --     question::conflict           answers  conflictAnswer b p i q
+--     reason::reason               answers some r and leaves some chain with  Reasoned b p i q chain₀ r chain
 --     flatten::write_flat          answers  flatAnswer b (how long its buffer is), and leaves there  bufferAfter
 --     parse::parse                 answers some r and leaves some chart and l with  Outcome b w chart₀ l₀ r chart l
 --     listing::check_listing       answers  listingAnswer b w l
@@ -83,9 +84,14 @@ use Rattle.priority.specs.declared.Declaration.{Declaration}
 use Rattle.priority.specs.Spelled.{IsOfTwo, spelledOut, spelledGrammar}
 use Rattle.priority.specs.Refusals.{Holds, First}
 use Rattle.question.specs.declared.ConflictAnswer.the-variants.{Yes, No, Refused as NotAsked}
+use Rattle.reason.specs.Reason.{Asked, LowestLine, LowestDeclaration, Reasoned}
+use Rattle.reason.specs.declared.ReasonAnswer.{ReasonAnswer}
+use Rattle.reason.specs.declared.ReasonAnswer.the-variants.{Free, Higher as ByChain, AtFirst, AtLast, Refused as NotReasoned}
 use Rattle.rows.specs.Rows.{noRow, rows}
 use Rattle.rows.specs.Under.{Stands}
 use Rattle.rows.specs.declared.Row.{Row}
+use Rattle.shortest.specs.Chain.{Leads, Shortest}
+use Rattle.shortest.specs.Written.{chainAfter}
 use Rattle.split.specs.Joined.{joinedLines, NoFeed, ended}
 use Rattle.split.specs.Lines.{lines, lineAt}
 use Rattle.sheet.specs.Outcome.{byteOf, LineBy, InTurn, SheetOutcome, StepOutcome}
@@ -671,6 +677,37 @@ LodgedAndRead =
 pub record Corners : Type 0 where
   pub table : All StopsThere corners
   pub full : (g : List Line) → Writable g → length g ≡ productionLimit → (byte : ℕ) (rest : List ℕ) → StopsThere (corner (grammarText g ++ (byte ∷ rest)) (length (grammarText g)))
+
+-- ---- Request 8. "A clash answer should carry the rule of the book behind it: which of the three clash lines of the first paper, the lowest that holds, and the declaration, by
+-- its index from 0."
+
+-- `Leads b chain x y` (shortest/specs/Chain): each declaration of the chain is of kind 1, its second production the first of the next, from x to y. "Higher" is that some chain leads there, and
+-- no chain has as many declarations as there are productions.
+pub record Chains (b : List ℕ) (x y : ℕ) : Type 0 where
+  pub some : Higher b x y ↔ ((chain : List ℕ) × Leads b chain x y)
+  pub short : checked b ≡ Accepted → (chain : List ℕ) → Leads b chain x y → length chain < productions b
+
+-- "Yes and no come exactly as in the plain question"; so do the refusals. Each line comes exactly if it is the lowest that holds (`LowestLine`, reason/specs/Reason: over all that a conflict may
+-- be by), and then "a chain of declarations of kind 1 from p to q …, as short as any" (`Shortest`), or "the lowest declaration, single or group, of a kind that the line names,
+-- that covers the pair" (`LowestDeclaration`).
+pub record ReasonedExactly (b : List ℕ) (p i q : ℕ) (r : ReasonAnswer) : Type 0 where
+  pub free : (r ≡ Free) ↔ (conflictAnswer b p i q ≡ No)
+  pub refused : (number place : ℕ) → (r ≡ NotReasoned number place) ↔ (conflictAnswer b p i q ≡ NotAsked number place)
+  pub higher : (n : ℕ) → (r ≡ ByChain n) ↔ (Asked b p i q × LowestLine b p i q 1 × ((chain : List ℕ) × Shortest b p q chain × (n ≡ length chain)))
+  pub first : (d : ℕ) → (r ≡ AtFirst d) ↔ (Asked b p i q × LowestLine b p i q 2 × LowestDeclaration b right p q d)
+  pub last : (d : ℕ) → (r ≡ AtLast d) ↔ (Asked b p i q × LowestLine b p i q 3 × LowestDeclaration b left p q d)
+
+abbrev pub Reasons : Type 0
+Reasons = (b : List ℕ) (p i q : ℕ) (chain₀ : List ℕ) (r : ReasonAnswer) (chain : List ℕ) → Reasoned b p i q chain₀ r chain → ReasonedExactly b p i q r
+
+-- What was lent determines the answer, and the buffer afterwards but for line 1. "Another chain of that length is equally good, so which of them it is stays unfixed": there the buffer starts with one
+-- of the shortest chains, as much of it as fits, and beyond that it is as it was (`chainAfter`); and with any other in its place the promise would be kept as well. Nothing else is open.
+pub record OneReason (b : List ℕ) (p i q : ℕ) (chain₀ : List ℕ) : Type 0 where
+  pub answer : (r r′ : ReasonAnswer) (chain chain′ : List ℕ) → Reasoned b p i q chain₀ r chain → Reasoned b p i q chain₀ r′ chain′ → r ≡ r′
+  pub kept : (r : ReasonAnswer) (chain : List ℕ) → Reasoned b p i q chain₀ r chain → ((n : ℕ) → r ≡ ByChain n → ⊥) → chain ≡ chain₀
+  pub written : (n : ℕ) (chain : List ℕ) → Reasoned b p i q chain₀ (ByChain n) chain
+      → (own : List ℕ) × Shortest b p q own × (n ≡ length own) × (chain ≡ chainAfter own chain₀)
+  pub unfixed : (n : ℕ) (chain : List ℕ) → Reasoned b p i q chain₀ (ByChain n) chain → (other : List ℕ) → Shortest b p q other → Reasoned b p i q chain₀ (ByChain n) (chainAfter other chain₀)
 
 -- ---- The paper's marked cases: any outcome of reading each of them, whatever chart and buffer held, is the one marked.
 abbrev pub MarkedCases : Type 0
