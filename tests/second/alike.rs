@@ -24,7 +24,7 @@ pub struct Pair<'a> {
 }
 
 /// All clash questions of a book that name something, or about `most` of them.
-fn questions(book: &Book, most: usize, dice: &mut Dice) -> Vec<(u64, u64, u64)> {
+pub fn questions(book: &Book, most: usize, dice: &mut Dice) -> Vec<(u64, u64, u64)> {
     let rules = book.rules.len();
     let arguments = (0..rules).flat_map(|p| (0..book.count(p)).map(move |i| (p as u64, i as u64)));
     let all: Vec<_> = arguments.flat_map(|(p, i)| (0..rules as u64).map(move |q| (p, i, q))).collect();

@@ -300,6 +300,10 @@ pub fn run(tally: &mut Tally) -> Result<(), Mismatch> {
     crate::fixed_passing::run(&mut dice, tally)?;
     crate::fixed_forms::run(&mut dice, tally)?;
     crate::fixed_flat_reads::run(&mut dice, tally)?;
+    crate::fixed_reasons::run(&mut dice, tally)?;
+    crate::fixed_reason_pairs::run(&mut dice, tally)?;
+    crate::fixed_reason_limits::run(&mut dice, tally)?;
+    crate::fixed_reason_refusals::run(&mut dice, tally)?;
     damaged(&book_t(&[[2, 1, 1], [1, 1, 2]]), &mut dice, tally)?;
     damaged(&book_t(&[[5, 1, 2], [7, 2, 2]]), &mut dice, tally)
 }

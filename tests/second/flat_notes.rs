@@ -38,12 +38,6 @@ fn ranges(set: &[bool]) -> usize {
     (0..set.len()).filter(|&n| set[n] && (n == 0 || !set[n - 1])).count()
 }
 
-fn add_met(call: &'static str, met: &[(bool, &'static str)], tally: &mut Tally) {
-    for (_, name) in met.iter().filter(|m| m.0) {
-        tally.add(call, *name);
-    }
-}
-
 /// What of a text in the form is easily got wrong.
 fn note_lines(flat: &Flat, tally: &mut Tally) {
     let all: Vec<_> = flat.lines.iter().flatten().collect();
@@ -59,7 +53,7 @@ fn note_lines(flat: &Flat, tally: &mut Tally) {
         (all.iter().any(|set| set[RULES + MOST_LINES - 1]), "number 321"),
         (all.iter().any(|set| set[255] && ranges(set) == 1 && set[0]), "all characters"),
     ];
-    add_met("form with", &met, tally);
+    tally.add_met("form with", &met);
 }
 
 /// What a flat text has, or where and how it is refused.
@@ -98,7 +92,7 @@ pub fn note_reading(given: Given, study: &Study<Rooted>, tally: &mut Tally) {
         (given.text.is_empty(), "an empty text"),
         (given.text.len() == 200, "200 bytes"),
     ];
-    add_met("read_flat with", &met, tally);
+    tally.add_met("read_flat with", &met);
 }
 
 /// Which refusals would hold of a reading besides the one that comes. A chart without a byte is too short for every text.
@@ -116,5 +110,5 @@ pub fn note_order(given: Given, refused: &Refusal, chart: usize, tally: &mut Tal
         (!by_text && by_root, "28 by root"),
         (refused.number == 10 && chart == 0, "10, with 20"),
     ];
-    add_met("flat order", &met, tally);
+    tally.add_met("flat order", &met);
 }

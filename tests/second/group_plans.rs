@@ -10,7 +10,7 @@ fn some_kinds(dice: &mut Dice) -> &'static [u8] {
 
 /// A group's two rules: one rule, all rules, the rules of a declaration that is there (so that their pair has several
 /// kinds), or any two.
-fn ends(dice: &mut Dice, rules: usize, there: &[[u8; 3]]) -> (u8, u8) {
+pub fn ends(dice: &mut Dice, rules: usize, there: &[[u8; 3]]) -> (u8, u8) {
     let (a, b) = (dice.below(rules) as u8, dice.below(rules) as u8);
     match dice.below(8) {
         0 => (a, a),
@@ -40,7 +40,7 @@ fn bad_group(dice: &mut Dice, rules: usize) -> [u8; 3] {
     }
 }
 
-fn put_anywhere(dice: &mut Dice, declarations: &mut Vec<[u8; 3]>, one: [u8; 3]) {
+pub fn put_anywhere(dice: &mut Dice, declarations: &mut Vec<[u8; 3]>, one: [u8; 3]) {
     let at = dice.below(declarations.len() + 1);
     declarations.insert(at, one);
 }

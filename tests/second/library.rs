@@ -9,6 +9,8 @@ extern "C" {
     fn meadowsink_check_place(b: *const u8, bn: usize) -> u64;
     fn meadowsink_conflict(b: *const u8, bn: usize, p: u64, i: u64, q: u64) -> u64;
     fn meadowsink_conflict_place(b: *const u8, bn: usize, p: u64, i: u64, q: u64) -> u64;
+    fn meadowsink_reason(b: *const u8, bn: usize, p: u64, i: u64, q: u64, c: *mut u8, cn: usize) -> u64;
+    fn meadowsink_reason_place(b: *const u8, bn: usize, p: u64, i: u64, q: u64, c: *mut u8, cn: usize) -> u64;
     fn meadowsink_flat(b: *const u8, bn: usize, o: *mut u8, on: usize) -> u64;
     fn meadowsink_flat_place(b: *const u8, bn: usize, o: *mut u8, on: usize) -> u64;
     fn meadowsink_check_listing(b: *const u8, bn: usize, t: *const u8, tn: usize, l: *const u8, ln: usize) -> u64;
@@ -90,6 +92,15 @@ pub fn conflict(make: Make, book: &mut Lent, (p, i, q): (u64, u64, u64)) -> u64 
     match make {
         Make::Number => unsafe { meadowsink_conflict(book.lent(), length, p, i, q) },
         Make::Place => unsafe { meadowsink_conflict_place(book.lent(), length, p, i, q) },
+    }
+}
+
+/// The same question, where the reason's chain is written.
+pub fn reason(make: Make, book: &mut Lent, (p, i, q): (u64, u64, u64), chain: &mut Lent) -> u64 {
+    let (bn, cn) = (book.length, chain.length);
+    match make {
+        Make::Number => unsafe { meadowsink_reason(book.lent(), bn, p, i, q, chain.lent(), cn) },
+        Make::Place => unsafe { meadowsink_reason_place(book.lent(), bn, p, i, q, chain.lent(), cn) },
     }
 }
 

@@ -11,17 +11,19 @@
 //! and each line read alone. Of every two readings of a small case it is seen where their listings part. Each numeral that the
 //! library writes is read in base ten. Classes are tried with all 256 bytes, each alone as a text. Flat texts, whole and
 //! damaged, are checked, and texts are read by them with some lines allowed at the root; the text of each accepted book is read
-//! a second time by the flat text that the library writes for the book.
+//! a second time by the flat text that the library writes for the book. Clashes are asked for their reasons, with every byte of
+//! the chain's buffer, in the same books and in books with many ranks; a chain is judged, since any of the shortest will do.
 //!
 //! The proved parser fills a chart by columns with counts that stop at 2. This program has neither a column nor a chart
 //! that is filled in order. It has two other methods, checked against each other on all small cases:
 //!   trees.rs    keeps all trees as data, blind to priorities, and filters whole trees by the patterns of Definition 2.6;
 //!   counter.rs  finds which items derive anything with an agenda, finds loops as strongly connected components
 //!               (endlessly many), and counts the rest exactly.
-//! Ranks are closed by depth-first search, clashes and equal rules come in two forms, listings are checked with a stack, and
-//! pages are made from trees that are put together from the last number to the first. The written form of a flat text is judged
-//! by all words that may come next, numerals of every number among them, and again by writing its lines anew and by trying
-//! tails; readings by flat texts are counted by counter.rs, and again by the heights of trees.
+//! Ranks are closed by depth-first search, and how short a chain of them can be is read from a table that is mended rule by
+//! rule. Clashes and equal rules come in two forms, listings are checked with a stack, and pages are made from trees that are
+//! put together from the last number to the first. The written form of a flat text is judged by all words that may come next,
+//! numerals of every number among them, and again by writing its lines anew and by trying tails; readings by flat texts are
+//! counted by counter.rs, and again by the heights of trees.
 //!
 //! It was written from the papers alone, without reading the library's sources.
 //!
@@ -54,6 +56,10 @@ mod fixed_numerals;
 mod fixed_pages;
 mod fixed_passing;
 mod fixed_ranges;
+mod fixed_reason_limits;
+mod fixed_reason_pairs;
+mod fixed_reason_refusals;
+mod fixed_reasons;
 mod fixed_sheets;
 mod fixed_steps;
 mod fixed_turned;
@@ -85,6 +91,11 @@ mod range_plans;
 mod ranges;
 mod ranks;
 mod reading;
+mod reason_calls;
+mod reason_cases;
+mod reason_notes;
+mod reason_plans;
+mod reasons;
 mod sheet_calls;
 mod sheet_cases;
 mod sheet_notes;
@@ -117,7 +128,8 @@ pub fn all_calls(case: &Case, study: &Study, dice: &mut Dice, tally: &mut Tally)
 }
 
 /// One random case, its book with the groups spelled out, and with ranges turned round, a sheet, a class of the book, its own
-/// flat text; and a flat text to check and another to read by, which have nothing to do with the book.
+/// flat text, and the reason of a clash; and a flat text to check, another to read by, and a book with many ranks, which have
+/// nothing to do with the book.
 /// Groups, downward ranges and equal or nearly equal rules are counted here alone, so that random books must have them whatever
 /// the fixed ones have.
 fn random_case(case: &Case, dice: &mut Dice, tally: &mut Tally) -> Result<(), Mismatch> {
@@ -132,7 +144,9 @@ fn random_case(case: &Case, dice: &mut Dice, tally: &mut Tally) -> Result<(), Mi
     passing::perhaps(case, &study, dice, tally)?;
     flat_cases::perhaps_of_book(case, &study, dice, tally)?;
     flat_cases::form(dice, tally)?;
-    flat_cases::reading(dice, tally)
+    flat_cases::reading(dice, tally)?;
+    reason_cases::perhaps_of_book(case, &study, dice, tally)?;
+    reason_cases::ranked(dice, tally)
 }
 
 fn decimals(bytes: &[u8]) -> String {

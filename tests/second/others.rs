@@ -57,26 +57,34 @@ pub fn odd_number(dice: &mut Dice, good: u64, limit: u64) -> u64 {
     dice.pick(&[limit, limit + 1, 8, 9, 64, 255, 256 + good, 65_536 + good, (1 << 32) + good, (1 << 63) + good, u64::MAX])
 }
 
-/// Some questions to the clash, all of them now and then, and a few that name nothing.
-pub fn conflicts(bytes: &[u8], book: &Result<Book, Refusal>, dice: &mut Dice, tally: &mut Tally) -> Outcome {
+/// A question to the clash, now and then one that names nothing; of a refused book any will do.
+pub fn some_question(book: &Result<Book, Refusal>, dice: &mut Dice) -> (u64, u64, u64) {
     let Ok(good) = book else {
-        let any = (dice.below(3) as u64, dice.below(3) as u64, dice.pick(&[0, 1, u64::MAX]));
-        return conflict(bytes, book, any, dice, tally);
+        return (dice.below(3) as u64, dice.below(3) as u64, dice.pick(&[0, 1, u64::MAX]));
     };
     let rules = good.rules.len() as u64;
-    for _ in 0..6 {
-        let p = dice.below(good.rules.len()) as u64;
-        let count = good.count(p as usize) as u64;
-        let (i, q) = (dice.below(count as usize) as u64, dice.below(good.rules.len()) as u64);
-        let ask = match dice.below(12) {
-            0 => (odd_number(dice, p, rules), i, q),
-            1 => (p, odd_number(dice, i, count), q),
-            2 => (p, i, odd_number(dice, q, rules)),
-            3 => (p, count, q),
-            _ => (p, i, q),
-        };
+    let p = dice.below(good.rules.len()) as u64;
+    let count = good.count(p as usize) as u64;
+    let (i, q) = (dice.below(count as usize) as u64, dice.below(good.rules.len()) as u64);
+    match dice.below(12) {
+        0 => (odd_number(dice, p, rules), i, q),
+        1 => (p, odd_number(dice, i, count), q),
+        2 => (p, i, odd_number(dice, q, rules)),
+        3 => (p, count, q),
+        _ => (p, i, q),
+    }
+}
+
+/// Some questions to the clash, all of them now and then.
+pub fn conflicts(bytes: &[u8], book: &Result<Book, Refusal>, dice: &mut Dice, tally: &mut Tally) -> Outcome {
+    for _ in 0..if book.is_ok() { 6 } else { 1 } {
+        let ask = some_question(book, dice);
         conflict(bytes, book, ask, dice, tally)?;
     }
+    let Ok(good) = book else {
+        return Ok(());
+    };
+    let rules = good.rules.len() as u64;
     if rules <= 5 && dice.chance(10) {
         for p in 0..rules {
             for i in 0..good.count(p as usize) as u64 {

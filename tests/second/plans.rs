@@ -34,7 +34,7 @@ impl Plan {
     }
 
     /// Takes out rules that equal an earlier one, be it under other class names, so that refusal 8 is met only when wanted.
-    fn without_twins(mut self) -> Plan {
+    pub fn without_twins(mut self) -> Plan {
         let mut unlike = Unlike::new(&self.classes);
         self.rules.retain(|rule| unlike.insert(rule));
         self

@@ -56,6 +56,16 @@ fn both_ways(rules: usize, kind: u8, declarations: &[Declaration]) -> Table {
     table
 }
 
+impl Declaration {
+    /// Is it of these two rules, in either order, or of a group that both are in?
+    pub fn covers(&self, a: usize, b: usize) -> bool {
+        match self.is_group() {
+            true => self.first <= a.min(b) && a.max(b) <= self.second,
+            false => [(a, b), (b, a)].contains(&(self.first, self.second)),
+        }
+    }
+}
+
 impl Ranks {
     pub fn new(rules: usize, with_groups: &[Declaration]) -> Ranks {
         let declarations = &spelled_out(with_groups);
@@ -103,9 +113,7 @@ impl Book {
 
     /// Is this kind (2, 3 or 4) declared of two rules, in either order or by a group that both are in?
     fn declared(&self, kind: u8, a: usize, b: usize) -> bool {
-        let single = |d: &Declaration| d.kind == kind && [(a, b), (b, a)].contains(&(d.first, d.second));
-        let group = |d: &Declaration| d.kind == kind + 3 && d.first <= a.min(b) && a.max(b) <= d.second;
-        self.declarations.iter().any(|d| single(d) || group(d))
+        self.declarations.iter().any(|d| [kind, kind + 3].contains(&d.kind) && d.covers(a, b))
     }
 
     /// The smallest set closed under Definition 2.6's three rules. A pattern [alpha [beta -> B] gamma -> A] is held as

@@ -127,6 +127,23 @@ fn of_flat_texts() -> Vec<(&'static str, Vec<String>)> {
     ]
 }
 
+/// Kinds of reasons, of chains, and of what is near a reason and is none.
+fn of_reasons() -> Vec<(&'static str, Vec<String>)> {
+    vec![
+        ("reason", words(&["no", "line 1", "line 2", "line 3", "a bad book and no such rule"])),
+        ("reason", refusals(&[1, 2, 3, 4, 5, 7, 8, 9])),
+        ("reason, chain", words(&["of 1", "of 2", "of 3", "of 4 to 9", "of 10 to 62", "of 63", "several shortest"])),
+        ("reason, chain", words(&["a longer chain too", "a longer chain's link first", "a dead end first"])),
+        ("reason, chain", words(&["line 2 too", "line 3 too", "the only argument", "an argument in the middle"])),
+        ("reason, chain", words(&["no room", "a byte too little room", "too little room", "just room enough", "more room"])),
+        ("reason, covered", words(&["a group, one of two behind", "of two, a group behind", "another line's kind before"])),
+        ("reason, covered", words(&["a group, p below q", "a group, p above q", "of two, turned", "a rule with itself"])),
+        ("reason, covered", words(&["not together", "a high declaration"])),
+        ("reason, none", words(&["barred, but a class", "barred, but another sort", "left at the first", "right at the last"])),
+        ("reason, none", words(&["right in the middle", "left of the only argument", "q above p"])),
+    ]
+}
+
 pub struct Tally {
     met: BTreeMap<(&'static str, String), u64>,
     /// Are the fixed cases done? Numerals of random cases are counted by themselves.
@@ -145,6 +162,13 @@ impl Tally {
     /// Once or more.
     pub fn add_times(&mut self, call: &'static str, kind: impl Into<String>, times: u64) {
         *self.met.entry((call, kind.into())).or_insert(0) += times;
+    }
+
+    /// Those of these kinds that are met.
+    pub fn add_met(&mut self, call: &'static str, met: &[(bool, &'static str)]) {
+        for (_, name) in met.iter().filter(|m| m.0) {
+            self.add(call, *name);
+        }
     }
 
     /// How long the text is, and which limits an accepted book just keeps.
@@ -181,7 +205,7 @@ impl Tally {
 
     /// Every kind of answer that a long run must meet.
     fn wanted() -> Vec<(&'static str, String)> {
-        let lists = [of_calls(), of_books(), of_equal_rules(), of_sheets(), of_constants(), of_flat_texts()];
+        let lists = [of_calls(), of_books(), of_equal_rules(), of_sheets(), of_constants(), of_flat_texts(), of_reasons()];
         lists.into_iter().flatten().flat_map(|(call, kinds)| kinds.into_iter().map(move |k| (call, k))).collect()
     }
 
