@@ -6,9 +6,14 @@
  *     viewer --sheet SHEET BOOK                     for each line of a sheet its number, the answer in words, and the line
  *     viewer --flat BOOK                            the flat book; on standard error the numbers allowed at the top, to be kept beside it
  *     viewer --from-flat FLAT --top NUMBERS [LINE]  as the first, by a flat book alone; the numbers are those allowed at the top, such as 258,261-263
+ *     viewer --why [--names NAMES] BOOK P I Q       whether rule Q may stand as argument I of rule P, and if the ranks forbid it, by which declarations
  *
  * NAMES has the name of a rule on each line, as tools/book writes it. A rule without a name is shown as `rule N`, counted from 0 as in the book; by a
  * flat book each is, and its first line is rule 0.
+ * P and Q are rules, by name or by number; a word that stands in NAMES is a name, even if it is a number. I is a number. Arguments and declarations, too, are
+ * counted from 0. A declaration is written as in the text of a book, and a rule without a name is rN there, as `book --show` has it.
+ * A line that has no reading is read once more by the book without its declarations. If it has one reading then, each way in which the ranks bar that is
+ * said in the words of --why, one a line; if it has several, that is said.
  * A page has numbers only, so names change nothing on it; include/meadowsink.h says what stands in each column.
  * A sheet that takes longer than a second has a line on standard error, if that is a terminal, that says how far it is.
  * A refusal has its number and place; `book --explain BOOK PLACE` says what stands at that byte of a book. A place in a flat book has its line and column, too.
@@ -29,11 +34,20 @@ enum { ANSWERED = 0, REFUSED = 1, FAILED = 2, NOT_ALL_ONE = 3 };
 
 enum {
     HEADER = 6,            /* bytes of a book's header */
-    START = 4,             /* its byte that is the start sort */
+    RULES = 1,             /* its bytes that are the counts of rules, classes and declarations, and the start sort */
+    CLASSES = 2,
+    DECLARATIONS = 3,
+    START = 4,
+    FIRST_CLASS = 64,      /* class 0 among the arguments of a rule; sorts are below */
+    DECLARATION_BYTES = 3, /* its kind and two rules */
+    FIRST_GROUP = 5,       /* the kinds from this on are of groups */
     PRODUCTION_BASE = 258, /* rule 0 in a listing; characters are below */
     RULES_MOST = 64,       /* rules of a book, or lines of a flat book */
+    ARGUMENTS_MOST = 8,    /* arguments of a rule */
+    CHAIN_MOST = 63,       /* declarations by which one rule is higher than another */
     NUMBERS_MOST = 32768,  /* numbers of the longest listing that is written */
     LINE_BYTES = 73,       /* bytes of a page for each number */
+    LINE_HIGHER = 1,       /* the line of conflicts that has a chain of declarations */
     KIND_NONE = 0,         /* the kinds of answers, and the number of a refusal */
     KIND_ONE = 1,
     KIND_REFUSED = 3,
@@ -87,14 +101,24 @@ static void print_bytes(const uint8_t *bytes, size_t length) {
     for (size_t i = 0; i < length; i++) print_byte(bytes[i]);
 }
 
-/* The name of a rule, or `rule N` if it has none. */
-static void print_name(size_t production) {
-    size_t start = 0, end, left = production;
-    while (left > 0 && start < names.length)
-        if (names.bytes[start++] == '\n') left--;
-    for (end = start; end < names.length && names.bytes[end] != '\n'; end++) continue;
-    print_bytes(names.bytes + start, end - start);
-    if (end == start) printf("rule %zu", production);
+/* How long the line is that starts at a place. */
+static size_t line_length(const Area *area, size_t start) {
+    const uint8_t *end = memchr(area->bytes + start, '\n', area->length - start);
+    return end == NULL ? area->length - start : (size_t)(end - (area->bytes + start));
+}
+
+/* The name of a rule between quotes, or if it has none, its number behind a word. */
+static void print_name(size_t production, const char *quote, const char *word) {
+    size_t start = 0;
+    for (size_t left = production; left > 0 && start < names.length; left--) start += line_length(&names, start) + 1;
+    size_t length = start < names.length ? line_length(&names, start) : 0;
+    if (length == 0) {
+        printf("%s%zu", word, production);
+        return;
+    }
+    fputs(quote, stdout);
+    print_bytes(names.bytes + start, length);
+    fputs(quote, stdout);
 }
 
 /* ---- an accepted book */
@@ -103,12 +127,18 @@ static const uint8_t *argument_counts = book.bytes + HEADER;
 
 static size_t argument_count(size_t production) { return argument_counts[production]; }
 
-/* The numbers of the rules of the start sort. Behind the counts of rules and classes each rule has a byte for its result, and then its arguments. */
+/* The bytes of a rule: its result, and then its arguments. They stand behind the counts of rules and classes. */
+static const uint8_t *rule_bytes(size_t production) {
+    const uint8_t *bytes = book.bytes + HEADER + book.bytes[RULES] + book.bytes[CLASSES];
+    for (size_t p = 0; p < production; p++) bytes += 1 + argument_count(p);
+    return bytes;
+}
+
+/* The numbers of the rules of the start sort. */
 static void print_tops(void) {
-    size_t productions = book.bytes[1], classes = book.bytes[2], at = HEADER + productions + classes;
     fputs("allowed at the top:", stderr);
-    for (size_t p = 0; p < productions; at += 1 + argument_count(p++))
-        if (book.bytes[at] == book.bytes[START]) fprintf(stderr, " %zu", PRODUCTION_BASE + p);
+    for (size_t p = 0; p < book.bytes[RULES]; p++)
+        if (rule_bytes(p)[0] == book.bytes[START]) fprintf(stderr, " %zu", PRODUCTION_BASE + p);
     fputc('\n', stderr);
 }
 
@@ -159,40 +189,63 @@ static void print_position(uint64_t place) {
     fprintf(stderr, ", line %zu, column %zu%s", row, column, place == flat_length ? ", where it ends" : "");
 }
 
-static int refuse(uint64_t number, uint64_t place) {
-    const char *words = number < sizeof words_for / sizeof words_for[0] ? words_for[number] : NULL;
+/* The words may have the place in them. */
+static int refuse_in(const char *words, uint64_t number, uint64_t place) {
     fprintf(stderr, "refused %llu %llu: ", (unsigned long long)number, (unsigned long long)place);
-    fprintf(stderr, words != NULL ? words : "the place is %llu", (unsigned long long)place);
+    fprintf(stderr, words, (unsigned long long)place);
     if (number == NOT_THE_FORM) print_position(place);
     fputc('\n', stderr);
     return REFUSED;
+}
+
+static int refuse(uint64_t number, uint64_t place) {
+    const char *words = number < sizeof words_for / sizeof words_for[0] ? words_for[number] : NULL;
+    return refuse_in(words != NULL ? words : "the place is %llu", number, place);
+}
+
+static int check_book(void) {
+    uint64_t answer = meadowsink_check(book.bytes, book.length);
+    return answer % 4 == KIND_REFUSED ? refuse(answer / 4, meadowsink_check_place(book.bytes, book.length)) : ANSWERED;
 }
 
 /* ---- the tree */
 
 typedef struct {
     uint16_t number, depth;
-    uint8_t start, end; /* its text: lines have at most 200 bytes */
+    uint8_t start, end;       /* its text: lines have at most 200 bytes */
+    uint8_t parent, argument; /* of which rule it is which argument; not for the root */
 } Node;
 
 static Node nodes[NUMBERS_MOST];
 static uint8_t text_done; /* how much of the line the nodes up to now take */
 
-/* Notes the depth and text of number i of the listing and of all below it; gives the index behind them. That they are the listing of a tree is proved. */
+static size_t production_of(const Node *node) { return (size_t)node->number - PRODUCTION_BASE; }
+
+/*
+ * Notes the depth and text of number i of the listing and of all below it, and of which rule each of these is which argument; gives the index behind them.
+ * That they are the listing of a tree is proved.
+ */
 static size_t place_node(size_t i, uint16_t depth) {
     Node *node = &nodes[i];
-    *node = (Node){(uint16_t)(listing[2 * i] + 256 * listing[2 * i + 1]), depth, text_done, 0};
+    node->number = (uint16_t)(listing[2 * i] + 256 * listing[2 * i + 1]);
+    node->depth = depth;
+    node->start = text_done;
     i++;
-    if (node->number < PRODUCTION_BASE)
+    if (node->number < PRODUCTION_BASE) {
         text_done++;
-    else
-        for (size_t n = argument_count(node->number - PRODUCTION_BASE); n > 0; n--) i = place_node(i, depth + 1);
+    } else {
+        for (uint8_t n = 0; n < argument_count(production_of(node)); n++) {
+            nodes[i].parent = (uint8_t)production_of(node);
+            nodes[i].argument = n;
+            i = place_node(i, depth + 1);
+        }
+    }
     node->end = text_done;
     return i;
 }
 
 static void print_production(Node node) {
-    print_name(node.number - PRODUCTION_BASE);
+    print_name(production_of(&node), "", "rule ");
     fputs(node.start == node.end ? "   (empty)" : "   ", stdout);
     print_bytes(line.bytes + node.start, (size_t)(node.end - node.start));
 }
@@ -222,6 +275,76 @@ static int print_tree(size_t count) {
 static int print_flat_tree(size_t count) {
     count_arguments();
     return print_tree(count);
+}
+
+/* ---- why a rule may not stand somewhere */
+
+static uint8_t chain[CHAIN_MOST];
+
+static uint64_t call_reason(int place, size_t p, size_t i, size_t q) {
+    return (place ? meadowsink_reason_place : meadowsink_reason)(book.bytes, book.length, p, i, q, chain, sizeof chain);
+}
+
+/* In the words of a book's text. Declarations are the end of a book. */
+static void print_declaration(size_t index) {
+    static const char *const words[] = {"", "higher", "left", "right", "not-together", "left", "right", "not-together"};
+    const uint8_t *declaration = book.bytes + book.length - DECLARATION_BYTES * (book.bytes[DECLARATIONS] - index);
+    printf("declaration %zu, %s ", index, words[declaration[0]]);
+    print_name(declaration[1], "", "r");
+    fputs(declaration[0] < FIRST_GROUP ? " " : "..", stdout);
+    print_name(declaration[2], "", "r");
+}
+
+/* Where rule q stands; `how` comes between it and the place. */
+static void print_standing(size_t p, size_t i, size_t q, const char *how) {
+    static const char *const which[] = {"first", "second", "third", "fourth", "fifth", "sixth", "seventh"};
+    size_t count = argument_count(p);
+    print_name(q, "`", "rule ");
+    printf(" %s as the %s argument of ", how, count == 1 ? "only" : i == count - 1 ? "last" : which[i]);
+    print_name(p, "`", "rule ");
+}
+
+/* The ranks forbid nothing, but only a rule of the argument's sort can stand there. */
+static void print_free(size_t p, size_t i, size_t q) {
+    uint8_t argument = rule_bytes(p)[1 + i];
+    int fits = argument == rule_bytes(q)[0];
+    if (!fits) fputs("no rank keeps ", stdout);
+    print_standing(p, i, q, fits ? "may stand" : "from standing");
+    puts(fits ? "" : argument < FIRST_CLASS ? ", but it gives another sort" : ", but that is a class of characters");
+}
+
+/* Whether rule q may stand as argument i of rule p, by the answer and the chain that the library gave. */
+static void print_reason(uint64_t answer, size_t p, size_t i, size_t q) {
+    size_t n = answer / 16;
+    if (answer % 4 == KIND_NONE) {
+        print_free(p, i, q);
+        return;
+    }
+    print_standing(p, i, q, "may not stand");
+    if (answer / 4 % 4 == LINE_HIGHER) {
+        for (size_t k = 0; k < n; k++) {
+            fputs(k == 0 ? ", which is higher: " : "; ", stdout);
+            print_declaration(chain[k]);
+        }
+    } else {
+        fputs(": ", stdout);
+        print_declaration(n);
+    }
+    putchar('\n');
+}
+
+/* Each way, once, in which the ranks bar the tree of a listing of so many numbers. */
+static void print_bars(size_t count) {
+    static uint8_t asked[RULES_MOST][ARGUMENTS_MOST][RULES_MOST];
+    place_node(0, 0);
+    for (const Node *node = nodes + 1; node < nodes + count; node++) {
+        if (node->number < PRODUCTION_BASE) continue;
+        size_t p = node->parent, i = node->argument, q = production_of(node);
+        if (asked[p][i][q]) continue;
+        asked[p][i][q] = 1;
+        uint64_t answer = call_reason(0, p, i, q);
+        if (answer % 4 != KIND_NONE) print_reason(answer, p, i, q);
+    }
 }
 
 /* ---- the page */
@@ -255,8 +378,32 @@ static uint64_t by_flat(int place, uint8_t *chart, size_t size) {
                                                                        listing, sizeof listing);
 }
 
-/* The library says how long the chart must be, if it gets as far. `print_one` is given how many numbers the only reading has. */
-static int parse_line(Call *call, int (*print_one)(size_t)) {
+/* By the book without its declarations: they are its end, and their count is a byte of its header. */
+static uint64_t by_book_without_ranks(uint8_t *chart, size_t size) {
+    uint8_t count = book.bytes[DECLARATIONS];
+    book.bytes[DECLARATIONS] = 0;
+    book.length -= DECLARATION_BYTES * count;
+    uint64_t answer = by_book(0, chart, size);
+    book.bytes[DECLARATIONS] = count;
+    book.length += DECLARATION_BYTES * count;
+    return answer;
+}
+
+/* What the ranks have to do with it that there is no reading. Without them the book is accepted, too, and needs the same chart; a listing can be too long. */
+static void explain_none(uint8_t *chart, size_t size) {
+    uint64_t answer = book.bytes[DECLARATIONS] == 0 ? KIND_NONE : by_book_without_ranks(chart, size);
+    if (answer % 4 == KIND_NONE) return;
+    if (answer % 4 == KIND_ONE)
+        print_bars(answer / 4);
+    else
+        printf("without the book's ranks the line would have %s\n", answer % 4 == KIND_REFUSED ? "one reading, too long to go through" : "several readings");
+}
+
+/*
+ * The library says how long the chart must be, if it gets as far. `print_one` is given how many numbers the only reading has; `print_none`, which may be NULL,
+ * is given the chart if there is none.
+ */
+static int parse_line(Call *call, int (*print_one)(size_t), void (*print_none)(uint8_t *, size_t)) {
     uint8_t *chart = NULL;
     size_t size = 0;
     uint64_t answer = call(0, chart, size);
@@ -268,21 +415,17 @@ static int parse_line(Call *call, int (*print_one)(size_t)) {
     if (answer % 4 == KIND_REFUSED) return refuse(answer / 4, call(1, chart, size));
     if (answer % 4 == KIND_ONE) return print_one(answer / 4);
     puts(answer % 4 == KIND_NONE ? "no reading" : "several readings");
+    if (answer % 4 == KIND_NONE && print_none != NULL) print_none(chart, size);
     return ANSWERED;
 }
 
 /* ---- going down a sheet */
 
-static size_t line_length(size_t start) {
-    const uint8_t *end = memchr(sheet.bytes + start, '\n', sheet.length - start);
-    return end == NULL ? sheet.length - start : (size_t)(end - (sheet.bytes + start));
-}
-
 /* How long a chart the longest line needs that is not over its limit; the library says it of a chart of no bytes. */
 static size_t chart_size(void) {
     size_t most = 0, longest = 0;
     for (size_t at = 0, length; at < sheet.length; at += length + 1) {
-        length = line_length(at);
+        length = line_length(&sheet, at);
         if (length <= TEXT_MOST && length >= most) {
             most = length;
             longest = at;
@@ -316,7 +459,7 @@ static void hide_progress(int *shown) {
 /* A chart that is long enough leaves only lines that are too long to be refused. */
 static void print_line(size_t number, uint64_t byte, size_t start) {
     static const char *const words[] = {"no reading", "one reading", "several readings", "refused, over 200 bytes"};
-    size_t length = line_length(start);
+    size_t length = line_length(&sheet, start);
     printf(length == 0 ? "%5zu  %s" : "%5zu  %-23s  ", number, words[byte]);
     print_bytes(sheet.bytes + start, length);
     putchar('\n');
@@ -404,6 +547,28 @@ static void load_tops(const char *given) {
     }
 }
 
+/* A number in base ten; if it is too large for a size_t, it is one that no rule and no argument has. */
+static int is_number(const char *word, size_t *number) {
+    size_t digits = strspn(word, "0123456789");
+    *number = strtoul(word, NULL, 10);
+    return digits > 0 && word[digits] == '\0';
+}
+
+static size_t find_argument(const char *word) {
+    size_t number;
+    if (!is_number(word, &number)) fail("an argument is a number, counted from 0, and not \"%s\"", word);
+    return number;
+}
+
+/* The rule with this name, or else this number. An empty line is no name. */
+static size_t find_production(const char *word) {
+    size_t length = strlen(word), number;
+    for (size_t at = 0, production = 0; length > 0 && at < names.length; at += line_length(&names, at) + 1, production++)
+        if (line_length(&names, at) == length && memcmp(names.bytes + at, word, length) == 0) return production;
+    if (!is_number(word, &number)) fail("a rule is a name in NAMES, or a number, counted from 0, and not \"%s\"", word);
+    return number;
+}
+
 /* Goes past the option if it is the next word, and says whether it is. */
 static int option(const char *name, int count, char **words, int *at) {
     int given = *at < count && strcmp(words[*at], name) == 0;
@@ -413,7 +578,7 @@ static int option(const char *name, int count, char **words, int *at) {
 
 static _Noreturn void misused(void) {
     fail("usage: viewer [--page] [--names NAMES] BOOK [LINE]  or  viewer --sheet SHEET BOOK  or  viewer --flat BOOK"
-         "  or  viewer --from-flat FLAT --top NUMBERS [LINE]");
+         "  or  viewer --from-flat FLAT --top NUMBERS [LINE]  or  viewer --why [--names NAMES] BOOK P I Q");
 }
 
 static int view_by_flat(int count, char **words, int at) {
@@ -423,7 +588,21 @@ static int view_by_flat(int count, char **words, int at) {
     load_tops(numbers);
     flat_length = load(flat_book, FLAT_MOST, fopen(name, "rb"), name);
     load_line(words[at]);
-    return parse_line(by_flat, print_flat_tree);
+    return parse_line(by_flat, print_flat_tree, NULL);
+}
+
+/* An accepted book is refused only for what it is asked. */
+static int view_reason(int count, char **words, int at) {
+    const char *named = option("--names", count, words, &at) ? words[at++] : NULL;
+    if (count != at + 4) misused();
+    if (named != NULL) load_file(&names, named);
+    load_file(&book, words[at]);
+    size_t p = find_production(words[at + 1]), i = find_argument(words[at + 2]), q = find_production(words[at + 3]);
+    if (check_book() != ANSWERED) return REFUSED;
+    uint64_t answer = call_reason(0, p, i, q);
+    if (answer % 4 == KIND_REFUSED) return refuse_in("there is no such rule or argument; they are counted from 0", answer / 4, call_reason(1, p, i, q));
+    print_reason(answer, p, i, q);
+    return ANSWERED;
 }
 
 static int view_by_book(int count, char **words, int at) {
@@ -437,16 +616,16 @@ static int view_by_book(int count, char **words, int at) {
     load_file(&book, words[at]);
     if (lines != NULL) load_file(&sheet, lines);
     if (!whole) load_line(words[at + 1]);
-    uint64_t answer = meadowsink_check(book.bytes, book.length);
-    return answer % 4 == KIND_REFUSED ? refuse(answer / 4, meadowsink_check_place(book.bytes, book.length))
-           : flat                     ? print_flat()
-           : lines != NULL            ? walk_sheet()
-                                      : parse_line(by_book, paged ? print_page : print_tree);
+    if (check_book() != ANSWERED) return REFUSED;
+    return flat            ? print_flat()
+           : lines != NULL ? walk_sheet()
+           : paged         ? parse_line(by_book, print_page, NULL)
+                           : parse_line(by_book, print_tree, explain_none);
 }
 
 int main(int count, char **words) {
-    int at = 1, archived = option("--from-flat", count, words, &at);
-    int status = (archived ? view_by_flat : view_by_book)(count, words, at);
+    int at = 1, archived = option("--from-flat", count, words, &at), asked = !archived && option("--why", count, words, &at);
+    int status = (archived ? view_by_flat : asked ? view_reason : view_by_book)(count, words, at);
     if (fflush(stdout) != 0 || ferror(stdout)) fail("standard output can't be written");
     return status;
 }

@@ -30,19 +30,25 @@ run() {
     [ $status = 0 ] || echo "exit status $status"
 }
 
+# The book of a text in books/, NAME.book, and the names of its rules, NAME.names.
+make_book() { # NAME
+    "$tool" --names "$1.names" "$here/books/$1.txt" "$1.book"
+}
+
 # The flat book of a book, NAME.flat, and the numbers at the top, NAME.top, with commas between them.
 flatten() { # NAME BOOK
     "$examples/viewer" --flat "$2" > "$1.flat" 2> said
     sed 's/^[^0-9]*//; y/ /,/' said > "$1.top"
 }
 
-# The answer alone. By the flat book all that is printed is the same.
+# The answer alone, and what bars a line that has no reading. By the flat book all that is printed is the same, but for what bars it.
 answer() {
     printf '%s, %s: ' "$1" "$(printf '%s' "$2" | cut -c 1-60)"
     "$examples/viewer" "$here/books/$1.book" "$2" > by_book 2>&1
-    head -n 1 by_book
+    awk 'NR == 1 { none = $0 == "no reading" } NR == 1 || none' by_book
     flatten "$1" "$here/books/$1.book"
-    "$examples/viewer" --from-flat "$1.flat" --top "$(cat "$1.top")" "$2" 2>&1 | cmp by_book -
+    "$examples/viewer" --from-flat "$1.flat" --top "$(cat "$1.top")" "$2" > by_flat 2>&1
+    sed '/^no reading$/q' by_book | cmp by_flat -
 }
 
 # What stands at a byte of a book.
@@ -69,7 +75,7 @@ trees() {
     printf '8*2' | run viewer T.book
     printf '' | run viewer T.book
     printf '8\n2\n' | run viewer T.book
-    "$tool" --names loops.names "$here/books/loops.txt" loops.book
+    make_book loops
     run viewer --names loops.names loops.book ''
     run viewer --names loops.names loops.book '-1.5m'
     run viewer loops.book '~k'
@@ -93,8 +99,71 @@ groups() {
         run viewer --flat g.book
         run viewer g.book '8/4*2'
     done
-    "$tool" --names going.names "$here/books/going.txt" going.book
+    make_book going
     run viewer --names going.names going.book '9:8-6/7^2'
+    run viewer --why --names going.names going.book mesh 2 pallet
+}
+
+# Each of the three lines of clashes, by pairs and by groups, the two rules either way round; chains; where a rule may stand, and where none of its sort can.
+reasons() {
+    echo '# why a rule may not stand somewhere'
+    for name in signs gears priorities; do make_book $name; done
+    for asked in 'power 0 power' 'percent 0 percent' 'product 2 product' 'minus 1 minus' 'about 1 above' 'above 1 about' 'about 1 about' \
+        'sum 2 about' 'product 0 above' 'percent 0 above' 'power 2 power' 'product 0 product' 'sum 2 product' 'power 1 power' 'digit 0 digit'; do
+        run viewer --why --names signs.names signs.book $asked
+    done
+    for asked in 'mesh 0 first' 'mesh 0 wheel' 'wheel 0 next' 'wheel 0 mesh' 'stage 1 over' 'stage 0 over' 'product 2 over' 'over 2 product'; do
+        run viewer --why --names gears.names gears.book $asked
+    done
+    run viewer --why --names priorities.names priorities.book a 0 z
+    run viewer --why "$here/books/deepest.book" 0 0 3 | sed "s|$here/||"
+    printf 'start e\nend: e =\neight: e = e e e e e e e e\nhigher eight end\n' > eight.txt
+    "$tool" --names eight.names eight.txt eight.book
+    for i in 0 1 2 3 4 5 6 7; do run viewer --why --names eight.names eight.book eight $i end; done
+}
+
+# Rules by their numbers; names that are numbers; and rules without a name, by an empty line or by none.
+numbered_reasons() {
+    for asked in '2 0 2' '4 2 4' '6 1 7' '4 0 7' '4 0 4' '2 1 2'; do run viewer --why signs.book $asked; done
+    run viewer --why --names signs.names signs.book 2 0 power
+    run viewer --why --names signs.names signs.book 002 00 2
+    run viewer --why --names empty signs.book 2 0 2
+    printf '2\n1\n0\n' > turned.names
+    run viewer --why --names turned.names T.book 1 2 0
+    printf '\nproduct' > some.names
+    run viewer --why --names some.names T.book product 2 2
+    run viewer --why --names some.names T.book 2 0 0
+}
+
+# No such rule or argument, also by a name behind those of the book's rules; and a refused book, with a place where that has none.
+refused_reasons() {
+    for asked in '3 0 1' '1 3 1' '1 2 3' '258 2 1' '1 256 1' '1 2 18446744073709551617' '1 99999999999999999999 1'; do run viewer --why T.book $asked; done
+    run viewer --why i.book 0 0 0
+    run viewer --why --names signs.names T.book product 2 product
+    run viewer --why empty 1 2 1
+    bytes 1 3 3 3 0 0 1 3 3 1 1 1 0 64 0 0 65 0 0 0 66 0 48 57 42 42 47 47 2 1 1 2 2 2 2 1 3 > b
+    run viewer --why b 9 9 9
+    bytes 1 3 3 2 0 0 1 3 3 1 1 1 0 64 0 0 65 0 0 0 66 0 48 57 42 42 47 47 1 1 2 1 2 1 > b
+    run viewer --why b 1 0 2
+}
+
+# One reading without the ranks, which bar it in one way, in two, or many times in the same; several; none; no ranks; one that is too long. A page, a sheet and
+# a flat book have only the answer.
+barred() {
+    echo '# lines without a reading'
+    for line in '2^-3' '2*~3' '2^->3' '~>2' '2%%' "$(repeat 199 -)2" '~2+>3*4' '2+~3+4' '2+' ''; do run viewer --names signs.names signs.book "$line"; done
+    printf '2^-3\n' | run viewer signs.book
+    bytes 1 3 3 3 0 0 1 3 3 1 1 1 0 64 0 0 65 0 0 0 66 0 48 57 42 42 47 47 4 1 1 4 2 2 4 1 2 > e.book
+    run viewer e.book 8/4/2
+    run viewer d.book 8/
+    { cat "$here/books/power.txt" && echo 'higher power31 power30'; } > tall.txt
+    "$tool" tall.txt tall.book
+    run viewer tall.book ''
+    run viewer --page signs.book '2^-3'
+    printf '2^-3\n' > lines
+    run viewer --sheet lines signs.book
+    flatten signs signs.book
+    run viewer --from-flat signs.flat --top 258-265 '2^-3'
 }
 
 # T with its digits written downwards.
@@ -307,6 +376,25 @@ misuse() {
     done
 }
 
+# An empty word is not the name of a rule without one.
+misused_reasons() {
+    run viewer --why
+    run viewer --why T.book 1 2
+    run viewer --why T.book 1 2 1 8
+    run viewer --why --names T.names T.book 1 2
+    run viewer --why --names T.book 1 2 1
+    run viewer --why --page T.book 1 2 1
+    run viewer --why missing 1 2 1
+    run viewer --why --names missing T.book 1 2 1
+    run viewer --why T.book product 2 product
+    run viewer --why --names T.names T.book product 2 products
+    for word in '' -1 +1 1x ' 1' 0x1 1.0; do
+        run viewer --why --names some.names T.book "$word" 2 1
+        run viewer --why --names some.names T.book 1 "$word" 1
+    done
+    run viewer --why empty 1 x 1
+}
+
 # The lines that the texts in books/ give as examples.
 books() {
     echo '# the books'
@@ -323,6 +411,7 @@ books() {
     for line in 'wheel pinion arbor turn' strike wheels 'wheel  pinion'; do answer words "$line"; done
     for line in abba abbba '' ab; do answer palindromes "$line"; done
     for line in 1a2b3 1z2a3 1a ab; do answer priorities "$line"; done
+    for line in '-2^3%' '2*-3' '2^3^4' '~2+3*4' '2^-3' '2+~3' '2*~3' '2^->3' '~>2' ---2 2%% '2+~3+4' 2+ '~'; do answer signs "$line"; done
     for book in ladder dense dense_unique chain power power_loop groups; do
         for line in '' aaa; do answer $book "$line"; done
     done
@@ -341,6 +430,11 @@ wrapper() {
     run wrapper loops.book '-1.5m' | tail -n 7
     run wrapper any.book "$(printf '\303\251')" | tail -n 7
     run wrapper missing
+    for ranks in '1 1 0 1 0 2' '3 1 1 3 1 2' '6 0 1 7 1 2'; do
+        bytes 1 3 3 2 0 0 1 3 3 1 1 1 0 64 0 0 65 0 0 0 66 0 48 57 42 42 47 47 $ranks > r.book
+        echo "T with $ranks"
+        run wrapper r.book 8 | sed -n '/^rule/p; /^why/p'
+    done
     run wrapper "$here/books/ladder.book" "$(repeat 200 a)" | tail -n 10 | cut -c 1-80
     run wrapper "$here/books/power.book" '' | tail -n 6
     run wrapper "$here/books/power.book" "$(printf '\n.')" | tail -n 3
@@ -349,9 +443,13 @@ wrapper() {
 everything() {
     cd "$dir" || exit 1
     : > empty
-    "$tool" --names T.names "$here/books/T.txt" T.book
+    make_book T
     trees
     groups
+    reasons
+    numbered_reasons
+    refused_reasons
+    barred
     downwards
     equal
     pages
@@ -362,6 +460,7 @@ everything() {
     lengths
     refusals
     misuse
+    misused_reasons
     books
     wrapper
 }

@@ -119,6 +119,27 @@ listings() {
         258 260 260 260 260 260 260 260 / 259 97
 }
 
+# 64 rules, each higher than the next, and of all of them as many groups as there may be.
+steps() {
+    awk 'BEGIN {
+        for (r = 0; r < 64; r++) printf "r%d: s = s %d\n", r, r
+        for (r = 0; r < 63; r++) printf "higher r%d r%d\n", r, r + 1
+        for (d = 63; d < 255; d++) print "not-together r0..r63"
+    }'
+}
+
+# A reason has the value 4 * n + line: by a chain, whose length is n, it is line 1.
+reasons() {
+    book steps 'start s' "$(steps)"
+    both "$CALL_STACK" 'kind 1 value 253 chain from 0 to 62' 0 reason "$dir/steps.book" 0 0 63
+    both "$CALL_STACK" 'kind 1 value 254' 0 reason "$dir/steps.book" 63 0 0
+    both "$CALL_STACK" 'kind 0 value 0' 0 reason "$dir/steps.book" 0 1 63
+    both "$CALL_STACK" 'kind 1 value 5 chain from 0 to 0' 0 reason "$books/deepest.book" 0 0 3
+    both "$CALL_STACK" 'kind 1 value 123' 0 reason "$books/deepest.book" 2 1 2
+    both "$CALL_STACK" 'kind 1 value 3' 0 reason "$books/groups.book" 0 7 0
+    both "$CALL_STACK" 'kind 3 value 7' 0 reason "$books/groups.book" 0 8 0
+}
+
 # Rule 2 of the deepest book may stand below rule 0 and not below itself. The lines of its flat text have 30 * 17 + 22 + 31 * 24 + 23 + 10 bytes.
 others() {
     for name in deepest limits dense groups; do both "$CALL_STACK" 'number 0' 0 check "$books/$name.book"; done
@@ -138,6 +159,7 @@ reading
 reading_flat
 sheets
 listings
+reasons
 others
 if [ "$need" = --need ]; then
     awk '$2 > most[$1] { most[$1] = $2 } END { for (name in most) print "meadowsink_" name, most[name] }' "$dir/needs" | sort -k 2,2nr -k 1,1

@@ -6,6 +6,7 @@
  *     stack_call sheet_step BOOK N       the first of them
  *     stack_call check BOOK
  *     stack_call conflict BOOK P I Q
+ *     stack_call reason BOOK P I Q
  *     stack_call flat BOOK [FILE]        FILE is where the flat text goes
  *     stack_call check_flat FLAT
  *     stack_call read_flat FLAT N NUMBER..    a text of N times a, with the lines of these numbers allowed at the root
@@ -17,7 +18,8 @@
  * The numbers before the slash are repeated as long as they and those behind it fit 4,096 numbers.
  * With `_place` behind its name the operation's second call is made. The answer is printed as its kind and value, as the place, or as the part's start and
  * end; behind the kind and value of one reading stands how many levels of rules its listing has, and so for a listing that was lent. Behind those of a page
- * stands the depth on its last line, and behind those of a sheet the summary bytes of its two lines.
+ * stands the depth on its last line, behind those of a sheet the summary bytes of its two lines, and behind those of a reason the ends of its chain, if it has
+ * one.
  */
 #define _POSIX_C_SOURCE 200809L
 #include <pthread.h>
@@ -46,6 +48,9 @@ enum {
 static uint8_t book[book_limit], text[text_limit], two[2 * text_limit + 2], chart[chart_limit], out[listing_limit], lines[line_length * checked_limit];
 static uint8_t roots[rule_limit];
 static size_t book_length, text_length; /* the book may be a flat text */
+static struct {
+    size_t p, i, q;
+} asked; /* may rule q stand as argument i of rule p? */
 static int pending[listing_limit];
 
 static int fail(const char *what) {
@@ -64,6 +69,12 @@ static void load_text(const char *length) {
     text_length = strtoul(length, NULL, 10);
     if (text_length > text_limit) fail("the text is too long");
     memset(text, 'a', text_length);
+}
+
+static void load_question(char **numbers) {
+    asked.p = strtoul(numbers[0], NULL, 10);
+    asked.i = strtoul(numbers[1], NULL, 10);
+    asked.q = strtoul(numbers[2], NULL, 10);
 }
 
 static void load_roots(int count, char **numbers) {
@@ -186,12 +197,22 @@ static void check(int place) {
     printf(place ? "place %llu" : "number %llu", (unsigned long long)(place ? meadowsink_check_place(book, book_length) : meadowsink_check(book, book_length)));
 }
 
-static void conflict(int place, char **numbers) {
-    size_t p = strtoul(numbers[0], NULL, 10), i = strtoul(numbers[1], NULL, 10), q = strtoul(numbers[2], NULL, 10);
+static void conflict(int place) {
     if (place)
-        print_place(meadowsink_conflict_place(book, book_length, p, i, q));
+        print_place(meadowsink_conflict_place(book, book_length, asked.p, asked.i, asked.q));
     else
-        print_answer(meadowsink_conflict(book, book_length, p, i, q));
+        print_answer(meadowsink_conflict(book, book_length, asked.p, asked.i, asked.q));
+}
+
+/* Line 1 has a chain, and the value says how long it is. */
+static void reason(int place) {
+    if (place) {
+        print_place(meadowsink_reason_place(book, book_length, asked.p, asked.i, asked.q, out, sizeof out));
+        return;
+    }
+    uint64_t answer = meadowsink_reason(book, book_length, asked.p, asked.i, asked.q, out, sizeof out);
+    print_answer(answer);
+    if (answer % 4 == 1 && answer / 4 % 4 == 1) printf(" chain from %d to %d", out[0], out[answer / 16 - 1]);
 }
 
 static void save(const char *name, size_t length) {
@@ -280,7 +301,11 @@ static void make_call(int count, char **words) {
     } else if (strcmp(words[1], "flat") == 0) {
         flat(place, words[3]);
     } else if (strcmp(words[1], "conflict") == 0 && count == 6) {
-        conflict(place, words + 3);
+        load_question(words + 3);
+        conflict(place);
+    } else if (strcmp(words[1], "reason") == 0 && count == 6) {
+        load_question(words + 3);
+        reason(place);
     } else if (count > 3) {
         load_text(words[3]);
         if (!with_text(words[1], place, count - 4, words + 4)) with_listing(words[1], place, fill_listing(count - 4, words + 4));

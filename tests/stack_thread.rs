@@ -1,13 +1,13 @@
 // Makes every call of the library in a thread with a small stack; tests/stack.sh runs it.
 //
-//     stack_thread BOOKS OTHER-BOOKS KILOBYTES    BOOKS is books/, OTHER-BOOKS has `loop`, `letter` and `last`, which tests/stack.sh makes
+//     stack_thread BOOKS OTHER-BOOKS KILOBYTES    BOOKS is books/, OTHER-BOOKS has `loop`, `letter`, `last` and `steps`, which tests/stack.sh makes
 #[path = "second/library.rs"]
 mod library;
 #[path = "second/prng.rs"]
 #[allow(dead_code)]
 mod prng;
 
-use library::{check, check_flat, check_listing, conflict, flat, page, read, read_flat, sheet, sheet_step, text_under, Lent, Make};
+use library::{check, check_flat, check_listing, conflict, flat, page, read, read_flat, reason, sheet, sheet_step, text_under, Lent, Make};
 use prng::Dice;
 use std::path::{Path, PathBuf};
 use std::{env, fs, process, thread};
@@ -16,6 +16,7 @@ const LISTING_BYTES: usize = 65_536;
 const CHECKED_NUMBERS: usize = 4_096;
 const LINE_BYTES: usize = 73;
 const LINES: usize = 64;
+const CHAIN: u64 = 63;
 const FIRST_LINE: usize = 258;
 // Room for the chart of 64 rules of 8 arguments and 200 characters.
 const CHART_BYTES: usize = 64 * 9 * 201 * 202 / 2;
@@ -122,6 +123,17 @@ impl Areas {
         self.expect("text_under", text.len() as u64, text_under(&mut book, &mut lent, &mut listing, numbers.len() - 1));
     }
 
+    // Rule 0 is higher than rule 63 by a chain of all the declarations before the groups, of which the first covers rules 63 and 0.
+    fn expect_reasons(&mut self, path: PathBuf) {
+        let (mut book, mut chain) = (self.book(path), self.lend(&[255; CHAIN as usize]));
+        for (make, is_number) in [(Make::Number, 1), (Make::Place, 0)] {
+            self.expect("reason, line 1", (4 * (4 * CHAIN + 1) + CONFLICT) * is_number, reason(make, &mut book, (0, 0, 63), &mut chain));
+            self.expect("reason, line 2", (4 * (4 * CHAIN + 2) + CONFLICT) * is_number, reason(make, &mut book, (63, 0, 0), &mut chain));
+        }
+        self.expect("the bytes beside the chain", 1, chain.sides_stayed() as u64);
+        self.expect("the chain", 1, chain.contents().iter().map(|&declaration| u64::from(declaration)).eq(0..CHAIN) as u64);
+    }
+
     fn expect_others(&mut self, path: PathBuf) {
         let mut book = self.book(path);
         let mut out = self.lend(&vec![0; LISTING_BYTES]);
@@ -147,6 +159,7 @@ fn make_calls(books: &Path, others: &Path) -> usize {
     areas.expect_listing(others.join("loop.book"), b"", &[258], &[259]);
     areas.expect_listing(others.join("letter.book"), b"a", &[258], &[259, 97]);
     areas.expect_listing(others.join("last.book"), b"a", &[258, 260, 260, 260, 260, 260, 260, 260], &[259, 97]);
+    areas.expect_reasons(others.join("steps.book"));
     areas.expect_others(books.join("deepest.book"));
     areas.failures
 }

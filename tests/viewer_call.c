@@ -8,6 +8,7 @@ static const uint16_t numbers[] = {259, 260, 258, 56, 47, 258, 52, 42, 258, 50};
 static uint8_t chart[4096];
 static uint8_t listing[70000];
 static uint8_t page[1000];
+static uint8_t chain[100];
 static int failures;
 
 static void expect(int holds, const char *what) {
@@ -56,6 +57,165 @@ static void conflict(void) {
     expect(meadowsink_conflict_place(book_t, sizeof book_t, 1, 3, 1) == 0, "7: the place is 0");
     expect(meadowsink_conflict(book_t, 5, 1, 2, 2) == 4 * 1 + 3, "1: the book's refusals");
     expect(meadowsink_conflict_place(book_t, 5, 1, 2, 2) == 5, "1: with their places");
+}
+
+/* ---- what is behind a conflict */
+
+enum { NONE, HIGHER, FIRST, LAST, CHAIN_MOST = 63 };
+
+static uint64_t because(uint64_t line, uint64_t n) { return 4 * (4 * n + line) + 1; }
+
+/* A digit; 1 to 4, two values with a sign between them; 5, a value; 6, three values. */
+static const uint8_t ranked[] = {
+    1, 7, 5, 14, 0, 0, 1, 3, 3, 3, 3, 1, 3, 1, 1, 1, 1, 1,                       /* counts */
+    0, 64, 0, 0, 65, 0, 0, 0, 66, 0, 0, 0, 67, 0, 0, 0, 68, 0, 0, 0, 0, 0, 0, 0, /* rules */
+    48, 57, 42, 42, 43, 43, 44, 44, 45, 45,                                      /* classes */
+    2, 1, 1, 1, 1, 2, 1, 2, 3, 1, 3, 4, 1, 2, 4,                                 /* 0: left 1 1; higher 1 2, 2 3, 3 4, 2 4 */
+    6, 2, 4, 4, 3, 3, 3, 2, 3, 7, 3, 4, 2, 3, 3,                                 /* 5: right 2..4; not together 3 3; right 2 3; not together 3..4; left 3 3 */
+    4, 5, 5, 1, 5, 3, 7, 6, 6, 1, 6, 5,                                          /* 10: not together 5 5; higher 5 3; not together 6..6; higher 6 5 */
+};
+
+/* The line, and its declarations: for line HIGHER the whole chain. */
+typedef struct {
+    const char *what;
+    size_t p, i, q;
+    uint64_t line, n;
+    uint8_t declarations[3];
+} Reason;
+
+/* Both calls write the chain and no byte more, and there is a reason exactly if there is a conflict. */
+static void expect_reason(Reason r) {
+    uint64_t answer = r.line == NONE ? 0 : because(r.line, r.line == HIGHER ? r.n : r.declarations[0]);
+    size_t written = r.line == HIGHER ? r.n : 0;
+    for (int place = 0; place < 2; place++) {
+        memset(chain, 0x5a, sizeof chain);
+        uint64_t given = (place ? meadowsink_reason_place : meadowsink_reason)(ranked, sizeof ranked, r.p, r.i, r.q, chain, sizeof chain);
+        expect(given == (place ? 0 : answer), r.what);
+        expect(memcmp(chain, r.declarations, written) == 0 && untouched(chain, written, sizeof chain, 0x5a), r.what);
+    }
+    expect(meadowsink_conflict(ranked, sizeof ranked, r.p, r.i, r.q) == answer % 4, r.what);
+}
+
+static void reason(void) {
+    static const Reason reasons[] = {
+        {"higher", 1, 0, 2, HIGHER, 1, {1}},
+        {"higher, last", 1, 2, 2, HIGHER, 1, {1}},
+        {"higher by two", 1, 0, 3, HIGHER, 2, {1, 2}},
+        {"higher by two, where three would do", 1, 2, 4, HIGHER, 2, {1, 4}},
+        {"higher, and right by a group", 2, 0, 3, HIGHER, 1, {2}},
+        {"higher, and not together by a group", 3, 2, 4, HIGHER, 1, {3}},
+        {"higher, an only argument", 5, 0, 3, HIGHER, 1, {11}},
+        {"higher by two, an only argument", 5, 0, 4, HIGHER, 2, {11, 3}},
+        {"higher, in the middle", 6, 1, 5, HIGHER, 1, {13}},
+        {"higher by three, in the middle", 6, 1, 4, HIGHER, 3, {13, 11, 3}},
+        {"first: a group before a pair, the other way round", 3, 0, 2, FIRST, 1, {5}},
+        {"first: a group before not together", 3, 0, 3, FIRST, 1, {5}},
+        {"first: the ends of a group", 4, 0, 2, FIRST, 1, {5}},
+        {"first: a group of one, not together", 6, 0, 6, FIRST, 1, {12}},
+        {"last: left", 1, 2, 1, LAST, 1, {0}},
+        {"last: a pair before a group and left", 3, 2, 3, LAST, 1, {6}},
+        {"last: a group, not together", 4, 2, 3, LAST, 1, {8}},
+        {"last: a group of one, not together", 6, 2, 6, LAST, 1, {12}},
+        {"no conflict: a class", 1, 1, 2, NONE, 0, {0}},
+        {"no conflict: left, first", 1, 0, 1, NONE, 0, {0}},
+        {"no conflict: right, last", 2, 2, 2, NONE, 0, {0}},
+        {"no conflict: lower", 2, 0, 1, NONE, 0, {0}},
+        {"no conflict: not together, in the middle", 6, 1, 6, NONE, 0, {0}},
+        {"no conflict: not together, an only argument", 5, 0, 5, NONE, 0, {0}},
+        {"no conflict: nothing is declared", 1, 0, 0, NONE, 0, {0}},
+    };
+    for (size_t k = 0; k < sizeof reasons / sizeof reasons[0]; k++) expect_reason(reasons[k]);
+    expect(meadowsink_reason(book_t, sizeof book_t, 2, 2, 1, NULL, 0) == because(LAST, 2), "last: a pair, the other way round");
+}
+
+/* As much of a chain as fits; how long it is, is told all the same. */
+static void shorten_chain(void) {
+    static const uint8_t wanted[] = {13, 11, 3};
+    for (size_t room = 0; room <= 3; room++) {
+        memset(chain, 0x5a, sizeof chain);
+        expect(meadowsink_reason(ranked, sizeof ranked, 6, 1, 4, chain, room) == because(HIGHER, 3), "room for a part of the chain");
+        expect(memcmp(chain, wanted, room) == 0 && untouched(chain, room, sizeof chain, 0x5a), "that part of the chain");
+    }
+    expect(meadowsink_reason(ranked, sizeof ranked, 6, 1, 4, NULL, 0) == because(HIGHER, 3), "nowhere to write a chain");
+    expect(meadowsink_reason_place(ranked, sizeof ranked, 6, 1, 4, NULL, 0) == 0, "which is no refusal");
+}
+
+static uint8_t stairs[1000];
+
+/* 64 rules of a value and a sign of their own; the first rule of each pair is higher than the second. Gives the length of the book. */
+static size_t fill_stairs(const uint8_t pairs[][2], uint8_t count) {
+    size_t at = 6 + 64 + 64;
+    memcpy(stairs, (const uint8_t[]){1, 64, 64, count, 0, 0}, 6);
+    memset(stairs + 6, 2, 64);
+    memset(stairs + 6 + 64, 1, 64);
+    for (uint8_t r = 0; r < 64; r++, at += 3) memcpy(stairs + at, (const uint8_t[]){0, 0, 64 + r}, 3);
+    for (uint8_t k = 0; k < 64; k++, at += 2) memset(stairs + at, k, 2);
+    for (uint8_t d = 0; d < count; d++, at += 3) memcpy(stairs + at, (const uint8_t[]){1, pairs[d][0], pairs[d][1]}, 3);
+    return at;
+}
+
+/* From 0 to 9 in two steps, by way of 4, or in four, by way of 1; whichever stands first. */
+static void shortest_chain(void) {
+    static const uint8_t late[][2] = {{0, 1}, {1, 2}, {2, 3}, {3, 9}, {0, 4}, {4, 9}}, early[][2] = {{0, 4}, {4, 9}, {0, 1}, {1, 2}, {2, 3}, {3, 9}};
+    static const uint8_t mixed[][2] = {{3, 9}, {4, 9}, {2, 3}, {0, 4}, {1, 2}, {0, 1}};
+    expect(meadowsink_reason(stairs, fill_stairs(late, 6), 0, 0, 9, chain, 2) == because(HIGHER, 2), "the shorter of two chains, the later");
+    expect(chain[0] == 4 && chain[1] == 5, "its declarations, the last");
+    expect(meadowsink_reason(stairs, fill_stairs(early, 6), 0, 0, 9, chain, 2) == because(HIGHER, 2), "the shorter of two chains, the earlier");
+    expect(chain[0] == 0 && chain[1] == 1, "its declarations, the first");
+    expect(meadowsink_reason(stairs, fill_stairs(mixed, 6), 0, 0, 9, chain, 2) == because(HIGHER, 2), "the shorter of two chains, in no order");
+    expect(chain[0] == 3 && chain[1] == 1, "its declarations, among the others");
+}
+
+/* Each is higher than the next; the declarations stand in reverse. */
+static void longest_chain(void) {
+    static uint8_t pairs[CHAIN_MOST][2];
+    for (uint8_t d = 0; d < CHAIN_MOST; d++) memcpy(pairs[d], (const uint8_t[]){62 - d, 63 - d}, 2);
+    size_t length = fill_stairs(pairs, CHAIN_MOST);
+    memset(chain, 0x5a, sizeof chain);
+    expect(meadowsink_reason(stairs, length, 0, 0, 63, chain, sizeof chain) == because(HIGHER, CHAIN_MOST), "a chain of 63");
+    for (uint8_t k = 0; k < CHAIN_MOST; k++) expect(chain[k] == 62 - k, "its declarations, from the last to the first");
+    expect(untouched(chain, CHAIN_MOST, sizeof chain, 0x5a), "bytes beyond a chain of 63 stay");
+    expect(meadowsink_reason(stairs, length, 63, 0, 0, chain, sizeof chain) == 0, "the lowest is higher than none");
+}
+
+/* T with 255 declarations: 1 right with itself, and then one that is left or higher. */
+static void last_declaration(void) {
+    static uint8_t book[28 + 3 * 255];
+    memcpy(book, book_t, 28);
+    book[3] = 255;
+    for (size_t d = 0; d < 254; d++) memcpy(book + 28 + 3 * d, (const uint8_t[]){3, 1, 1}, 3);
+    memcpy(book + 28 + 3 * 254, (const uint8_t[]){2, 1, 1}, 3);
+    expect(meadowsink_reason(book, sizeof book, 1, 0, 1, chain, sizeof chain) == because(FIRST, 0), "the first of 254");
+    expect(meadowsink_reason(book, sizeof book, 1, 2, 1, chain, sizeof chain) == because(LAST, 254), "declaration 254");
+    memcpy(book + 28 + 3 * 254, (const uint8_t[]){1, 1, 2}, 3);
+    expect(meadowsink_reason(book, sizeof book, 1, 0, 2, chain, sizeof chain) == because(HIGHER, 1) && chain[0] == 254, "declaration 254 in a chain");
+}
+
+static void expect_reason_refused(const uint8_t *book, size_t length, size_t p, size_t i, size_t q, uint64_t number, uint64_t place, const char *what) {
+    memset(chain, 0x5a, sizeof chain);
+    expect(meadowsink_reason(book, length, p, i, q, chain, sizeof chain) == 4 * number + 3, what);
+    expect(meadowsink_reason_place(book, length, p, i, q, chain, sizeof chain) == place, what);
+    expect(untouched(chain, 0, sizeof chain, 0x5a), "a refusal leaves the chain");
+}
+
+static void refuse_reason(void) {
+    uint8_t wrong[sizeof ranked];
+    const size_t last = sizeof ranked - 3, high = (size_t)1 << 32;
+    expect_reason_refused(ranked, sizeof ranked, 7, 0, 1, 7, 0, "7: no such rule above");
+    expect_reason_refused(ranked, sizeof ranked, 1, 3, 2, 7, 0, "7: no such argument");
+    expect_reason_refused(ranked, sizeof ranked, 1, 0, 7, 7, 0, "7: no such rule below");
+    expect_reason_refused(ranked, sizeof ranked, 257, 0, 2, 7, 0, "7: nor if high bits could be lost");
+    expect_reason_refused(ranked, sizeof ranked, 1, 256, 2, 7, 0, "7: of an argument");
+    expect_reason_refused(ranked, sizeof ranked, 1, 0, high + 2, 7, 0, "7: of the rule below");
+    expect_reason_refused(ranked, sizeof ranked, SIZE_MAX, SIZE_MAX, SIZE_MAX, 7, 0, "7: of all");
+    expect_reason_refused(ranked, 5, 9, 9, 9, 1, 5, "1: before what is asked");
+    expect_reason_refused(ranked, sizeof ranked - 1, 1, 0, 2, 4, sizeof ranked - 1, "4: a byte less");
+    memcpy(wrong, ranked, sizeof wrong);
+    wrong[last] = 8;
+    expect_reason_refused(wrong, sizeof wrong, 1, 0, 2, 7, last, "7: no kind, with its place");
+    expect_reason_refused(wrong, sizeof wrong, 7, 0, 2, 7, last, "7: of the book, before that of no such rule");
+    memcpy(wrong + last, (const uint8_t[]){1, 4, 1}, 3);
+    expect_reason_refused(wrong, sizeof wrong, 1, 0, 2, 9, 1, "9: a circle");
 }
 
 /* ---- writing a character class grammar */
@@ -456,6 +616,7 @@ static void empty_areas(void) {
     static const uint8_t empty_rule[] = {1, 1, 0, 0, 0, 0, 0, 0}, its_listing[] = {258 % 256, 258 / 256};
     expect(meadowsink_check(NULL, 0) == 4 * 1 + 3 && meadowsink_check_place(NULL, 0) == 0, "1: no book at all");
     expect(meadowsink_conflict(NULL, 0, 0, 0, 0) == 4 * 1 + 3 && meadowsink_conflict_place(NULL, 0, 0, 0, 0) == 0, "1: no book to ask");
+    expect(meadowsink_reason(NULL, 0, 0, 0, 0, NULL, 0) == 4 * 1 + 3 && meadowsink_reason_place(NULL, 0, 0, 0, 0, NULL, 0) == 0, "1: no book to ask why");
     expect(meadowsink_flat(NULL, 0, NULL, 0) == 4 * 1 + 3 && meadowsink_flat_place(NULL, 0, NULL, 0) == 0, "1: no book to write");
     expect(meadowsink_flat(book_t, sizeof book_t, NULL, 0) == 4 * 21 + 3, "21: nowhere to write");
     expect(meadowsink_read(NULL, 0, NULL, 0, NULL, 0, NULL, 0) == 4 * 1 + 3, "1: no book to read by");
@@ -496,6 +657,7 @@ static void downward_ranges(void) {
     list(bytes);
     expect(meadowsink_check(down, sizeof down) == 0, "9-0 is accepted");
     expect(meadowsink_conflict(down, sizeof down, 1, 2, 2) == 1, "9-0: a conflict");
+    expect(meadowsink_reason(down, sizeof down, 1, 2, 2, chain, sizeof chain) == because(LAST, 2), "9-0: its reason");
     memset(page, 0x5a, sizeof page);
     memset(other, 0x5a, sizeof other);
     expect(meadowsink_flat(down, sizeof down, page, sizeof page) == meadowsink_flat(book_t, sizeof book_t, other, sizeof page), "9-0: the flat book's length");
@@ -525,6 +687,7 @@ static void equal_rules(void) {
     memset(page, 0x5a, sizeof page);
     expect(meadowsink_check(twice, length) == refused && meadowsink_check_place(twice, length) == place, "8: checking");
     expect(meadowsink_conflict(twice, length, 0, 0, 1) == refused && meadowsink_conflict_place(twice, length, 0, 0, 1) == place, "8: a conflict");
+    expect_reason_refused(twice, length, 0, 0, 1, 8, place, "8: a reason");
     expect(meadowsink_flat(twice, length, page, sizeof page) == refused && meadowsink_flat_place(twice, length, page, sizeof page) == place, "8: the flat book");
     expect(meadowsink_read(twice, length, eight, 1, chart, sizeof chart, listing, sizeof listing) == refused, "8: reading");
     expect(meadowsink_read_place(twice, length, eight, 1, chart, sizeof chart, listing, sizeof listing) == place, "8: its place");
@@ -638,6 +801,12 @@ static void shared_areas(void) {
 int main(void) {
     check();
     conflict();
+    reason();
+    shorten_chain();
+    shortest_chain();
+    longest_chain();
+    last_declaration();
+    refuse_reason();
     flat();
     check_listing();
     read_text();

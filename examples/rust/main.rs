@@ -1,10 +1,10 @@
-// Each call of the wrapper once: checks a book, writes its flat book, reads a line, checks the listing, writes its page, takes parts of the line, reads it by
-// the flat book alone, and reads it as a sheet, at once and step by step.
+// Each call of the wrapper: checks a book, writes its flat book, asks where a rule may not stand and why, reads a line, checks the listing, writes its page,
+// takes parts of the line, reads it by the flat book alone, and reads it as a sheet, at once and step by step.
 //
 //     wrapper [BOOK [LINE]]    book T and the line 8/4*2 if nothing is said
 mod meadowsink;
 
-use meadowsink::{Answer, Conflict, FlatVerdict, Judgement, Step, Summary, Verdict, Written, LINE_LIMIT};
+use meadowsink::{Answer, Conflict, FlatVerdict, Judgement, Reason, Step, Summary, Verdict, Written, LINE_LIMIT};
 use std::ffi::OsString;
 use std::os::unix::ffi::OsStrExt;
 use std::{env, fs, process};
@@ -18,10 +18,23 @@ fn print_book(book: &[u8]) {
         Verdict::Refused { number, place } => println!("book: refused {number} {place}"),
     }
     print_written("flat book", meadowsink::flat(book));
-    match meadowsink::conflict(book, 1, 2, 1) {
-        Conflict::No => println!("rule 1 as argument 2 of rule 1: no clash"),
-        Conflict::Yes => println!("rule 1 as argument 2 of rule 1: a clash"),
-        Conflict::Refused { number, place } => println!("rule 1 as argument 2 of rule 1: refused {number} {place}"),
+    print_conflict(book, 1, 2, 1);
+    print_conflict(book, 1, 0, 2);
+}
+
+fn print_conflict(book: &[u8], p: usize, i: usize, q: usize) {
+    let what = format!("rule {q} as argument {i} of rule {p}");
+    match meadowsink::conflict(book, p, i, q) {
+        Conflict::No => println!("{what}: no clash"),
+        Conflict::Yes => println!("{what}: a clash"),
+        Conflict::Refused { number, place } => println!("{what}: refused {number} {place}"),
+    }
+    match meadowsink::reason(book, p, i, q) {
+        Reason::Free => println!("why: no rank forbids it"),
+        Reason::Higher(chain) => println!("why: rule {p} is higher, by declarations {chain:?}"),
+        Reason::First(declaration) => println!("why: at the first argument, by declaration {declaration}"),
+        Reason::Last(declaration) => println!("why: at the last argument, by declaration {declaration}"),
+        Reason::Refused { number, place } => println!("why: refused {number} {place}"),
     }
 }
 

@@ -18,6 +18,17 @@ pub enum Conflict {
     Refused { number: u64, place: u64 },
 }
 
+/// What is behind a conflict: that the outer rule is higher, by a chain of declarations, or one declaration of the pair at the first or the last argument.
+/// Declarations are counted from 0.
+#[derive(Debug, PartialEq)]
+pub enum Reason {
+    Free,
+    Higher(Vec<usize>),
+    First(usize),
+    Last(usize),
+    Refused { number: u64, place: u64 },
+}
+
 /// What is written as text: the character class grammar of a book, or the page of a parse.
 #[derive(Debug, PartialEq)]
 pub enum Written {
@@ -77,6 +88,7 @@ const FLAT_SHORT: u64 = 21;
 const PAGE_SHORT: u64 = 24;
 const LISTING_BYTES: usize = 65_536; // the library writes no longer listing
 const TEXT_LIMIT: usize = 200; // nor does it read a longer text
+const CHAIN_LIMIT: usize = 63; // and no longer chain of declarations makes one rule higher than another
 
 /// Lines of the longest flat text.
 pub const LINE_LIMIT: usize = 64;
@@ -89,6 +101,7 @@ type OfFlat = unsafe extern "C" fn(*const u8, usize, *mut u8, usize) -> u64;
 type OfFlatText = unsafe extern "C" fn(*const u8, usize, *const u8, usize, *const u8, usize, *mut u8, usize, *mut u8, usize) -> u64;
 type OfListing = unsafe extern "C" fn(*const u8, usize, *const u8, usize, *const u8, usize) -> u64;
 type OfPage = unsafe extern "C" fn(*const u8, usize, *const u8, usize, *const u8, usize, *mut u8, usize) -> u64;
+type OfReason = unsafe extern "C" fn(*const u8, usize, usize, usize, usize, *mut u8, usize) -> u64;
 type OfStep = unsafe extern "C" fn(*const u8, usize, *const u8, usize, usize, *mut u8, usize) -> u64;
 type OfText = unsafe extern "C" fn(*const u8, usize, *const u8, usize, *mut u8, usize, *mut u8, usize) -> u64;
 
@@ -97,6 +110,8 @@ extern "C" {
     fn meadowsink_check_place(book: *const u8, n: usize) -> u64;
     fn meadowsink_conflict(book: *const u8, n: usize, p: usize, i: usize, q: usize) -> u64;
     fn meadowsink_conflict_place(book: *const u8, n: usize, p: usize, i: usize, q: usize) -> u64;
+    fn meadowsink_reason(book: *const u8, n: usize, p: usize, i: usize, q: usize, chain: *mut u8, c: usize) -> u64;
+    fn meadowsink_reason_place(book: *const u8, n: usize, p: usize, i: usize, q: usize, chain: *mut u8, c: usize) -> u64;
     fn meadowsink_flat(book: *const u8, n: usize, out: *mut u8, o: usize) -> u64;
     fn meadowsink_flat_place(book: *const u8, n: usize, out: *mut u8, o: usize) -> u64;
     fn meadowsink_read(book: *const u8, n: usize, text: *const u8, t: usize, chart: *mut u8, c: usize, listing: *mut u8, l: usize) -> u64;
@@ -129,6 +144,10 @@ fn call_book(operation: OfBook, book: &[u8]) -> u64 {
 
 fn call_rules(operation: OfRules, book: &[u8], [p, i, q]: [usize; 3]) -> u64 {
     unsafe { operation(book.as_ptr(), book.len(), p, i, q) }
+}
+
+fn call_reason(operation: OfReason, book: &[u8], [p, i, q]: [usize; 3], chain: &mut [u8]) -> u64 {
+    unsafe { operation(book.as_ptr(), book.len(), p, i, q, chain.as_mut_ptr(), chain.len()) }
 }
 
 fn call_flat(operation: OfFlat, book: &[u8], out: &mut [u8]) -> u64 {
@@ -177,6 +196,20 @@ pub fn conflict(book: &[u8], p: usize, i: usize, q: usize) -> Conflict {
         (0, _) => Conflict::No,
         (1, _) => Conflict::Yes,
         (_, number) => Conflict::Refused { number, place: call_rules(meadowsink_conflict_place, book, [p, i, q]) },
+    }
+}
+
+/// Why may rule `q` not stand as argument `i` of rule `p`? All are counted from 0.
+pub fn reason(book: &[u8], p: usize, i: usize, q: usize) -> Reason {
+    let mut chain = [0; CHAIN_LIMIT];
+    let (kind, value) = split(call_reason(meadowsink_reason, book, [p, i, q], &mut chain));
+    let n = (value / 4) as usize;
+    match (kind, value % 4) {
+        (0, _) => Reason::Free,
+        (1, 1) => Reason::Higher(chain[..n].iter().map(|&declaration| declaration.into()).collect()),
+        (1, 2) => Reason::First(n),
+        (1, _) => Reason::Last(n),
+        _ => Reason::Refused { number: value, place: call_reason(meadowsink_reason_place, book, [p, i, q], &mut chain) },
     }
 }
 
