@@ -5,6 +5,7 @@
 // Both get the same bytes and fill the same chart, which holds garbage before; the charts are compared. Times are the best of several runs.
 mod flats;
 mod pages;
+mod reasons;
 mod rival;
 mod sheets;
 mod texts;
@@ -142,5 +143,6 @@ fn main() {
     pages::pages(&folder);
     sheets::sheets(&folder);
     flats::flats(&folder);
+    reasons::reasons();
     println!("\n{over} of {} above {GOAL} times the rival", BENCHMARK.len() * 3);
 }
