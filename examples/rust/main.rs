@@ -32,8 +32,8 @@ fn print_conflict(book: &[u8], p: usize, i: usize, q: usize) {
     match meadowsink::reason(book, p, i, q) {
         Reason::Free => println!("why: no rank forbids it"),
         Reason::Higher(chain) => println!("why: rule {p} is higher, by declarations {chain:?}"),
-        Reason::First(declaration) => println!("why: at the first argument, by declaration {declaration}"),
-        Reason::Last(declaration) => println!("why: at the last argument, by declaration {declaration}"),
+        Reason::AtFirst(declaration) => println!("why: at the first argument, by declaration {declaration}"),
+        Reason::AtLast(declaration) => println!("why: at the last argument, by declaration {declaration}"),
         Reason::Refused { number, place } => println!("why: refused {number} {place}"),
     }
 }

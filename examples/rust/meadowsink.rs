@@ -24,8 +24,8 @@ pub enum Conflict {
 pub enum Reason {
     Free,
     Higher(Vec<usize>),
-    First(usize),
-    Last(usize),
+    AtFirst(usize),
+    AtLast(usize),
     Refused { number: u64, place: u64 },
 }
 
@@ -207,8 +207,8 @@ pub fn reason(book: &[u8], p: usize, i: usize, q: usize) -> Reason {
     match (kind, value % 4) {
         (0, _) => Reason::Free,
         (1, 1) => Reason::Higher(chain[..n].iter().map(|&declaration| declaration.into()).collect()),
-        (1, 2) => Reason::First(n),
-        (1, _) => Reason::Last(n),
+        (1, 2) => Reason::AtFirst(n),
+        (1, _) => Reason::AtLast(n),
         _ => Reason::Refused { number: value, place: call_reason(meadowsink_reason_place, book, [p, i, q], &mut chain) },
     }
 }
