@@ -53,6 +53,10 @@ pub record Rounds (b : List ℕ) (y k : ℕ) (distance next : List ℕ) : Type 0
   pub within : Within k distance
   pub least : Least b k 0 distance
 
+-- One round more, back from whichever production.
+abbrev pub RoundMore : (b : List ℕ) (k : ℕ) (distance next distance′ next′ : List ℕ) → Type 0
+RoundMore b k distance next distance′ next′ = (y : ℕ) → Rounds b y k distance next → Rounds b y (k + 1) distance′ next′
+
 -- ---- the way
 
 -- The production that is reached from p in k steps.

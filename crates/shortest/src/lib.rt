@@ -7,7 +7,7 @@ use grammar::limits::PRODUCTION_LIMIT;
 use priority::HIGHER;
 use priority::read_declaration;
 ghost use mathlib.Core.Path.{_≡_};
-ghost use Prim.Native.Nat.{ℕ, _+_, _<_};
+ghost use Prim.Native.Nat.{_+_, _<_};
 ghost use lib.ListN.{length};
 ghost use Rattle.grammar.specs.Formed.{WellFormed};
 ghost use Rattle.grammar.specs.Layout.{declarationAt};
@@ -15,7 +15,7 @@ ghost use Rattle.grammar.specs.Limits.{productionLimit};
 ghost use Rattle.grammar.specs.declared.Verdict.the-variants.{Accepted};
 ghost use Rattle.priority.specs.Check.{checked};
 ghost use Rattle.priority.specs.Priorities.{Higher};
-ghost use Rattle.shortest.specs.Search.{far, Rounds, way, Steps};
+ghost use Rattle.shortest.specs.Search.{far, RoundMore, way, Steps};
 ghost use Rattle.shortest.specs.Written.{chainAfter, ShortestWritten};
 
 // The distance of a production from which no chain was found: more than any that was.
@@ -44,7 +44,7 @@ pub fn write_chain(book: &[u8], p: usize, q: usize, out: &mut [u8]) -> usize
 fn round(book: &[u8], start: usize, k: usize, distance: &mut [usize], next: &mut [u8])
     requires { ⌜ WellFormed (now book) × (start ≡ declarationAt (now book) 0) × (k + 1 < far) ⌝ }
     requires { ⌜ (length (now distance) ≡ productionLimit) × (length (now next) ≡ productionLimit) ⌝ }
-    ensures { λ _. ⌜ ((y : ℕ) → Rounds (now (book .entry)) y k (now (distance .entry)) (now (next .entry)) → Rounds (now (book .entry)) y (k + 1) (now (distance .exit)) (now (next .exit))) ⌝ }
+    ensures { λ _. ⌜ RoundMore (now (book .entry)) k (now (distance .entry)) (now (next .entry)) (now (distance .exit)) (now (next .exit)) ⌝ }
 {
     let count = declaration_count(book);
     let mut d = 0;
