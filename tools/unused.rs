@@ -32,7 +32,7 @@ struct Word {
 struct Import {
     name: String,
     line: usize,
-    // the module that it is from, as `Rattle.grammar.specs.Layout`, and what it is called there
+    // the module that it is from, as `Rattle.layout.specs.Layout`, and what it is called there
     from: String,
     original: String,
     // a whole module, used as `name.`

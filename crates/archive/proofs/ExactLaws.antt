@@ -21,9 +21,9 @@ use Rattle.engine.specs.declared.Answer.the-variants.{Refused}
 use Rattle.form.proofs.FormLaws.{longest-unique, says-unique}
 use Rattle.form.specs.Form.{Says, NotInForm}
 use Rattle.grammar.proofs.VerdictLaws.{refuse-case, refuse-accepted, first-of, FirstIn, here, there, order-first}
-use Rattle.grammar.specs.Limits.{productionLimit}
 use Rattle.grammar.specs.declared.Verdict.{Verdict}
 use Rattle.grammar.specs.declared.Verdict.the-variants.{Accepted, Refused as Rejected}
+use Rattle.layout.specs.Limits.{productionLimit}
 use Rattle.load.proofs.AbsentLaws.{class-number, names-number}
 use Rattle.load.proofs.NamesLaws.{class-names, class-accepted, names-first, names-accepted}
 use Rattle.load.specs.Absent.{absentAt, absentIn, absentNames, FirstNamed}

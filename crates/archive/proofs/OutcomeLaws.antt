@@ -22,10 +22,10 @@ use Rattle.engine.specs.declared.Answer.{Answer}
 use Rattle.engine.specs.declared.Answer.the-variants.{Refused}
 use Rattle.form.specs.Form.{Says}
 use Rattle.grammar.proofs.VerdictLaws.{first-same}
-use Rattle.grammar.specs.Limits.{productionLimit}
 use Rattle.grammar.specs.Verdict.{refuseIf, unlessRefused}
 use Rattle.grammar.specs.declared.Verdict.{Verdict}
 use Rattle.grammar.specs.declared.Verdict.the-variants.{Accepted, Refused as Rejected}
+use Rattle.layout.specs.Limits.{productionLimit}
 use Rattle.load.specs.Absent.{absentAt, absentIn, absentNames}
 use Rattle.load.specs.Check.{linesAnswer, Loaded}
 use Rattle.load.specs.declared.FlatAnswer.{FlatAnswer}

@@ -13,7 +13,7 @@ use Rattle.ccg.specs.Tables.{tableClass, tableLine, tableGrammar}
 use Rattle.ccg.specs.Text.{numberLimit}
 use Rattle.charset.specs.Set.{characters, bit, setWords, wordBits}
 use Rattle.common.proofs.ListLaws.{tabulate-same}
-use Rattle.grammar.specs.Limits.{productionLimit}
+use Rattle.layout.specs.Limits.{productionLimit}
 use Rattle.tables.proofs.LayoutLaws.{counts-long, counts-few, count-at, slot-in}
 use Rattle.tables.specs.Layout.{slot, slots, rootSlot, rowsAt, slotAt, tableWords, countOf, countsOf, arityIn, takesChar, takesProduction, ParserTables}
 use Rattle.tables.specs.Put.{ClassPut}

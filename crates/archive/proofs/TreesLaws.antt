@@ -22,8 +22,8 @@ use Rattle.common.proofs.ListLaws.{length-tabulate, getD-tabulate}
 use Rattle.engine.proofs.SameParsingLaws.{SameParsing}
 use Rattle.engine.specs.Roots.{ParseBy, parsingBy}
 use Rattle.grammar.proofs.VerdictLaws.{first-all}
-use Rattle.grammar.specs.Limits.{productionLimit}
 use Rattle.grammar.specs.declared.Verdict.the-variants.{Accepted}
+use Rattle.layout.specs.Limits.{productionLimit}
 use Rattle.load.proofs.NamesLaws.{class-names}
 use Rattle.load.specs.Absent.{absentIn, absentInArgument, absentInLine, absentInLineAt, absentNames}
 use Rattle.tables.proofs.LayoutLaws.{counts-few}

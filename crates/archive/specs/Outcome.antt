@@ -14,9 +14,9 @@ use Rattle.engine.specs.Refusals.{tooLong, chartTooShort}
 use Rattle.engine.specs.declared.Answer.{Answer}
 use Rattle.engine.specs.declared.Answer.the-variants.{Refused}
 use Rattle.form.specs.Form.{Says, NotInForm}
-use Rattle.grammar.specs.Limits.{productionLimit}
 use Rattle.grammar.specs.Verdict.{inOrder}
 use Rattle.grammar.specs.declared.Verdict.{Verdict}
+use Rattle.layout.specs.Limits.{productionLimit}
 use Rattle.load.specs.Absent.{absentIn, absentNames, Names}
 use Rattle.theory.specs.Tree.{Tree, Forest, productionNumber, yield, yields}
 

@@ -3,7 +3,7 @@ use charset::CharSet;
 use engine::Answer;
 use engine::parse_tables;
 use grammar::Verdict;
-use grammar::limits::PRODUCTION_LIMIT;
+use layout::limits::PRODUCTION_LIMIT;
 use load::FlatAnswer;
 use load::check_class;
 use load::load;

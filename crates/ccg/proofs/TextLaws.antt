@@ -14,7 +14,7 @@ use Rattle.charset.specs.Runs.{Range, range, runs}
 use Rattle.charset.specs.Set.{characters}
 use Rattle.common.proofs.ListLaws.{length-tabulate, getD-tabulate, joined-append, joined-one}
 use Rattle.common.specs.Lists.{tabulate, joined}
-use Rattle.grammar.specs.Limits.{productionLimit, argumentLimit}
+use Rattle.layout.specs.Limits.{productionLimit, argumentLimit}
 use Rattle.theory.specs.Tree.{productionNumber}
 use Rattle.writing.proofs.NumeralLaws.{numeral-short}
 use Rattle.writing.specs.Bytes.{lineFeed, space}

@@ -7,7 +7,7 @@ use lib.ListN.{length}
 use Rattle.ccg.specs.Ccg.{Line}
 use Rattle.charset.specs.Set.{characters}
 use Rattle.common.specs.Lists.{tabulate}
-use Rattle.grammar.specs.Limits.{productionLimit}
+use Rattle.layout.specs.Limits.{productionLimit}
 use Rattle.tables.specs.Layout.{slot, countsOf, arityIn, takesChar, takesProduction}
 use Rattle.theory.specs.Tree.{productionNumber}
 

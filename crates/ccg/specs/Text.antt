@@ -6,7 +6,7 @@ use lib.Dec.{eqb}
 use Rattle.ccg.specs.Ccg.{Class, Line}
 use Rattle.charset.specs.Runs.{Range, runs}
 use Rattle.common.specs.Lists.{joined}
-use Rattle.grammar.specs.Limits.{productionLimit}
+use Rattle.layout.specs.Limits.{productionLimit}
 use Rattle.theory.specs.Tree.{productionNumber}
 use Rattle.writing.specs.Bytes.{lineFeed, space}
 use Rattle.writing.specs.Numeral.{numeral}

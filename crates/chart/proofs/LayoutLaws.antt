@@ -12,7 +12,7 @@ use Rattle.tables.proofs.LayoutLaws.{counts-few}
 use Rattle.tables.specs.Layout.{countsOf, arityIn, rowCount, ParserTables}
 use Rattle.common.proofs.BelowLaws.{sum-more, sum-bound, sum-grows}
 use Rattle.common.specs.Below.{sumBelow}
-use Rattle.grammar.specs.Limits.{productionLimit, argumentLimit}
+use Rattle.layout.specs.Limits.{productionLimit, argumentLimit}
 
 -- ---- starts
 

@@ -4,7 +4,7 @@ use Prim.Native.Nat.{ℕ, _+_, _-_, _*_, _/_, _≤_}
 use mathlib.Core.List.{List}
 use lib.ListN.{length, getD}
 use Rattle.common.specs.Below.{sumBelow}
-use Rattle.grammar.specs.Limits.{productionLimit, argumentLimit}
+use Rattle.layout.specs.Limits.{productionLimit, argumentLimit}
 use Rattle.tables.specs.Layout.{countsOf, arityIn, rowCount, ParserTables}
 
 -- most characters of a text

@@ -1,7 +1,7 @@
 // The chart while it is filled: the cells of a row that end at one place stand side by side. Nothing outside this module knows where.
-use crate::layout::PLACES;
-use crate::layout::put;
-use crate::layout::span_count;
+use crate::cells::PLACES;
+use crate::cells::put;
+use crate::cells::span_count;
 use crate::sums::capped_byte;
 use crate::sums::larger;
 ghost use mathlib.Core.Path.{_≡_};

@@ -1,5 +1,5 @@
 // The cap, the larger of two, and an empty row table.
-use crate::layout::ROW_LIMIT;
+use crate::cells::ROW_LIMIT;
 ghost use mathlib.Core.Path.{_≡_};
 ghost use Prim.Native.Nat.{max};
 ghost use Rattle.theory.specs.Steps.{cap};

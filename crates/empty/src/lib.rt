@@ -1,6 +1,6 @@
 // The empty span, settled once for all places. At it the split at the start and the split at the end are one: a cell is the product of the cell before it and
 // the next argument. The arguments are held fixed while the cells are settled, and taken up again until they stay.
-use chart::layout::ROW_LIMIT;
+use chart::cells::ROW_LIMIT;
 use chart::sums::zero_row;
 use common::either;
 use common::wide;

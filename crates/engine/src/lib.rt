@@ -1,7 +1,7 @@
 // Parses a text by the flat tables, whichever grammar they come from; and the refusals of a text and of its chart.
-use chart::layout::TEXT_LIMIT;
-use chart::layout::chart_need;
-use chart::layout::entry_of;
+use chart::cells::TEXT_LIMIT;
+use chart::cells::chart_need;
+use chart::cells::entry_of;
 use chart::sums::capped;
 use common::wide;
 use extract::write_only;

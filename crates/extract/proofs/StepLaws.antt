@@ -20,7 +20,7 @@ use Rattle.extract.specs.Places.{Walkable, FirstChild, Splits, cellOf}
 use Rattle.levels.specs.Levels.{endCount, levelBytes, productionOf, writtenOf, placesOf, DueAt}
 use Rattle.extract.specs.Walk.{levelLimit, Writing, Midway, StillWriting, Further, WrittenOut}
 use Rattle.numbers.specs.Written.{room, Written}
-use Rattle.grammar.specs.Limits.{argumentLimit}
+use Rattle.layout.specs.Limits.{argumentLimit}
 use Rattle.theory.proofs.SpellsLaws.{stands-rises}
 use Rattle.theory.specs.Grammar.{Grammar, Spells, Stands}
 use Rattle.theory.specs.Steps.{NextWanted}

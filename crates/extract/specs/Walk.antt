@@ -6,7 +6,7 @@ use mathlib.Core.Path.{_≡_}
 use lib.ListN.{length, getD}
 use Rattle.chart.specs.Layout.{places}
 use Rattle.extract.specs.Places.{Walkable}
-use Rattle.grammar.specs.Limits.{productionLimit}
+use Rattle.layout.specs.Limits.{productionLimit}
 use Rattle.levels.specs.Levels.{levelBytes, productionOf, writtenOf, placesOf}
 use Rattle.numbers.specs.Written.{room, Written}
 use Rattle.tables.specs.Theory.{theoryOf}

@@ -1,10 +1,10 @@
 // Writes the listing of the only tree that a filled chart counts. The chart says where each argument ends and which production stands there;
 // a stack of levels says what is written. No walk is longer than the buffer.
-use chart::layout::PLACES;
-use chart::layout::entry_of;
+use chart::cells::PLACES;
+use chart::cells::entry_of;
 use common::wide;
-use grammar::limits::ARGUMENT_LIMIT;
-use grammar::limits::PRODUCTION_LIMIT;
+use layout::limits::ARGUMENT_LIMIT;
+use layout::limits::PRODUCTION_LIMIT;
 use levels::Due;
 use levels::ENDS;
 use levels::LEVEL;

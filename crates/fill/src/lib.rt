@@ -1,7 +1,7 @@
 // Fills a chart: columns rising, in each the starts falling, so that every span inside one is done before it.
 use chart::by_ends::clear;
 use chart::by_ends::turn_rows;
-use chart::layout::PLACES;
+use chart::cells::PLACES;
 use chart::sums::zero_row;
 use column::SUMS;
 use column::add_splits;

@@ -7,7 +7,7 @@ use Rattle.common.proofs.ListLaws.{tabulate-same}
 use Rattle.flatten.specs.Flat.{mayStandIn, flatClassIn, flatLineIn, flatGrammarIn}
 use Rattle.flatten.specs.Reading.{ReadingIn, EntryListIn}
 use Rattle.flatten.specs.Trees.{RootConflictIn, conflictAt, ConflictFreeIn}
-use Rattle.grammar.specs.Layout.{productions, argumentCount}
+use Rattle.layout.specs.Layout.{productions, argumentCount}
 use Rattle.priority.proofs.SpelledLaws.{conflicts-alike, conflict-carried}
 use Rattle.priority.specs.Priorities.{Kind, declaredIn}
 use Rattle.priority.specs.declared.Declaration.{Declaration}

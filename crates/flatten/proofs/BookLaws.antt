@@ -14,7 +14,7 @@ use Rattle.flatten.specs.Reading.{Reading, EntryList}
 use Rattle.flatten.specs.Tables.{FlatTables}
 use Rattle.charset.specs.Set.{characters}
 use Rattle.grammar.specs.Formed.{WellFormed}
-use Rattle.grammar.specs.Layout.{productions, startSort, argumentCount, result}
+use Rattle.layout.specs.Layout.{productions, startSort, argumentCount, result}
 use Rattle.tables.specs.Layout.{slot, rootSlot, takesProduction}
 use Rattle.tables.specs.Theory.{theoryOf}
 use Rattle.theory.specs.Grammar.{Grammar, Spells, Parse}

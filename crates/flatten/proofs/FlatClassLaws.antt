@@ -14,7 +14,7 @@ use Rattle.flatten.specs.Trees.{Built, ConflictFree, Apart}
 use Rattle.charset.specs.Set.{characters}
 use Rattle.common.proofs.BoolLaws.{true-or-false}
 use Rattle.grammar.specs.Formed.{WellFormed}
-use Rattle.grammar.specs.Layout.{productions, result, argument}
+use Rattle.layout.specs.Layout.{productions, result, argument}
 use Rattle.priority.proofs.ConflictLaws.{conflict-test}
 use Rattle.priority.specs.Conflict.{conflicts}
 use Rattle.theory.specs.Tree.{Tree, leaf, node, Forest, productionNumber}

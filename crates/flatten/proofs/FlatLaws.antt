@@ -12,17 +12,18 @@ use Rattle.ccg.proofs.CcgLaws.{rootNumber, generated-class, generated-root}
 use Rattle.ccg.proofs.TerminalLaws.{production-no-terminal, other-terminal}
 use Rattle.ccg.specs.Ccg.{Line, noLine, noClass, isTerminal, OwnNumbers, Generated, Each}
 use Rattle.charset.specs.Set.{characters}
+use Rattle.classes.proofs.ClassesLaws.{class-character}
+use Rattle.classes.specs.Classes.{isClass, classHas}
 use Rattle.common.proofs.BoolLaws.{and-both, and-first-true, and-second-true, true-or-false, not-both}
 use Rattle.common.proofs.ListLaws.{length-tabulate, getD-tabulate}
 use Rattle.common.specs.Lists.{tabulate}
 use Rattle.flatten.proofs.ConflictFreeLaws.{conflict-free-argument, conflict-free-root, conflict-free-leaf, conflict-free-node}
 use Rattle.flatten.specs.Flat.{isProduction, mayStand, mayStandIn, flatClass, flatClassIn, flatLine, flatLineIn, flatGrammar, flatGrammarIn, plainClass}
 use Rattle.flatten.specs.Trees.{Built, Arguments, RootConflict, conflictAt, ConflictFree}
-use Rattle.grammar.proofs.ClassesLaws.{sort-no-class, class-character}
-use Rattle.grammar.specs.Classes.{isClass, classHas}
+use Rattle.grammar.proofs.ArgumentLaws.{sort-no-class}
 use Rattle.grammar.specs.Formed.{WellFormed}
-use Rattle.grammar.specs.Layout.{productions, argumentCount, result, argument}
-use Rattle.grammar.specs.Limits.{classBase}
+use Rattle.layout.specs.Layout.{productions, argumentCount, result, argument}
+use Rattle.layout.specs.Limits.{classBase}
 use Rattle.priority.proofs.ConflictLaws.{fits-result, conflict-test}
 use Rattle.priority.specs.Conflict.{fits, Conflict, conflicts}
 use Rattle.theory.proofs.TreeLaws.{production-of-number, at-last, at-none, at-more}

@@ -10,15 +10,15 @@ use Rattle.ccg.specs.Ccg.{noLine, noClass}
 use Rattle.ccg.specs.Text.{numberLimit}
 use Rattle.ccg.specs.Written.{OnlyCharacters, OnlyProductions, WrittenForm}
 use Rattle.charset.specs.Set.{characters}
+use Rattle.classes.proofs.ClassesLaws.{class-character}
+use Rattle.classes.specs.Classes.{isClass}
 use Rattle.common.proofs.BoolLaws.{and-first-true, true-or-false}
 use Rattle.common.proofs.ListLaws.{length-tabulate}
 use Rattle.flatten.proofs.FlatLaws.{flat-length, flat-numbered, flat-arguments, flat-class-at, production-there, production-is, flat-of-class, flat-of-sort}
 use Rattle.flatten.specs.Flat.{isProduction, mayStand, flatClass, flatGrammar}
-use Rattle.grammar.proofs.ClassesLaws.{class-character}
-use Rattle.grammar.specs.Classes.{isClass}
 use Rattle.grammar.specs.Formed.{WellFormed}
-use Rattle.grammar.specs.Layout.{productions, argumentCount, argument}
-use Rattle.grammar.specs.Limits.{classBase}
+use Rattle.layout.specs.Layout.{productions, argumentCount, argument}
+use Rattle.layout.specs.Limits.{classBase}
 use Rattle.theory.specs.Tree.{productionNumber}
 
 -- ---- what the classes of a grammar's character class grammar have

@@ -6,6 +6,8 @@ use mathlib.Core.Bool.{Bool, false, true, cond, _&&_}
 use mathlib.Core.List.{List}
 use native.Mathlib.Omega.{arith}
 use lib.Dec.{leb, ltb, eqb}
+use Rattle.classes.proofs.ClassesLaws.{class-there}
+use Rattle.classes.specs.Classes.{isClass, classHas}
 use Rattle.common.proofs.BoolLaws.{and-same}
 use Rattle.common.proofs.ListLaws.{tabulate-same}
 use Rattle.common.specs.Lists.{tabulate}
@@ -13,11 +15,9 @@ use Rattle.flatten.proofs.FlatLaws.{production-there, arguments-size}
 use Rattle.flatten.specs.Flat.{isProduction, mayStandIn, flatClassIn, flatLineIn, flatGrammarIn, plainClass}
 use Rattle.flatten.specs.Reading.{ReadingIn, EntryListIn}
 use Rattle.flatten.specs.Trees.{Built, Arguments, RootConflictIn, conflictAt, HasConflictIn}
-use Rattle.grammar.proofs.ClassesLaws.{class-there}
 use Rattle.grammar.proofs.SameFrontLaws.{SameFront, front-back, same-productions, same-start, same-count, same-result, same-argument, same-is-class, same-class-has}
-use Rattle.grammar.specs.Classes.{isClass, classHas}
-use Rattle.grammar.specs.Layout.{productions, startSort, argumentCount, result, argument}
-use Rattle.grammar.specs.Limits.{classBase}
+use Rattle.layout.specs.Layout.{productions, startSort, argumentCount, result, argument}
+use Rattle.layout.specs.Limits.{classBase}
 use Rattle.priority.proofs.SameFrontLaws.{front-fits, front-conflicts, front-conflict}
 use Rattle.priority.specs.declared.Declaration.{Declaration}
 use Rattle.theory.proofs.TreeLaws.{at-none, at-more}

@@ -14,15 +14,15 @@ use borrow.Author.Tests.{le-leb, lt-leb, eq-eqb, lt-ltb, le-ltb, ne-eqb}
 use Rattle.tables.proofs.BitsLaws.{one-bit}
 use Rattle.charset.proofs.BitLaws.{bit-or, bit-zero}
 use Rattle.charset.specs.Set.{bit, has, wordBits, characters}
+use Rattle.classes.specs.Classes.{isClass, classHas}
 use Rattle.flatten.specs.Tables.{BarringSets, resultWords, resultHas, ByResult, FlatTables, BarringRows, countBytes, ArgumentWritten, RootWritten, WrittenBelow}
-use Rattle.grammar.specs.Limits.{sortLimit, productionLimit, argumentLimit, classBase, headerLength}
 use Rattle.tables.specs.Layout.{productionWords, slot, rootSlot, arityIn}
 use Rattle.flatten.specs.Flat.{mayStand, mayStandIn}
 use Rattle.common.proofs.BoolLaws.{eqb-sym, taken-out}
-use Rattle.grammar.proofs.FormedLaws.{bodies-in}
-use Rattle.grammar.specs.Classes.{isClass, classHas}
 use Rattle.grammar.specs.Formed.{WellFormed}
-use Rattle.grammar.specs.Layout.{productions, startSort, argumentCount, result, argument}
+use Rattle.layout.proofs.FramedLaws.{bodies-in}
+use Rattle.layout.specs.Layout.{productions, startSort, argumentCount, result, argument}
+use Rattle.layout.specs.Limits.{sortLimit, productionLimit, argumentLimit, classBase, headerLength}
 use Rattle.priority.proofs.ConflictLaws.{fits-result}
 use Rattle.priority.proofs.PriorityLaws.{table-higher}
 use Rattle.priority.specs.Chain.{entry}

@@ -13,16 +13,17 @@ use Rattle.ccg.proofs.TablesLaws.{table-of-character, table-between, table-of-p
 use Rattle.ccg.specs.Tables.{tableClass, tableLine, tableGrammar}
 use Rattle.ccg.specs.Text.{numberLimit}
 use Rattle.charset.specs.Set.{characters}
+use Rattle.classes.proofs.ClassesLaws.{class-character}
+use Rattle.classes.specs.Classes.{isClass, classHas}
 use Rattle.common.proofs.BoolLaws.{and-first-true, true-or-false}
 use Rattle.common.proofs.ListLaws.{tabulate-same}
 use Rattle.flatten.proofs.FlatLaws.{flat-of-class, flat-of-sort}
 use Rattle.flatten.specs.Flat.{isProduction, mayStand, mayStandIn, flatClass, flatLine, flatLineIn, flatGrammar, flatGrammarIn, plainClass}
 use Rattle.flatten.specs.Tables.{FlatTables}
-use Rattle.grammar.proofs.ClassesLaws.{sort-no-class, class-character}
-use Rattle.grammar.specs.Classes.{isClass, classHas}
+use Rattle.grammar.proofs.ArgumentLaws.{sort-no-class}
 use Rattle.grammar.specs.Formed.{WellFormed}
-use Rattle.grammar.specs.Layout.{sorts, productions, classes, startSort, argumentCount, result, argument}
-use Rattle.grammar.specs.Limits.{classBase}
+use Rattle.layout.specs.Layout.{sorts, productions, classes, startSort, argumentCount, result, argument}
+use Rattle.layout.specs.Limits.{classBase}
 use Rattle.priority.specs.Conflict.{isSort, fits}
 use Rattle.tables.specs.Layout.{slot, rootSlot}
 use Rattle.theory.specs.Tree.{productionNumber}

@@ -15,12 +15,13 @@ use Rattle.theory.proofs.TreeLaws.{at-last, at-none, at-more}
 use Rattle.flatten.specs.Flat.{mayStand, mayStandIn}
 use Rattle.flatten.specs.Trees.{Built, Arguments, RootConflict, conflictAt, ConflictFree}
 use Rattle.charset.specs.Set.{characters}
+use Rattle.classes.proofs.ClassesLaws.{class-character}
+use Rattle.classes.specs.Classes.{isClass, classHas}
 use Rattle.common.proofs.BoolLaws.{and-both, and-first-true, and-second-true, true-or-false, not-both}
-use Rattle.grammar.proofs.ClassesLaws.{sort-no-class, class-character}
-use Rattle.grammar.specs.Classes.{isClass, classHas}
+use Rattle.grammar.proofs.ArgumentLaws.{sort-no-class}
 use Rattle.grammar.specs.Formed.{WellFormed}
-use Rattle.grammar.specs.Layout.{productions, startSort, argumentCount, result, argument}
-use Rattle.grammar.specs.Limits.{classBase}
+use Rattle.layout.specs.Layout.{productions, startSort, argumentCount, result, argument}
+use Rattle.layout.specs.Limits.{classBase}
 use Rattle.flatten.specs.Reading.{Reading, EntryList}
 use Rattle.priority.proofs.ConflictLaws.{fits-result, conflict-test}
 use Rattle.priority.specs.Conflict.{fits, Conflict, conflicts}

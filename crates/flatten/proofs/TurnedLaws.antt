@@ -13,10 +13,10 @@ use Rattle.flatten.specs.Flat.{flatGrammarIn, flatGrammar, plainClass}
 use Rattle.flatten.specs.Reading.{ReadingIn, EntryListIn, Reading, EntryList}
 use Rattle.grammar.proofs.SameFrontLaws.{SameFront, front-back, same-productions, same-start, same-count}
 use Rattle.grammar.proofs.TurnedLaws.{turned-front}
-use Rattle.grammar.specs.Layout.{productions, startSort, argumentCount}
 use Rattle.grammar.specs.Turned.{TurnedRound}
 use Rattle.grammar.specs.Verdict.{unlessRefused}
 use Rattle.grammar.specs.declared.Verdict.{Verdict}
+use Rattle.layout.specs.Layout.{productions, startSort, argumentCount}
 use Rattle.priority.proofs.TurnedLaws.{turned-list, turned-checked}
 use Rattle.priority.specs.Priorities.{declarationsOf}
 use Rattle.priority.specs.declared.Declaration.{Declaration}

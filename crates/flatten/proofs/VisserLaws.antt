@@ -14,14 +14,15 @@ use Rattle.theory.proofs.TreeLaws.{production-of-number}
 use Rattle.ccg.specs.Ccg.{Class, Line, noLine, noClass}
 use Rattle.flatten.specs.Flat.{isProduction, mayStandIn, flatClass, flatLineIn, flatGrammar, flatGrammarIn}
 use Rattle.charset.specs.Set.{characters}
+use Rattle.classes.proofs.ClassesLaws.{class-character}
+use Rattle.classes.specs.Classes.{isClass, classHas}
 use Rattle.common.proofs.BoolLaws.{and-first-true, and-second-true, true-or-false, eqb-sym, taken-out}
 use Rattle.common.proofs.ListLaws.{getD-tabulate, tabulate-same}
 use Rattle.common.specs.Lists.{tabulate}
-use Rattle.grammar.proofs.ClassesLaws.{sort-no-class, class-character}
-use Rattle.grammar.specs.Classes.{isClass, classHas}
+use Rattle.grammar.proofs.ArgumentLaws.{sort-no-class}
 use Rattle.grammar.specs.Formed.{WellFormed}
-use Rattle.grammar.specs.Layout.{productions, argumentCount, result, argument}
-use Rattle.grammar.specs.Limits.{classBase}
+use Rattle.layout.specs.Layout.{productions, argumentCount, result, argument}
+use Rattle.layout.specs.Limits.{classBase}
 use Rattle.priority.proofs.ConflictLaws.{fits-result}
 use Rattle.priority.proofs.PriorityLaws.{higher-chain}
 use Rattle.priority.specs.Conflict.{isFirst, isLast, rightOrNonassoc, leftOrNonassoc, anywhere, barred, conflictsIn}

@@ -4,7 +4,7 @@ use mathlib.Core.Path.{_≡_}
 use mathlib.Core.List.{List}
 use lib.Seq.{slice}
 use Rattle.flatten.specs.Trees.{Built, Arguments, ConflictFreeIn}
-use Rattle.grammar.specs.Layout.{startSort}
+use Rattle.layout.specs.Layout.{startSort}
 use Rattle.priority.specs.Conflict.{ConflictIn}
 use Rattle.priority.specs.Priorities.{declarationsOf}
 use Rattle.priority.specs.declared.Declaration.{Declaration}

@@ -6,10 +6,10 @@ use mathlib.Core.Path.{_≡_}
 use lib.Dec.{ltb, eqb}
 use lib.ListN.{length, getD, take, drop}
 use Rattle.charset.specs.Set.{characters, bit, has, wordBits}
+use Rattle.classes.specs.Classes.{isClass, classHas}
 use Rattle.flatten.specs.Flat.{mayStand}
-use Rattle.grammar.specs.Classes.{isClass, classHas}
-use Rattle.grammar.specs.Layout.{productions, startSort, argumentCount, result, argument}
-use Rattle.grammar.specs.Limits.{productionLimit, classBase, headerLength, sortLimit}
+use Rattle.layout.specs.Layout.{productions, startSort, argumentCount, result, argument}
+use Rattle.layout.specs.Limits.{productionLimit, classBase, headerLength, sortLimit}
 use Rattle.priority.specs.Conflict.{rightOrNonassoc, leftOrNonassoc}
 use Rattle.priority.specs.Priorities.{declarationsOf, isHigher}
 use Rattle.tables.specs.Layout.{productionWords, slot, rootSlot, countsOf, arityIn, takesChar, takesProduction, ParserTables}

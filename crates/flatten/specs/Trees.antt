@@ -3,9 +3,9 @@ use Prim.Native.Nat.{ℕ, zero, suc, _-_, _<_}
 use mathlib.Core.Path.{_≡_}
 use mathlib.Core.Bool.{true}
 use mathlib.Core.List.{List}
-use Rattle.grammar.specs.Classes.{isClass, classHas}
-use Rattle.grammar.specs.Layout.{productions, argumentCount, result, argument}
-use Rattle.grammar.specs.Limits.{classBase}
+use Rattle.classes.specs.Classes.{isClass, classHas}
+use Rattle.layout.specs.Layout.{productions, argumentCount, result, argument}
+use Rattle.layout.specs.Limits.{classBase}
 use Rattle.priority.specs.Conflict.{ConflictIn, Conflict}
 use Rattle.priority.specs.Priorities.{declarationsOf}
 use Rattle.priority.specs.declared.Declaration.{Declaration}

@@ -7,10 +7,10 @@ use mathlib.Core.List.{List}
 use lib.Dec.{ltb, eqb}
 use Rattle.ccg.specs.Ccg.{Class, Line}
 use Rattle.flatten.specs.Flat.{isProduction}
+use Rattle.classes.specs.Classes.{isClass, classHas}
 use Rattle.common.specs.Lists.{tabulate}
-use Rattle.grammar.specs.Classes.{isClass, classHas}
-use Rattle.grammar.specs.Layout.{productions, argumentCount, result, argument}
-use Rattle.grammar.specs.Limits.{classBase}
+use Rattle.layout.specs.Layout.{productions, argumentCount, result, argument}
+use Rattle.layout.specs.Limits.{classBase}
 use Rattle.priority.specs.Conflict.{fits}
 use Rattle.priority.specs.Priorities.{left, right, nonassoc, declared, Higher, isHigher}
 use Rattle.theory.specs.Tree.{productionNumber}

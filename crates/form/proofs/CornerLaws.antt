@@ -19,7 +19,7 @@ use Rattle.form.proofs.StepsLaws.{steps-last, writable-ends}
 use Rattle.form.specs.Corners.{Corner, corner, StopsThere, corners}
 use Rattle.form.specs.Form.{Writable, NotInForm}
 use Rattle.form.specs.Step.{lastFrom, allowed, meets, begins, begun, endingByte, behindNumber, inNumber, behindOpen, behindSlash, behindDash, inLine, behindClass, inEnding, stepAt, start, steps, goesOn, mayEnd, mayEndAt}
-use Rattle.grammar.specs.Limits.{productionLimit}
+use Rattle.layout.specs.Limits.{productionLimit}
 use Rattle.writing.specs.Digits.{isDigit}
 use Rattle.writing.specs.Numeral.{decimal, numeral}
 

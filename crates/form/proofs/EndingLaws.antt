@@ -7,7 +7,7 @@ use lib.ListN.{length, getD}
 use Rattle.ccg.proofs.TextLaws.{one-text}
 use Rattle.ccg.specs.Text.{dash, greater, bracketOpen, backslash, bracketClose, resultText}
 use Rattle.form.specs.Step.{endingLength, endingByte}
-use Rattle.grammar.specs.Limits.{productionLimit}
+use Rattle.layout.specs.Limits.{productionLimit}
 use Rattle.theory.specs.Tree.{productionNumber}
 use Rattle.writing.proofs.NumeralLaws.{numeral-small, numeral-more}
 use Rattle.writing.specs.Bytes.{lineFeed, space}

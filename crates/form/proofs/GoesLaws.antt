@@ -21,7 +21,7 @@ use Rattle.form.specs.Step.{lastFrom, allowed, begun, state, endingLengt
 use Rattle.form.specs.declared.Spot.{Spot}
 use Rattle.form.specs.declared.Spot.the-variants.{Between, Opened, Slash, Number, Dash, Closed, Ending, Stuck}
 use Rattle.form.specs.declared.State.{State}
-use Rattle.grammar.specs.Limits.{productionLimit}
+use Rattle.layout.specs.Limits.{productionLimit}
 use Rattle.theory.specs.Tree.{productionNumber}
 use Rattle.writing.specs.Bytes.{space}
 use Rattle.writing.specs.Digits.{isDigit}

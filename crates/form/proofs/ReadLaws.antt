@@ -27,7 +27,7 @@ use Rattle.form.specs.Step.{allowed, state, endingLength, endingByte, be
 use Rattle.form.specs.declared.Spot.{Spot}
 use Rattle.form.specs.declared.Spot.the-variants.{Between, Opened, Slash, Number, Dash, Closed, Ending, Stuck}
 use Rattle.form.specs.declared.State.{State}
-use Rattle.grammar.specs.Limits.{productionLimit, argumentLimit}
+use Rattle.layout.specs.Limits.{productionLimit, argumentLimit}
 use Rattle.theory.specs.Tree.{productionNumber}
 use Rattle.writing.proofs.NumeralLaws.{numeral-small, numeral-more}
 use Rattle.writing.specs.Bytes.{space}

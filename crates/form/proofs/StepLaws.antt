@@ -10,7 +10,7 @@ use Rattle.common.proofs.BoolLaws.{and-first-true, and-second-true}
 use Rattle.form.specs.Step.{allowed, state, endingLength, endingByte, behindNumber, inNumber, behindOpen, behindSlash, behindDash, inLine, behindClass, inEnding, stepAt, SmallSpot, ShortSpot}
 use Rattle.form.specs.declared.Spot.{Spot}
 use Rattle.form.specs.declared.Spot.the-variants.{Between, Opened, Slash, Number, Dash, Closed, Ending, Stuck}
-use Rattle.grammar.specs.Limits.{productionLimit, argumentLimit}
+use Rattle.layout.specs.Limits.{productionLimit, argumentLimit}
 use Rattle.writing.specs.Bytes.{space}
 use Rattle.writing.specs.Digits.{digitNine, isDigit}
 use Rattle.writing.specs.Numeral.{digitZero, numeralBase}

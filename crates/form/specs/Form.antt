@@ -6,7 +6,7 @@ use lib.ListN.{length, getD, take}
 use Rattle.ccg.specs.Ccg.{Line, noLine}
 use Rattle.ccg.specs.Text.{grammarText}
 use Rattle.ccg.specs.Written.{WrittenForm}
-use Rattle.grammar.specs.Limits.{productionLimit, argumentLimit}
+use Rattle.layout.specs.Limits.{productionLimit, argumentLimit}
 
 -- A character class grammar that a flat text can say: at least one line and not too many, not too many arguments in any, each line with its own number, and in
 -- each class only characters or only numbers that a line could have.

@@ -8,13 +8,13 @@ use native.Mathlib.Omega.{arith}
 use lib.Dec.{eqb}
 use borrow.Author.Tests.{eqb-true, eq-eqb}
 use Rattle.charset.proofs.SameSetLaws.{same-when, same-has}
+use Rattle.classes.specs.Classes.{isClass, classHas, sameClass, sameArgument}
 use Rattle.common.proofs.BelowLaws.{all-each, all-here}
 use Rattle.common.proofs.BoolLaws.{or-cases, or-first, or-second, and-both, and-first-true, and-second-true}
-use Rattle.grammar.specs.Check.{sameArgument, sameProduction}
-use Rattle.grammar.specs.Classes.{isClass, classHas, sameClass}
+use Rattle.grammar.specs.Check.{sameProduction}
 use Rattle.grammar.specs.Equal.{OneArgument, OneProduction}
-use Rattle.grammar.specs.Layout.{argumentCount, result, argument}
-use Rattle.grammar.specs.Limits.{classBase}
+use Rattle.layout.specs.Layout.{argumentCount, result, argument}
+use Rattle.layout.specs.Limits.{classBase}
 
 module _ (b : List ℕ) where
   one-argument-sym : (x y : ℕ) → OneArgument b x y → OneArgument b y x

@@ -1,6 +1,6 @@
--- In a frame that stands, each part lies within the bytes.
-use Prim.Native.Nat.{ℕ, _+_, _*_, _≤_, _<_}
-use mathlib.Core.Path.{_≡_, refl, sym, _∙_, ap}
+-- What the checks that accept say.
+use Prim.Native.Nat.{ℕ, _+_, _≤_, _<_}
+use mathlib.Core.Path.{_≡_, refl, sym, ap}
 use mathlib.Core.Bool.{false, true, _&&_}
 use mathlib.Core.List.{List, [], _∷_}
 use mathlib.Core.Logic.{by-cases}
@@ -11,38 +11,15 @@ use lib.ListN.{length}
 use borrow.Author.Tests.{ltb-false, leb-false, eqb-true, not-false, lt-ltb, le-ltb}
 use Rattle.common.proofs.BelowLaws.{any-never}
 use Rattle.common.proofs.BoolLaws.{or-first-false, or-second-false}
-use Rattle.grammar.proofs.LayoutLaws.{production-first, class-first, declaration-first, production-within, production-after, class-within, class-after-productions, declaration-within, declaration-after-classes, needed-is-end}
 use Rattle.grammar.proofs.VerdictLaws.{refuse-accepted, accepted-last, and-first, and-second, first-all}
 use Rattle.grammar.specs.Check.{outside, shortHeader, headerLines, headerBytes, badHeader, shortContents, badArgumentCount, badRangeCount, badLength, namesArgument, badArgument, badArguments, badProduction, isGroup, declarationLines, declarationBytes, badDeclaration, sameProduction, repeatedProduction, frameLines, frameCheck, bodiesLines, bodiesCheck}
-use Rattle.grammar.specs.Formed.{Framed, WellFormed}
-use Rattle.grammar.specs.Layout.{byteAt, sorts, productions, classes, declarations, startSort, argumentCount, rangeCount, bodiesAt, productionAt, result, argument, classAt, declarationAt, kind, first, second, neededLength}
-use Rattle.grammar.specs.Limits.{sortLimit, productionLimit, classLimit, argumentLimit, rangeLimit, kindLimit, pairKindLimit, headerLength}
+use Rattle.grammar.specs.Formed.{WellFormed}
 use Rattle.grammar.specs.Verdict.{refuseIf, andThen, inOrder}
 use Rattle.grammar.specs.declared.Verdict.{Verdict}
 use Rattle.grammar.specs.declared.Verdict.the-variants.{Accepted}
-
-module _ (b : List ℕ) (f : Framed b) where
-  end : length b ≡ declarationAt b (declarations b)
-  end = f .lengthIs ∙ needed-is-end b
-
-  pub declaration-in : (d : ℕ) → d < declarations b → declarationAt b d + 3 ≤ length b
-  declaration-in d h = omega (arith, end, declaration-within b d h)
-
-  pub class-in : (k : ℕ) → k < classes b → classAt b k + 2 * rangeCount b k ≤ length b
-  class-in k h = omega (arith, end, class-within b k h, declaration-after-classes b (declarations b))
-
-  pub production-in : (p : ℕ) → p < productions b → productionAt b p + (1 + argumentCount b p) ≤ length b
-  production-in p h =
-      omega (arith, end, production-within b p h, class-after-productions b (classes b), declaration-first b, declaration-after-classes b (declarations b))
-
-  pub declarations-in : declarationAt b 0 ≤ length b
-  declarations-in = omega (arith, end, declaration-after-classes b (declarations b))
-
-  pub bodies-in : bodiesAt b ≤ length b
-  bodies-in =
-      omega (arith, declarations-in, production-first b, production-after b (productions b), class-first b, class-after-productions b (classes b), declaration-first b)
-
--- ---- what the checks that accept say
+use Rattle.layout.specs.Framed.{Framed}
+use Rattle.layout.specs.Layout.{byteAt, sorts, productions, classes, declarations, startSort, argumentCount, rangeCount, productionAt, result, argument, declarationAt, kind, first, second, neededLength}
+use Rattle.layout.specs.Limits.{sortLimit, productionLimit, classLimit, argumentLimit, rangeLimit, kindLimit, pairKindLimit, headerLength}
 
 module _ (low high x : ℕ) (e : outside low high x ≡ false) where
   inside-low : low ≤ x

@@ -1,9 +1,7 @@
 -- Laws of the grammar's bytes.
-pub mod LayoutLaws
 pub mod VerdictLaws
 pub mod FormedLaws
-pub mod ClassesLaws
-pub mod CanonicalLaws
+pub mod ArgumentLaws
 pub mod EqualLaws
 pub mod SameFrontLaws
 pub mod TurnedLaws

@@ -9,13 +9,13 @@ use lib.ListN.{length, getD, take, drop, length-append, length-drop, List·getD-
 use lib.Seq.{length-take-le, getD-append-add, getD-take, getD-drop, slice, length-slice}
 use Rattle.common.proofs.BelowLaws.{sum-none, sum-double}
 use Rattle.common.specs.Below.{sumBelow}
-use Rattle.grammar.proofs.FormedLaws.{declarations-in}
-use Rattle.grammar.proofs.LayoutLaws.{class-within, class-after-productions, declaration-first}
 use Rattle.grammar.proofs.SameFrontLaws.{same-classes, same-range-count, same-range-at}
 use Rattle.grammar.proofs.TurnedLaws.{turned-front}
-use Rattle.grammar.specs.Formed.{Framed}
-use Rattle.grammar.specs.Layout.{byteAt, classes, rangeCount, classAt, rangeAt, low, high, declarationAt}
 use Rattle.grammar.specs.Turned.{TurnedRound, RangesRise, rising, risen}
+use Rattle.layout.proofs.FramedLaws.{declarations-in}
+use Rattle.layout.proofs.LayoutLaws.{class-within, class-after-productions, declaration-first}
+use Rattle.layout.specs.Framed.{Framed}
+use Rattle.layout.specs.Layout.{byteAt, classes, rangeCount, classAt, rangeAt, low, high, declarationAt}
 
 -- ---- a list of pairs, the smaller of each first
 

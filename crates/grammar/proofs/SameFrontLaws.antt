@@ -11,17 +11,18 @@ use lib.ListN.{length}
 use borrow.Author.Tests.{eqb-true}
 use Rattle.charset.proofs.SpansLaws.{spans-turned}
 use Rattle.charset.specs.Set.{characters, spans, sameSet}
+use Rattle.classes.proofs.ClassesLaws.{class-there}
+use Rattle.classes.specs.Classes.{isClass, classHas, sameClass, sameArgument}
 use Rattle.common.proofs.BelowLaws.{sum-same, any-same, all-same}
 use Rattle.common.proofs.BoolLaws.{and-first-true, and-second-true, and-same}
 use Rattle.common.specs.Below.{allBelow}
-use Rattle.grammar.proofs.ClassesLaws.{class-there}
-use Rattle.grammar.proofs.LayoutLaws.{production-first, class-first, declaration-first, production-within, production-after, class-within, class-after-productions, declaration-after-classes, needed-is-end}
-use Rattle.grammar.specs.Check.{namesArgument, isGroup, sameArgument, sameProduction}
-use Rattle.grammar.specs.Classes.{isClass, classHas, sameClass}
-use Rattle.grammar.specs.Formed.{Framed, WellFormed}
-use Rattle.grammar.specs.Layout.{byteAt, sorts, productions, classes, declarations, startSort, argumentCountAt, rangeCountAt, argumentCount, rangeCount, bodiesAt, productionAt, argumentAt, result, argument, classAt, rangeAt, low, high, declarationAt, kind, first, second, neededLength}
-use Rattle.grammar.specs.Limits.{kindLimit, classBase, headerLength}
+use Rattle.grammar.specs.Check.{namesArgument, isGroup, sameProduction}
+use Rattle.grammar.specs.Formed.{WellFormed}
 use Rattle.grammar.specs.Turned.{SameEnds, SameRanges}
+use Rattle.layout.proofs.LayoutLaws.{production-first, class-first, declaration-first, production-within, production-after, class-within, class-after-productions, declaration-after-classes, needed-is-end}
+use Rattle.layout.specs.Framed.{Framed}
+use Rattle.layout.specs.Layout.{byteAt, sorts, productions, classes, declarations, startSort, argumentCountAt, rangeCountAt, argumentCount, rangeCount, bodiesAt, productionAt, argumentAt, result, argument, classAt, rangeAt, low, high, declarationAt, kind, first, second, neededLength}
+use Rattle.layout.specs.Limits.{kindLimit, classBase, headerLength}
 
 -- The numbers before the classes are the same, but for the count of declarations, and each range has the same ends.
 pub record SameFront (b c : List ℕ) : Type 0 where

@@ -9,18 +9,18 @@ use lib.Dec.{ltb}
 use borrow.Author.Tests.{le-ltb}
 use Rattle.charset.proofs.SpansLaws.{spans-rising}
 use Rattle.charset.specs.Set.{inRange, spans}
+use Rattle.classes.specs.Classes.{classHas}
 use Rattle.common.proofs.BelowLaws.{any-same, any-here, any-found, between-in, between-ends}
-use Rattle.grammar.proofs.LayoutLaws.{declaration-after-classes, needed-is-end}
 use Rattle.grammar.proofs.SameFrontLaws.{SameFront, front-classes, front-back, same-sorts, same-productions, same-classes, same-start, same-last, same-count, same-range-count, same-production-at, same-class-at, same-declaration-at, same-result, same-argument, same-names, same-sameness}
 use Rattle.grammar.proofs.VerdictLaws.{first-same, first-pass}
 use Rattle.grammar.specs.Check.{shortHeader, badHeader, shortContents, badArgumentCount, badRangeCount, badArgumentCounts, badRangeCounts, badLength, namesArgument, badArgument, badArguments, badProduction, badProductions, badDeclaration, badDeclarations, sameProduction, repeatedProduction, repeatedProductions, frameCheck, bodiesCheck}
-use Rattle.grammar.specs.Classes.{classHas}
-use Rattle.grammar.specs.Layout.{byteAt, productions, classes, declarations, argumentCount, rangeCount, argument, rangeAt, low, high, declarationAt, kind, first, second, neededLength}
-use Rattle.grammar.specs.Limits.{argumentLimit, rangeLimit, headerLength}
 use Rattle.grammar.specs.Turned.{TurnedRound, RangesRise}
 use Rattle.grammar.specs.Verdict.{refuseIf, firstRefusal}
 use Rattle.grammar.specs.declared.Verdict.{Verdict}
 use Rattle.grammar.specs.declared.Verdict.the-variants.{Accepted}
+use Rattle.layout.proofs.LayoutLaws.{declaration-after-classes, needed-is-end}
+use Rattle.layout.specs.Layout.{byteAt, productions, classes, declarations, argumentCount, rangeCount, argument, rangeAt, low, high, declarationAt, kind, first, second, neededLength}
+use Rattle.layout.specs.Limits.{argumentLimit, rangeLimit, headerLength}
 
 module _ (b c : List ℕ) (t : TurnedRound b c) where
   -- It differs from the grammar only where the ranges stand.

@@ -1,15 +1,15 @@
 -- The refusals 1 to 8 of a grammar, a definition to a line of the table (01, "Refused because of the input"). There is no refusal 6 (02, [3]).
-use Prim.Native.Nat.{ℕ, _+_, _-_, min}
+use Prim.Native.Nat.{ℕ, _+_, min}
 use mathlib.Core.Bool.{Bool, not, _&&_, _||_}
 use mathlib.Core.List.{List, [], _∷_}
 use lib.Dec.{leb, ltb, eqb}
 use lib.ListN.{length}
+use Rattle.classes.specs.Classes.{isClass, sameArgument}
 use Rattle.common.specs.Below.{allBelow, anyBelow}
-use Rattle.grammar.specs.Classes.{isClass, sameClass}
-use Rattle.grammar.specs.Layout.{byteAt, sorts, productions, classes, declarations, startSort, argumentCountAt, rangeCountAt, argumentCount, rangeCount, bodiesAt, productionAt, argumentAt, result, argument, declarationAt, kind, first, second, neededLength}
-use Rattle.grammar.specs.Limits.{sortLimit, productionLimit, classLimit, argumentLimit, rangeLimit, kindLimit, pairKindLimit, classBase, headerLength}
 use Rattle.grammar.specs.Verdict.{refuseIf, andThen, firstRefusal, inOrder}
 use Rattle.grammar.specs.declared.Verdict.{Verdict}
+use Rattle.layout.specs.Layout.{byteAt, sorts, productions, classes, declarations, startSort, argumentCountAt, rangeCountAt, argumentCount, rangeCount, bodiesAt, productionAt, argumentAt, result, argument, declarationAt, kind, first, second, neededLength}
+use Rattle.layout.specs.Limits.{sortLimit, productionLimit, classLimit, argumentLimit, rangeLimit, kindLimit, pairKindLimit, headerLength}
 
 -- x is not one of low, low + 1, … high
 abbrev pub outside : ℕ → ℕ → ℕ → Bool
@@ -94,10 +94,6 @@ badDeclaration b d = declarationBytes (declarationAt b d) (productions b) (kind 
 
 abbrev pub badDeclarations : List ℕ → Verdict
 badDeclarations b = firstRefusal (declarations b) (badDeclaration b)
-
--- two argument bytes are the same argument: one byte, so the same sort or class; or two classes that are the same set of characters (02, [5])
-unfoldable pub sameArgument : List ℕ → ℕ → ℕ → Bool
-sameArgument b x y = eqb x y || (isClass b x && isClass b y && sameClass b (x - classBase) (y - classBase))
 
 -- two productions are equal: the results are, and each argument is the same (02, [5])
 unfoldable pub sameProduction : List ℕ → ℕ → ℕ → Bool

@@ -5,9 +5,9 @@ use mathlib.Core.Bool.{true}
 use mathlib.Core.List.{List}
 use mathlib.Core.Logic.{_⊎_}
 use Rattle.charset.specs.Set.{characters}
-use Rattle.grammar.specs.Classes.{isClass, classHas}
-use Rattle.grammar.specs.Layout.{argumentCount, result, argument}
-use Rattle.grammar.specs.Limits.{classBase}
+use Rattle.classes.specs.Classes.{isClass, classHas}
+use Rattle.layout.specs.Layout.{argumentCount, result, argument}
+use Rattle.layout.specs.Limits.{classBase}
 
 -- Two argument bytes are the same byte, or two classes with the same characters: classes with no character too.
 abbrev pub OneArgument : List ℕ → ℕ → ℕ → Type 0

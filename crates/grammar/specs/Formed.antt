@@ -3,24 +3,10 @@ use Prim.Native.Nat.{ℕ, _≤_, _<_}
 use mathlib.Core.Path.{_≡_}
 use mathlib.Core.Bool.{false, true}
 use mathlib.Core.List.{List}
-use lib.ListN.{length}
 use Rattle.grammar.specs.Check.{namesArgument, isGroup, sameProduction}
-use Rattle.grammar.specs.Layout.{byteAt, sorts, productions, classes, declarations, startSort, argumentCount, rangeCount, result, argument, kind, first, second, neededLength}
-use Rattle.grammar.specs.Limits.{sortLimit, productionLimit, classLimit, argumentLimit, rangeLimit, kindLimit, headerLength}
-
--- The frame stands: refusals 1 to 4 do not hold.
-pub record Framed (b : List ℕ) : Type 0 where
-  pub header : headerLength ≤ length b
-  pub someSort : 1 ≤ sorts b
-  pub fewSorts : sorts b ≤ sortLimit
-  pub someProduction : 1 ≤ productions b
-  pub fewProductions : productions b ≤ productionLimit
-  pub fewClasses : classes b ≤ classLimit
-  pub startNamed : startSort b < sorts b
-  pub lastZero : byteAt b 5 ≡ 0
-  pub fewArguments : (p : ℕ) → p < productions b → argumentCount b p ≤ argumentLimit
-  pub fewRanges : (k : ℕ) → k < classes b → rangeCount b k ≤ rangeLimit
-  pub lengthIs : length b ≡ neededLength b
+use Rattle.layout.specs.Framed.{Framed}
+use Rattle.layout.specs.Layout.{sorts, productions, declarations, argumentCount, result, argument, kind, first, second}
+use Rattle.layout.specs.Limits.{kindLimit}
 
 -- All bytes are as they should be: refusals 1 to 8 do not hold.
 pub record WellFormed (b : List ℕ) : Type 0 where

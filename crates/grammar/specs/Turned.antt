@@ -5,7 +5,7 @@ use mathlib.Core.List.{List, [], _∷_, _++_}
 use mathlib.Core.Logic.{_⊎_}
 use lib.ListN.{length, take, drop}
 use lib.Seq.{slice}
-use Rattle.grammar.specs.Layout.{byteAt, classes, rangeCount, classAt, rangeAt, low, high, declarationAt}
+use Rattle.layout.specs.Layout.{byteAt, classes, rangeCount, classAt, rangeAt, low, high, declarationAt}
 
 -- The two ends of a range, as they were or turned round.
 abbrev pub SameEnds : (low high low′ high′ : ℕ) → Type 0

@@ -3,7 +3,7 @@ use Prim.Native.Nat.{ℕ, zero, suc, _+_, _*_}
 use mathlib.Core.List.{List}
 use mathlib.Core.Path.{_≡_}
 use lib.ListN.{getD, take, drop}
-use Rattle.grammar.specs.Limits.{argumentLimit}
+use Rattle.layout.specs.Limits.{argumentLimit}
 
 -- the places where the arguments of a production begin, and where the last one ends
 abbrev pub endCount : ℕ

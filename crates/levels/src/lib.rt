@@ -1,13 +1,13 @@
 // The stack of levels while a tree is written: a level for each production whose arguments are not all written.
 // Its bytes are its production, how many of its arguments are written, and the places where they begin and end.
 use common::wide;
-use grammar::limits::ARGUMENT_LIMIT;
+use layout::limits::ARGUMENT_LIMIT;
 ghost use mathlib.Core.Path.{_≡_};
 ghost use Prim.Native.Nat.{ℕ, _+_, _*_, _<_, _≤_};
 ghost use lib.ListN.{length, set};
 ghost use Rattle.chart.specs.Layout.{textLimit};
 ghost use Rattle.common.specs.Region.{Region};
-ghost use Rattle.grammar.specs.Limits.{productionLimit, argumentLimit};
+ghost use Rattle.layout.specs.Limits.{productionLimit, argumentLimit};
 ghost use Rattle.levels.specs.Levels.{levelBytes, writtenOf, openByte, DueAt};
 
 // Places where the arguments of a production begin, and where the last one ends.

@@ -17,7 +17,7 @@ use Rattle.common.proofs.BoolLaws.{or-first, or-second, true-or-false}
 use Rattle.common.specs.Below.{bitOf}
 use Rattle.common.specs.Region.{Region}
 use Rattle.common.specs.Zeros.{AllZero}
-use Rattle.grammar.specs.Limits.{productionLimit, argumentLimit}
+use Rattle.layout.specs.Limits.{productionLimit, argumentLimit}
 use Rattle.tables.proofs.LayoutLaws.{octet-bit}
 use Rattle.tables.specs.Layout.{slot, takesProduction, arityIn, rowCount, octetBits, productionOctet}
 use Rattle.chart.proofs.LayoutLaws.{row-below}

@@ -6,7 +6,7 @@ use mathlib.Core.List.{List}
 use lib.ListN.{length, getD}
 use Rattle.charset.specs.Set.{bit}
 use Rattle.common.specs.Below.{bitOf}
-use Rattle.grammar.specs.Limits.{productionLimit}
+use Rattle.layout.specs.Limits.{productionLimit}
 use Rattle.tables.specs.Layout.{slot, takesProduction, arityIn, rowCount, productionOctet}
 use Rattle.chart.specs.Layout.{rowLimit, rowOf}
 use Rattle.span.specs.Tables.{userAt, useAt, userBytes, useBytes}

@@ -1,10 +1,10 @@
 // Turns the classes of the flat tables round: for each production, the rows that take it as their next argument (its users), and the productions that have
 // such a row (its uses). Eight productions go together: an octet of a class has a bit for each of them, and bit b of all octets is a row of users.
-use chart::layout::ROW_LIMIT;
+use chart::cells::ROW_LIMIT;
 use chart::sums::zero_row;
 use common::wide;
-use grammar::limits::ARGUMENT_LIMIT;
-use grammar::limits::PRODUCTION_LIMIT;
+use layout::limits::ARGUMENT_LIMIT;
+use layout::limits::PRODUCTION_LIMIT;
 use tables::OCTET_BITS;
 use tables::class_octet;
 ghost use mathlib.Core.Path.{_≡_};
@@ -14,7 +14,7 @@ ghost use Rattle.common.specs.Below.{bitOf};
 ghost use Rattle.common.specs.Region.{Region};
 ghost use Rattle.common.specs.Zeros.{AllZero};
 ghost use Rattle.charset.specs.Set.{bit};
-ghost use Rattle.grammar.specs.Limits.{productionLimit, argumentLimit};
+ghost use Rattle.layout.specs.Limits.{productionLimit, argumentLimit};
 ghost use Rattle.tables.specs.Layout.{slot, arityIn, octetBits, productionOctets, productionOctet, tableWords};
 ghost use Rattle.chart.specs.Layout.{rowLimit};
 ghost use Rattle.chart.specs.Rows.{RowsFilled};

@@ -15,10 +15,10 @@ use Rattle.flatten.specs.Flat.{flatGrammar, plainClass}
 use Rattle.flatten.specs.Reading.{Reading}
 use Rattle.grammar.proofs.VerdictLaws.{and-first, unless-answer}
 use Rattle.grammar.specs.Formed.{WellFormed}
-use Rattle.grammar.specs.Layout.{startSort}
 use Rattle.grammar.specs.Verdict.{andThen, inOrder}
 use Rattle.grammar.specs.declared.Verdict.{Verdict}
 use Rattle.grammar.specs.declared.Verdict.the-variants.{Accepted}
+use Rattle.layout.specs.Layout.{startSort}
 use Rattle.listing.proofs.BadListingLaws.{listing-accepted}
 use Rattle.listing.proofs.TreeLaws.{judge-right}
 use Rattle.listing.specs.Answer.{byteLimit, badListing, judged, listingAnswer}

@@ -11,10 +11,10 @@ use Rattle.charset.specs.Set.{characters}
 use Rattle.chart.specs.Layout.{textLimit}
 use Rattle.common.proofs.BoolLaws.{true-or-false}
 use Rattle.grammar.proofs.VerdictLaws.{and-first, and-second, FirstIn, here, there, order-first, unless-refused}
-use Rattle.grammar.specs.Layout.{startSort}
 use Rattle.grammar.specs.Verdict.{andThen, inOrder}
 use Rattle.grammar.specs.declared.Verdict.{Verdict}
 use Rattle.grammar.specs.declared.Verdict.the-variants.{Accepted, Refused as Rejected}
+use Rattle.layout.specs.Layout.{startSort}
 use Rattle.listing.specs.Answer.{byteLimit, badListing, judged, listingAnswer}
 use Rattle.listing.specs.Judge.{isRight, dueAfter, textAfter, judge}
 use Rattle.numbers.specs.Numbers.{numbersOf}

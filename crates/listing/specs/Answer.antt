@@ -5,9 +5,9 @@ use mathlib.Core.List.{List, [], _∷_}
 use lib.Dec.{ltb, eqb}
 use lib.ListN.{length}
 use Rattle.flatten.specs.Flat.{flatGrammar, plainClass}
-use Rattle.grammar.specs.Layout.{startSort}
 use Rattle.grammar.specs.Verdict.{refuseIf, inOrder, unlessRefused}
 use Rattle.grammar.specs.declared.Verdict.{Verdict}
+use Rattle.layout.specs.Layout.{startSort}
 use Rattle.listing.specs.Judge.{judge}
 use Rattle.numbers.specs.Numbers.{listingLimit, numbersOf}
 use Rattle.listing.specs.declared.ListingAnswer.{ListingAnswer}

@@ -4,7 +4,7 @@ use common::wide;
 use engine::check_text;
 use flatten::flatten;
 use grammar::Verdict;
-use grammar::limits::ARGUMENT_LIMIT;
+use layout::limits::ARGUMENT_LIMIT;
 use numbers::LISTING_LIMIT;
 use numbers::number_at;
 use priority::check_grammar;

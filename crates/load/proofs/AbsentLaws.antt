@@ -10,8 +10,8 @@ use Rattle.ccg.specs.Ccg.{Class, Line, noLine, noClass}
 use Rattle.ccg.specs.Tables.{tableClass, tableLine, tableGrammar}
 use Rattle.common.proofs.ListLaws.{length-tabulate, getD-tabulate}
 use Rattle.grammar.proofs.VerdictLaws.{refuse-case, first-of}
-use Rattle.grammar.specs.Limits.{productionLimit, argumentLimit}
 use Rattle.grammar.specs.declared.Verdict.the-variants.{Accepted, Refused}
+use Rattle.layout.specs.Limits.{productionLimit, argumentLimit}
 use Rattle.load.specs.Absent.{absentAt, absentIn, absentInArgument, absentInLine, absentInLineAt, absentNames}
 use Rattle.tables.specs.Layout.{slot, countsOf, arityIn, takesProduction}
 use Rattle.theory.specs.Tree.{productionNumber}

@@ -21,7 +21,7 @@ use Rattle.form.specs.Step.{allowed, endingLength, inNumber, state, stepAt, ste
 use Rattle.form.specs.declared.Spot.{Spot}
 use Rattle.form.specs.declared.Spot.the-variants.{Between, Opened, Slash, Number, Dash, Closed, Ending, Stuck}
 use Rattle.form.specs.declared.State.{State}
-use Rattle.grammar.specs.Limits.{productionLimit, argumentLimit}
+use Rattle.layout.specs.Limits.{productionLimit, argumentLimit}
 use Rattle.load.proofs.NoteLaws.{OneSort, has-range, has-other, table-zero}
 use Rattle.load.specs.Held.{numberBit, BitsAdded, RangeNoted, Noted, Notable, Has, Held}
 use Rattle.tables.proofs.LayoutLaws.{slot-in}

@@ -18,8 +18,8 @@ use Rattle.common.proofs.BoolLaws.{true-or-false}
 use Rattle.common.proofs.ListLaws.{tabulate-members}
 use Rattle.form.specs.Form.{Writable, Says}
 use Rattle.form.specs.Read.{Memory}
-use Rattle.grammar.specs.Limits.{productionLimit}
 use Rattle.grammar.specs.declared.Verdict.the-variants.{Accepted, Refused as Rejected}
+use Rattle.layout.specs.Limits.{productionLimit}
 use Rattle.load.specs.Absent.{absentNames}
 use Rattle.load.specs.Check.{linesAnswer, Loaded, Checked}
 use Rattle.load.specs.Held.{Held, LinesRead, Few}

@@ -9,9 +9,9 @@ use native.Mathlib.Omega.{arith}
 use lib.ListN.{length, getD}
 use Rattle.ccg.specs.Ccg.{Class, Line, noLine, noClass}
 use Rattle.grammar.proofs.VerdictLaws.{refuse-case, refuse-accepted, FirstOf, first-of, first-all, first-pass}
-use Rattle.grammar.specs.Limits.{productionLimit}
 use Rattle.grammar.specs.declared.Verdict.{Verdict}
 use Rattle.grammar.specs.declared.Verdict.the-variants.{Accepted, Refused}
+use Rattle.layout.specs.Limits.{productionLimit}
 use Rattle.load.proofs.AbsentLaws.{names-number}
 use Rattle.load.specs.Absent.{absentAt, absentIn, absentInArgument, absentInLine, absentInLineAt, absentNames, Names, FirstNamed}
 use Rattle.theory.specs.Tree.{productionNumber}

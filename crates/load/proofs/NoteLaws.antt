@@ -21,7 +21,7 @@ use Rattle.common.proofs.BoolLaws.{and-both, and-first-true, and-second-true, o
 use Rattle.form.specs.Read.{Room}
 use Rattle.form.specs.declared.Spot.{Spot}
 use Rattle.form.specs.declared.Spot.the-variants.{Number, Ending}
-use Rattle.grammar.specs.Limits.{productionLimit, argumentLimit}
+use Rattle.layout.specs.Limits.{productionLimit, argumentLimit}
 use Rattle.load.specs.Held.{numberBit, BitsAdded, Notable, Has}
 use Rattle.tables.proofs.MemberLaws.{char-bit, production-bit}
 use Rattle.tables.specs.Layout.{slots, slotAt, classBits, classBit}

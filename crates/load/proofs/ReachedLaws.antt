@@ -16,7 +16,7 @@ use Rattle.form.specs.Form.{NotInForm}
 use Rattle.form.specs.Read.{nothing, remember}
 use Rattle.form.specs.Step.{start, step, steps, goesOn, mayEnd}
 use Rattle.form.specs.declared.State.{State}
-use Rattle.grammar.specs.Limits.{productionLimit}
+use Rattle.layout.specs.Limits.{productionLimit}
 use Rattle.load.proofs.HeldLaws.{held-step, held-nothing}
 use Rattle.load.specs.Held.{Noted, Reached, endAnswer, LinesRead}
 use Rattle.load.specs.declared.FlatAnswer.the-variants.{Lines, Refused}

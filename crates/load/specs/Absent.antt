@@ -5,9 +5,9 @@ use mathlib.Core.Path.{_≡_}
 use mathlib.Core.List.{List}
 use lib.ListN.{length, getD}
 use Rattle.ccg.specs.Ccg.{Class, Line, noLine, noClass}
-use Rattle.grammar.specs.Limits.{productionLimit}
 use Rattle.grammar.specs.Verdict.{refuseIf, firstRefusal}
 use Rattle.grammar.specs.declared.Verdict.{Verdict}
+use Rattle.layout.specs.Limits.{productionLimit}
 use Rattle.theory.specs.Tree.{productionNumber}
 
 -- Of `count` lines, a class names one that is not there: the one with number k behind them.

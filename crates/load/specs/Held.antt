@@ -17,7 +17,7 @@ use Rattle.form.specs.Step.{start, steps, goesOn, mayEnd}
 use Rattle.form.specs.declared.Spot.{Spot}
 use Rattle.form.specs.declared.Spot.the-variants.{Between, Opened, Slash, Number, Dash, Closed, Ending, Stuck}
 use Rattle.form.specs.declared.State.{State}
-use Rattle.grammar.specs.Limits.{productionLimit, argumentLimit}
+use Rattle.layout.specs.Limits.{productionLimit, argumentLimit}
 use Rattle.load.specs.declared.FlatAnswer.{FlatAnswer}
 use Rattle.load.specs.declared.FlatAnswer.the-variants.{Lines, Refused}
 use Rattle.tables.specs.Layout.{slot, slots, classBits, classBit, tableWords}

@@ -18,10 +18,10 @@ use Rattle.engine.specs.Refusals.{tooLong}
 use Rattle.flatten.proofs.TestsLaws.{TestsAre, tests-parses}
 use Rattle.flatten.specs.Reading.{Reading}
 use Rattle.grammar.proofs.VerdictLaws.{and-first}
-use Rattle.grammar.specs.Layout.{productions}
 use Rattle.grammar.specs.Verdict.{inOrder}
 use Rattle.grammar.specs.declared.Verdict.{Verdict}
 use Rattle.grammar.specs.declared.Verdict.the-variants.{Accepted, Refused}
+use Rattle.layout.specs.Layout.{productions}
 use Rattle.marked.proofs.CaseTests.{same, allBytes, starts, grammarOf, derives, derivesAt, parses, Spans, chartOf, emptyTest, stepTest, parseSum, accepts, refuses, Given, tests, every, Shown, caseOf, caseTest, tableTest}
 use Rattle.marked.specs.Cases.{Expected, noReading, oneReading, severalReadings, badGrammar, refused, Says, Statement}
 use Rattle.parse.specs.Outcome.{tooShort, refusal}

@@ -6,12 +6,12 @@ use lib.Dec.{leb, ltb, eqb}
 use lib.ListN.{length, getD, replicate}
 use Rattle.flatten.specs.Flat.{mayStand}
 use Rattle.charset.specs.Set.{characters}
+use Rattle.classes.specs.Classes.{isClass, classHas}
 use Rattle.common.specs.Below.{allBelow, bitOf}
-use Rattle.grammar.specs.Classes.{isClass, classHas}
-use Rattle.grammar.specs.Layout.{productions, startSort, argumentCount, result, argument}
-use Rattle.grammar.specs.Limits.{classBase}
 use Rattle.grammar.specs.declared.Verdict.{Verdict}
 use Rattle.grammar.specs.declared.Verdict.the-variants.{Accepted, Refused}
+use Rattle.layout.specs.Layout.{productions, startSort, argumentCount, result, argument}
+use Rattle.layout.specs.Limits.{classBase}
 use Rattle.marked.specs.Cases.{Expected, noReading, oneReading, severalReadings, badGrammar, refused, Case}
 use Rattle.parse.specs.Outcome.{refusal}
 use Rattle.priority.specs.Check.{checked}

@@ -5,14 +5,14 @@ use mathlib.Core.List.{List, [], _∷_}
 use mathlib.Core.Path.{_≡_, refl}
 use Rattle.charset.specs.Set.{inRange, spans, sameSet}
 use Rattle.chart.specs.Layout.{spanCount}
+use Rattle.classes.specs.Classes.{isClass, classHas, sameClass, sameArgument}
 use Rattle.common.specs.Below.{sumBelow, allBelow, anyBelow}
 use Rattle.common.specs.Lists.{All, tabulate}
 use Rattle.engine.specs.Refusals.{tooLong, chartTooShort}
 use Rattle.flatten.specs.Flat.{mayStandIn}
-use Rattle.grammar.specs.Check.{shortHeader, headerBytes, badHeader, shortContents, badArgumentCount, badRangeCount, badLength, namesArgument, badArgument, badProduction, isGroup, declarationBytes, badDeclaration, sameArgument, sameProduction, repeatedProduction}
-use Rattle.grammar.specs.Classes.{isClass, classHas, sameClass}
-use Rattle.grammar.specs.Layout.{argumentCount, rangeCount, productionAt, result, argument, classAt, low, high, declarationAt, kind, first, second, neededLength}
+use Rattle.grammar.specs.Check.{shortHeader, headerBytes, badHeader, shortContents, badArgumentCount, badRangeCount, badLength, namesArgument, badArgument, badProduction, isGroup, declarationBytes, badDeclaration, sameProduction, repeatedProduction}
 use Rattle.grammar.specs.Verdict.{firstRefusal}
+use Rattle.layout.specs.Layout.{argumentCount, rangeCount, productionAt, result, argument, classAt, low, high, declarationAt, kind, first, second, neededLength}
 use Rattle.marked.proofs.CaseLaws.{table-true}
 use Rattle.marked.proofs.CaseTests.{same, allBytes, occurrences, grammarOf, derives, parses, Spans, chartOf, emptyTest, stepTest, parseSum, accepts, refuses, tests, every, Shown, caseTest, tableTest}
 use Rattle.marked.proofs.PromisedLaws.{all-promised}

@@ -13,10 +13,10 @@ use Rattle.flatten.specs.Answer.{flatAnswer}
 use Rattle.flatten.specs.Flat.{flatClass, flatLine, flatLineIn, flatGrammar, flatGrammarIn, plainClass}
 use Rattle.grammar.proofs.VerdictLaws.{and-second, order-first}
 use Rattle.grammar.specs.Formed.{WellFormed}
-use Rattle.grammar.specs.Layout.{productions, startSort, argumentCount}
 use Rattle.grammar.specs.Verdict.{andThen, inOrder, unlessRefused}
 use Rattle.grammar.specs.declared.Verdict.{Verdict}
 use Rattle.grammar.specs.declared.Verdict.the-variants.{Accepted, Refused as Rejected}
+use Rattle.layout.specs.Layout.{productions, startSort, argumentCount}
 use Rattle.listing.proofs.BadListingLaws.{listing-good}
 use Rattle.listing.proofs.RefusedLaws.{small-number}
 use Rattle.listing.specs.Answer.{byteLimit, badListing, judged, listingAnswer}

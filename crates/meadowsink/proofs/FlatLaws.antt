@@ -16,10 +16,10 @@ use Rattle.ccg.specs.Ccg.{Line}
 use Rattle.common.proofs.ListLaws.{length-tabulate, getD-tabulate}
 use Rattle.common.specs.Lists.{tabulate}
 use Rattle.engine.specs.declared.Answer.{Answer}
-use Rattle.grammar.specs.Limits.{productionLimit}
 use Rattle.grammar.specs.Verdict.{unlessRefused}
 use Rattle.grammar.specs.declared.Verdict.{Verdict}
 use Rattle.grammar.specs.declared.Verdict.the-variants.{Accepted, Refused as Rejected}
+use Rattle.layout.specs.Limits.{productionLimit}
 use Rattle.load.proofs.AbsentLaws.{names-number}
 use Rattle.load.proofs.CheckLaws.{checked-unique}
 use Rattle.load.specs.Absent.{absentNames}

@@ -4,7 +4,7 @@ use mathlib.Core.Path.{_≡_, sym, _∙_, ap, subst}
 use mathlib.Core.List.{List}
 use native.Mathlib.Omega.{arith}
 use Rattle.common.specs.Bytes.{byteValues}
-use Rattle.grammar.specs.Layout.{declarations}
+use Rattle.layout.specs.Layout.{declarations}
 use Rattle.meadowsink.proofs.FitLaws.{conflict-fits}
 use Rattle.question.specs.declared.ConflictAnswer.{ConflictAnswer}
 use Rattle.meadowsink.specs.Reason.{ReasonCall}

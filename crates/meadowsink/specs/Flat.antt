@@ -7,7 +7,7 @@ use lib.Dec.{eqb}
 use lib.ListN.{getD}
 use Rattle.archive.specs.Outcome.{FlatOutcome}
 use Rattle.common.specs.Lists.{tabulate}
-use Rattle.grammar.specs.Limits.{productionLimit}
+use Rattle.layout.specs.Limits.{productionLimit}
 use Rattle.load.specs.Check.{Checked}
 use Rattle.load.specs.declared.FlatAnswer.{FlatAnswer}
 use Rattle.meadowsink.specs.Viewer.{CallOutcome}

@@ -2,7 +2,7 @@
 use crate::read::used_part;
 use archive::parse_flat;
 use engine::Answer;
-use grammar::limits::PRODUCTION_LIMIT;
+use layout::limits::PRODUCTION_LIMIT;
 use reply::number;
 use reply::place;
 use reply::read::read_reply;

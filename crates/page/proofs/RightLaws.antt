@@ -7,9 +7,9 @@ use lib.ListN.{length, getD}
 use Rattle.charset.specs.Set.{characters}
 use Rattle.chart.specs.Layout.{textLimit}
 use Rattle.common.proofs.AllLaws.{all-at}
-use Rattle.grammar.proofs.FormedLaws.{bodies-in}
 use Rattle.grammar.specs.Formed.{WellFormed}
-use Rattle.grammar.specs.Layout.{startSort}
+use Rattle.layout.proofs.FramedLaws.{bodies-in}
+use Rattle.layout.specs.Layout.{startSort}
 use Rattle.listing.proofs.RefusedLaws.{right-exactly}
 use Rattle.listing.specs.Answer.{listingAnswer}
 use Rattle.listing.specs.declared.ListingAnswer.the-variants.{Right}

@@ -9,7 +9,7 @@ use Rattle.charset.specs.Set.{characters}
 use Rattle.common.specs.Lists.{overwritten}
 use Rattle.flatten.proofs.FlatLaws.{flat-numbered, flat-trees}
 use Rattle.flatten.specs.Flat.{flatGrammar, plainClass}
-use Rattle.grammar.specs.Layout.{startSort}
+use Rattle.layout.specs.Layout.{startSort}
 use Rattle.listing.specs.Answer.{listingAnswer}
 use Rattle.listing.specs.declared.ListingAnswer.{ListingAnswer}
 use Rattle.listing.specs.declared.ListingAnswer.the-variants.{Right, Wrong, Refused as NotChecked}

@@ -13,8 +13,8 @@ use Rattle.engine.specs.Refusals.{tooLong, chartTooShort, textRefusal}
 use Rattle.engine.specs.Roots.{parsingBy, TablesOutcome}
 use Rattle.engine.specs.declared.Answer.{Answer}
 use Rattle.grammar.specs.Formed.{WellFormed}
-use Rattle.grammar.specs.Layout.{productions, argumentCount}
 use Rattle.grammar.specs.Verdict.{inOrder}
+use Rattle.layout.specs.Layout.{productions, argumentCount}
 use Rattle.parse.specs.Outcome.{needed, readingBy, AcceptedOutcome}
 use Rattle.tables.specs.Layout.{countsOf, arityIn}
 

@@ -10,10 +10,10 @@ use Rattle.engine.specs.declared.Answer.{Answer}
 use Rattle.flatten.proofs.TurnedLaws.{turned-reading, turned-entry}
 use Rattle.grammar.proofs.SameFrontLaws.{same-productions, same-count}
 use Rattle.grammar.proofs.TurnedLaws.{turned-front}
-use Rattle.grammar.specs.Layout.{productions, argumentCount}
 use Rattle.grammar.specs.Turned.{TurnedRound}
 use Rattle.grammar.specs.Verdict.{inOrder}
 use Rattle.grammar.specs.declared.Verdict.{Verdict}
+use Rattle.layout.specs.Layout.{productions, argumentCount}
 use Rattle.parse.specs.Outcome.{needed, readingBy, refusal, Outcome}
 use Rattle.priority.proofs.TurnedLaws.{turned-checked}
 

@@ -11,7 +11,7 @@ use borrow.Rule.Slice.PartMut.{putMid, same-len-mid, take-put}
 use Rattle.chart.specs.Layout.{rowLimit}
 use Rattle.common.specs.Zeros.{AllZero}
 use Rattle.empty.specs.Empty.{EmptyRight}
-use Rattle.grammar.specs.Limits.{productionLimit}
+use Rattle.layout.specs.Limits.{productionLimit}
 use Rattle.links.proofs.LinkedLaws.{linked-links, linked-users}
 use Rattle.links.specs.Linked.{UsersTo, UsesTo}
 use Rattle.prepare.specs.Prepared.{usesAt, countsAt, emptyAt, backAt, preparedBytes, usersIn, usesIn, countsIn, emptyIn, backIn, Linked, Prepared}

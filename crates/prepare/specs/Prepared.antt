@@ -4,7 +4,7 @@ use mathlib.Core.Path.{_≡_}
 use mathlib.Core.List.{List}
 use lib.ListN.{length, take, drop}
 use Rattle.chart.specs.Layout.{rowLimit}
-use Rattle.grammar.specs.Limits.{productionLimit}
+use Rattle.layout.specs.Limits.{productionLimit}
 use Rattle.empty.specs.Empty.{EmptyRight}
 use Rattle.span.specs.Tables.{userBytes, useBytes, Links, UsersAre}
 use Rattle.tables.specs.Layout.{slot, countsOf, takesProduction}

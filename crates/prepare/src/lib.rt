@@ -1,9 +1,9 @@
 // What is prepared once for the flat tables and serves every text, as one array of bytes: which rows take a production (users), which productions have such a
 // row (uses), how many arguments each production has (counts), and the empty span, its cells and the arguments behind them.
-use chart::layout::ROW_LIMIT;
+use chart::cells::ROW_LIMIT;
 use chart::sums::zero_row;
 use empty::settle_empty;
-use grammar::limits::PRODUCTION_LIMIT;
+use layout::limits::PRODUCTION_LIMIT;
 use links::link_users;
 use links::link_uses;
 use tables::argument_counts;

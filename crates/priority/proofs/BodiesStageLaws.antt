@@ -9,13 +9,13 @@ use lib.Dec.{leb, ltb}
 use borrow.Author.Tests.{ltb-true, leb-true, leb-false, not-true, not-false}
 use Rattle.common.proofs.BoolLaws.{and-first-true, and-second-true, not-both}
 use Rattle.grammar.proofs.FormedLaws.{result-named, argument-named, kind-inside, first-there, second-there, group-rises}
-use Rattle.grammar.proofs.LayoutLaws.{production-before, production-within, class-after-productions, declaration-before, declaration-after-classes}
 use Rattle.grammar.proofs.VerdictLaws.{refuse-accepted, first-all, refuse-case, and-refused, and-first, and-second, FirstIn, here, there, order-first, first-of}
 use Rattle.grammar.specs.Check.{outside, namesArgument, badArgument, badArguments, badProduction, badProductions, isGroup, declarationLines, declarationBytes, badDeclaration, badDeclarations}
-use Rattle.grammar.specs.Layout.{sorts, productions, classes, declarations, argumentCount, productionAt, argumentAt, result, argument, classAt, declarationAt, kind, first, second}
-use Rattle.grammar.specs.Limits.{kindLimit}
 use Rattle.grammar.specs.Verdict.{refuseIf}
 use Rattle.grammar.specs.declared.Verdict.the-variants.{Refused, Accepted}
+use Rattle.layout.proofs.LayoutLaws.{production-before, production-within, class-after-productions, declaration-before, declaration-after-classes}
+use Rattle.layout.specs.Layout.{sorts, productions, classes, declarations, argumentCount, productionAt, argumentAt, result, argument, classAt, declarationAt, kind, first, second}
+use Rattle.layout.specs.Limits.{kindLimit}
 use Rattle.priority.proofs.StageLaws.{in-order, stage, Line, Given}
 use Rattle.priority.specs.Refusals.{NamesNothing, noResult, noArgument, BadDeclarationByte, badKind, badFirst, badSecond, badGroup, refusal5, refusal7}
 

@@ -7,10 +7,10 @@ use Rattle.grammar.proofs.FormedLaws.{well-formed}
 use Rattle.grammar.proofs.VerdictLaws.{refuse-accepted, and-first, and-second, first-all, order-append}
 use Rattle.grammar.specs.Check.{frameLines, frameCheck, bodiesLines, bodiesCheck}
 use Rattle.grammar.specs.Formed.{WellFormed}
-use Rattle.grammar.specs.Layout.{productions}
 use Rattle.grammar.specs.Verdict.{andThen}
 use Rattle.grammar.specs.declared.Verdict.{Verdict}
 use Rattle.grammar.specs.declared.Verdict.the-variants.{Refused, Accepted}
+use Rattle.layout.specs.Layout.{productions}
 use Rattle.priority.specs.Check.{circle, circles, checked}
 use Rattle.priority.specs.Priorities.{declarationsOf, isHigher}
 

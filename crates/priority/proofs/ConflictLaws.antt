@@ -10,7 +10,7 @@ use lib.Dec.{ltb, eqb}
 use borrow.Author.Tests.{lt-ltb, le-leb, lt-leb, eq-eqb, ne-eqb}
 use Rattle.common.proofs.BoolLaws.{or-cases, and-first-true, and-second-true}
 use Rattle.grammar.specs.Formed.{WellFormed}
-use Rattle.grammar.specs.Layout.{sorts, productions, argumentCount, result, argument}
+use Rattle.layout.specs.Layout.{sorts, productions, argumentCount, result, argument}
 use Rattle.priority.proofs.PriorityLaws.{higher-chain}
 use Rattle.priority.specs.Conflict.{isSort, fits, isFirst, isLast, rightOrNonassoc, leftOrNonassoc, Conflict, anywhere, atFirst, atLast, barred, conflictsIn, conflicts}
 use Rattle.priority.specs.Priorities.{declarationsOf, isHigher}

@@ -13,8 +13,8 @@ use Rattle.common.proofs.BoolLaws.{or-cases, and-first-true, and-second-true, s
 use Rattle.common.specs.Below.{between}
 use Rattle.grammar.specs.Check.{isGroup}
 use Rattle.grammar.specs.Formed.{WellFormed}
-use Rattle.grammar.specs.Layout.{productions, declarations, declarationAt, kind, first, second}
 use Rattle.grammar.specs.Verdict.{refuseIf}
+use Rattle.layout.specs.Layout.{productions, declarations, declarationAt, kind, first, second}
 use Rattle.priority.proofs.ChainLaws.{through-chain, chain-through}
 use Rattle.priority.proofs.CoverLaws.{declared-found}
 use Rattle.priority.specs.Chain.{link, more, entry}

@@ -7,15 +7,16 @@ use native.Mathlib.Omega.{arith}
 use Rattle.common.proofs.BelowLaws.{any-never, any-found}
 use Rattle.common.proofs.BoolLaws.{not-both}
 use Rattle.common.specs.Below.{anyBelow}
-use Rattle.grammar.proofs.FormedLaws.{bodies-in, inside, order-accepted, well-formed}
-use Rattle.grammar.proofs.LayoutLaws.{production-first, production-after, production-before, class-first}
+use Rattle.grammar.proofs.FormedLaws.{inside, order-accepted, well-formed}
 use Rattle.grammar.proofs.VerdictLaws.{refused-not-accepted, refuse-accepted, first-all, refuse-case, and-first, and-second, first-of}
 use Rattle.grammar.specs.Check.{outside, badArgumentCounts, badRangeCounts, namesArgument, badProductions, badDeclarations, sameProduction, repeatedProduction, frameLines, frameCheck, bodiesLines, bodiesCheck}
 use Rattle.grammar.specs.Formed.{WellFormed}
-use Rattle.grammar.specs.Layout.{sorts, productions, productionAt, argument, kind}
-use Rattle.grammar.specs.Limits.{sortLimit, productionLimit, kindLimit, headerLength}
 use Rattle.grammar.specs.declared.Verdict.{Verdict}
 use Rattle.grammar.specs.declared.Verdict.the-variants.{Refused, Accepted}
+use Rattle.layout.proofs.FramedLaws.{bodies-in}
+use Rattle.layout.proofs.LayoutLaws.{production-first, production-after, production-before, class-first}
+use Rattle.layout.specs.Layout.{sorts, productions, productionAt, argument, kind}
+use Rattle.layout.specs.Limits.{sortLimit, productionLimit, kindLimit, headerLength}
 use Rattle.priority.proofs.PriorityLaws.{higher-chain}
 use Rattle.priority.proofs.BodiesStageLaws.{names-in, declaration-in, classes-in, given5, none5}
 use Rattle.priority.proofs.StageLaws.{in-order, stage, checked-stages, Line, line, Given, given1, none1, given1′, none1′, given2, none2, given3, none3, given4, none4}

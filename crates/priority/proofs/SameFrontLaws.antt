@@ -5,7 +5,7 @@ use mathlib.Core.Bool.{_&&_}
 use mathlib.Core.List.{List}
 use lib.Dec.{leb, eqb}
 use Rattle.grammar.proofs.SameFrontLaws.{SameFront, same-sorts, same-productions, same-count, same-result, same-argument}
-use Rattle.grammar.specs.Layout.{productions, argumentCount}
+use Rattle.layout.specs.Layout.{productions, argumentCount}
 use Rattle.priority.specs.Conflict.{isSort, fits, isFirst, isLast, ConflictIn, anywhere, atFirst, atLast, barred, conflictsIn}
 use Rattle.priority.specs.declared.Declaration.{Declaration}
 

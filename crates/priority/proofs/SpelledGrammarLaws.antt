@@ -11,14 +11,15 @@ use lib.Seq.{length-take-le, getD-append-add, getD-at, getD-take, getD-drop, sli
 use Rattle.common.proofs.AllLaws.{all-at, all-tabulate, all-joined}
 use Rattle.common.proofs.ListLaws.{tabulate-members}
 use Rattle.common.specs.Lists.{tabulate, joined, All}
-use Rattle.grammar.proofs.FormedLaws.{declarations-in}
-use Rattle.grammar.proofs.LayoutLaws.{declaration-from, needed-is-end}
 use Rattle.grammar.proofs.SameFrontLaws.{SameFront, Declares, bytes-front, front-bodies, front-back, front-formed, same-productions, same-count, same-declaration-at}
 use Rattle.grammar.specs.Check.{isGroup}
-use Rattle.grammar.specs.Formed.{Framed, WellFormed}
-use Rattle.grammar.specs.Layout.{byteAt, productions, declarations, argumentCount, declarationAt, kind, first, second, neededLength}
-use Rattle.grammar.specs.Limits.{kindLimit, headerLength}
+use Rattle.grammar.specs.Formed.{WellFormed}
 use Rattle.grammar.specs.declared.Verdict.the-variants.{Accepted}
+use Rattle.layout.proofs.FramedLaws.{declarations-in}
+use Rattle.layout.proofs.LayoutLaws.{declaration-from, needed-is-end}
+use Rattle.layout.specs.Framed.{Framed}
+use Rattle.layout.specs.Layout.{byteAt, productions, declarations, argumentCount, declarationAt, kind, first, second, neededLength}
+use Rattle.layout.specs.Limits.{kindLimit, headerLength}
 use Rattle.priority.proofs.CheckLaws.{accepted-formed}
 use Rattle.priority.proofs.PriorityLaws.{kind-is, first-is, second-is}
 use Rattle.priority.proofs.RefusalLaws.{accepted-free, formed-accepted}

@@ -17,8 +17,8 @@ use Rattle.common.specs.Below.{between}
 use Rattle.common.specs.Lists.{tabulate, joined, All}
 use Rattle.grammar.proofs.VerdictLaws.{first-same}
 use Rattle.grammar.specs.Check.{isGroup}
-use Rattle.grammar.specs.Layout.{productions}
-use Rattle.grammar.specs.Limits.{kindLimit, pairKindLimit, groupStep}
+use Rattle.layout.specs.Layout.{productions}
+use Rattle.layout.specs.Limits.{kindLimit, pairKindLimit, groupStep}
 use Rattle.priority.proofs.ChainLaws.{chain-map}
 use Rattle.priority.proofs.CoverLaws.{declared-append, declared-one, declared-found, declared-made, declared-none}
 use Rattle.priority.specs.Chain.{through}

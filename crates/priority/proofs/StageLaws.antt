@@ -13,11 +13,11 @@ use Rattle.common.proofs.BoolLaws.{not-both}
 use Rattle.grammar.proofs.FormedLaws.{each-accepted}
 use Rattle.grammar.proofs.VerdictLaws.{refuse-accepted, and-assoc, first-all, refuse-case, and-refused, and-first, and-second, FirstIn, here, there, order-first, first-of}
 use Rattle.grammar.specs.Check.{outside, shortHeader, headerLines, headerBytes, badHeader, shortContents, badArgumentCount, badRangeCount, badArgumentCounts, badRangeCounts, badLength, badProductions, badDeclarations, repeatedProductions}
-use Rattle.grammar.specs.Layout.{byteAt, sorts, productions, classes, startSort, argumentCountAt, rangeCountAt, argumentCount, rangeCount, bodiesAt, productionAt, neededLength}
-use Rattle.grammar.specs.Limits.{sortLimit, productionLimit, classLimit, argumentLimit, rangeLimit, headerLength}
 use Rattle.grammar.specs.Verdict.{andThen, firstRefusal}
 use Rattle.grammar.specs.declared.Verdict.{Verdict}
 use Rattle.grammar.specs.declared.Verdict.the-variants.{Refused, Accepted}
+use Rattle.layout.specs.Layout.{byteAt, sorts, productions, classes, startSort, argumentCountAt, rangeCountAt, argumentCount, rangeCount, bodiesAt, productionAt, neededLength}
+use Rattle.layout.specs.Limits.{sortLimit, productionLimit, classLimit, argumentLimit, rangeLimit, headerLength}
 use Rattle.priority.specs.Check.{circles, checked}
 use Rattle.priority.specs.Refusals.{BadHeaderByte, badSorts, badProductionCount, badClassCount, badStart, badLast, LargeCount, manyArguments, manyRanges, NamesNothing, BadDeclarationByte, EqualsEarlier, OnCircle, Holds, refusal1, refusal1′, refusal2, refusal3, refusal4, refusal5, refusal7, refusal8, refusal9}
 

@@ -9,11 +9,11 @@ use Rattle.common.specs.Lists.{tabulate}
 use Rattle.grammar.proofs.SameFrontLaws.{front-back, same-productions, same-count}
 use Rattle.grammar.proofs.TurnedLaws.{turned-front, turned-declarations, turned-kind, turned-first, turned-second, turned-frame, turned-bodies}
 use Rattle.grammar.specs.Check.{shortHeader, badHeader, shortContents, badArgumentCounts, badRangeCounts, badLength, badProductions, badDeclarations, repeatedProductions}
-use Rattle.grammar.specs.Layout.{productions, declarations, argumentCount}
 use Rattle.grammar.specs.Turned.{TurnedRound}
 use Rattle.grammar.specs.Verdict.{firstRefusal, inOrder}
 use Rattle.grammar.specs.declared.Verdict.{Verdict}
 use Rattle.grammar.specs.declared.Verdict.the-variants.{Accepted}
+use Rattle.layout.specs.Layout.{productions, declarations, argumentCount}
 use Rattle.priority.proofs.CheckLaws.{checked-parts}
 use Rattle.priority.proofs.SameFrontLaws.{front-conflict, front-conflicts}
 use Rattle.priority.specs.Check.{circle, circles, checked}

@@ -3,9 +3,9 @@ use Prim.Native.Nat.{ℕ}
 use mathlib.Core.Bool.{Bool}
 use mathlib.Core.List.{List, [], _∷_}
 use Rattle.grammar.specs.Check.{shortHeader, badHeader, shortContents, badArgumentCounts, badRangeCounts, badLength, badProductions, badDeclarations, repeatedProductions}
-use Rattle.grammar.specs.Layout.{productions}
 use Rattle.grammar.specs.Verdict.{refuseIf, firstRefusal, inOrder}
 use Rattle.grammar.specs.declared.Verdict.{Verdict}
+use Rattle.layout.specs.Layout.{productions}
 use Rattle.priority.specs.Chain.{entry}
 use Rattle.priority.specs.Priorities.{isHigherIn, declarationsOf}
 use Rattle.priority.specs.declared.Declaration.{Declaration}

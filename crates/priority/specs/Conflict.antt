@@ -4,7 +4,7 @@ use mathlib.Core.Bool.{Bool, true, _&&_, _||_}
 use mathlib.Core.List.{List}
 use mathlib.Core.Path.{_≡_}
 use lib.Dec.{leb, ltb, eqb}
-use Rattle.grammar.specs.Layout.{sorts, productions, argumentCount, result, argument}
+use Rattle.layout.specs.Layout.{sorts, productions, argumentCount, result, argument}
 use Rattle.priority.specs.Priorities.{left, right, nonassoc, declaredIn, HigherIn, isHigherIn, declarationsOf}
 use Rattle.priority.specs.declared.Declaration.{Declaration}
 

@@ -7,8 +7,8 @@ use lib.Dec.{eqb}
 use Rattle.common.specs.Below.{between}
 use Rattle.common.specs.Lists.{tabulate}
 use Rattle.grammar.specs.Check.{isGroup}
-use Rattle.grammar.specs.Layout.{productions, declarations, kind, first, second}
-use Rattle.grammar.specs.Limits.{groupStep}
+use Rattle.layout.specs.Layout.{productions, declarations, kind, first, second}
+use Rattle.layout.specs.Limits.{groupStep}
 use Rattle.priority.specs.Chain.{Chain, through, entry}
 use Rattle.priority.specs.declared.Declaration.{Declaration}
 

@@ -5,8 +5,8 @@ use mathlib.Core.List.{List}
 use mathlib.Core.Path.{_≡_}
 use lib.ListN.{length}
 use Rattle.grammar.specs.Check.{outside, namesArgument, isGroup, sameProduction}
-use Rattle.grammar.specs.Layout.{byteAt, sorts, productions, classes, declarations, startSort, argumentCountAt, rangeCountAt, argumentCount, rangeCount, bodiesAt, productionAt, argumentAt, result, argument, declarationAt, kind, first, second, neededLength}
-use Rattle.grammar.specs.Limits.{sortLimit, productionLimit, classLimit, argumentLimit, rangeLimit, kindLimit, headerLength}
+use Rattle.layout.specs.Layout.{byteAt, sorts, productions, classes, declarations, startSort, argumentCountAt, rangeCountAt, argumentCount, rangeCount, bodiesAt, productionAt, argumentAt, result, argument, declarationAt, kind, first, second, neededLength}
+use Rattle.layout.specs.Limits.{sortLimit, productionLimit, classLimit, argumentLimit, rangeLimit, kindLimit, headerLength}
 use Rattle.priority.specs.Priorities.{Higher}
 
 -- Header byte k is outside its range.

@@ -7,7 +7,7 @@ use lib.ListN.{length, take}
 use lib.Seq.{slice}
 use Rattle.common.specs.Lists.{tabulate, joined}
 use Rattle.grammar.specs.Check.{isGroup}
-use Rattle.grammar.specs.Layout.{declarationAt}
+use Rattle.layout.specs.Layout.{declarationAt}
 use Rattle.priority.specs.Priorities.{saidKind, declarationsOf}
 use Rattle.priority.specs.declared.Declaration.{Declaration}
 

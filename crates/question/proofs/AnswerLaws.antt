@@ -9,8 +9,8 @@ use lib.Dec.{ltb}
 use borrow.Author.Tests.{ltb-true, lt-ltb}
 use Rattle.common.proofs.BoolLaws.{and-first-true, and-second-true, true-or-false, not-both}
 use Rattle.grammar.proofs.VerdictLaws.{same-number, same-place, unless-answer, unless-refused}
-use Rattle.grammar.specs.Layout.{productions, argumentCount}
 use Rattle.grammar.specs.declared.Verdict.the-variants.{Accepted, Refused as Rejected}
+use Rattle.layout.specs.Layout.{productions, argumentCount}
 use Rattle.priority.proofs.CheckLaws.{accepted-formed}
 use Rattle.priority.proofs.ConflictLaws.{conflict-test}
 use Rattle.priority.proofs.RefusalLaws.{seven-place}

@@ -1,10 +1,10 @@
 // The conflict question (01's clash question): may production q stand as argument i of production p?
 use grammar::Verdict;
-use grammar::layout::argument;
-use grammar::layout::argument_count;
-use grammar::layout::production_count;
-use grammar::layout::result;
-use grammar::limits::PRODUCTION_LIMIT;
+use layout::argument;
+use layout::argument_count;
+use layout::limits::PRODUCTION_LIMIT;
+use layout::production_count;
+use layout::result;
 use priority::LEFT;
 use priority::NONASSOC;
 use priority::RIGHT;
@@ -15,8 +15,8 @@ ghost use mathlib.Core.Path.{_≡_};
 ghost use mathlib.Core.Bool.{true, cond};
 ghost use mathlib.Core.Logic.{_↔_};
 ghost use Prim.Native.Nat.{ℕ, _<_};
-ghost use Rattle.grammar.specs.Limits.{productionLimit};
 ghost use Rattle.grammar.specs.Formed.{WellFormed};
+ghost use Rattle.layout.specs.Limits.{productionLimit};
 ghost use Rattle.priority.specs.Chain.{entry};
 ghost use Rattle.priority.specs.Priorities.{Higher, isHigher};
 ghost use Rattle.priority.specs.Conflict.{conflicts};

@@ -7,7 +7,7 @@ use native.Mathlib.Omega.{arith}
 use lib.Dec.{leb, eqb}
 use borrow.Author.Tests.{eqb-true, leb-true}
 use Rattle.common.proofs.BoolLaws.{and-first-true, and-second-true}
-use Rattle.grammar.specs.Layout.{argumentCount}
+use Rattle.layout.specs.Layout.{argumentCount}
 use Rattle.priority.specs.Conflict.{fits, isFirst, isLast, rightOrNonassoc, leftOrNonassoc, Conflict, anywhere, atFirst, atLast}
 use Rattle.priority.specs.Priorities.{declarationsOf, Higher}
 use Rattle.reason.specs.Reason.{lineOf, LowestLine}

@@ -10,7 +10,7 @@ use lib.Dec.{eqb}
 use Rattle.common.proofs.BoolLaws.{or-cases, or-first, or-second, not-both}
 use Rattle.common.specs.Below.{between}
 use Rattle.grammar.specs.Check.{isGroup}
-use Rattle.grammar.specs.Layout.{declarations}
+use Rattle.layout.specs.Layout.{declarations}
 use Rattle.priority.proofs.CoverLaws.{declared-found}
 use Rattle.priority.specs.Conflict.{rightOrNonassoc, leftOrNonassoc}
 use Rattle.priority.specs.Priorities.{Kind, left, right, nonassoc, kindNumber, saidKind, eitherWay, namesPair, covers, declarationOf, declarationsOf, declared}

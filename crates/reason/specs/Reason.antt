@@ -3,8 +3,8 @@ use Prim.Native.Nat.{ℕ, _≤_, _<_}
 use mathlib.Core.Path.{_≡_}
 use mathlib.Core.Bool.{Bool, false, true, _||_}
 use mathlib.Core.List.{List}
-use Rattle.grammar.specs.Layout.{declarations}
 use Rattle.grammar.specs.declared.Verdict.the-variants.{Accepted}
+use Rattle.layout.specs.Layout.{declarations}
 use Rattle.priority.specs.Check.{checked}
 use Rattle.priority.specs.Conflict.{Conflict, anywhere, atFirst, atLast}
 use Rattle.priority.specs.Priorities.{Kind, left, right, nonassoc, kindNumber, eitherWay, covers, declarationOf}

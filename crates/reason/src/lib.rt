@@ -2,7 +2,7 @@
 use common::both;
 use common::either;
 use grammar::check::is_group;
-use grammar::layout::declaration_at;
+use layout::declaration_at;
 use priority::Declaration;
 use priority::LEFT;
 use priority::NONASSOC;

@@ -2,17 +2,17 @@
 use Prim.Native.Nat.{ℕ, _+_, _*_, _≤_, _<_}
 use Rattle.common.specs.Bytes.{byteValues}
 use Rattle.writing.specs.declared.WriteAnswer.{WriteAnswer}
-use Rattle.writing.specs.declared.WriteAnswer.the-variants.{Written}
+use Rattle.writing.specs.declared.WriteAnswer.the-variants.{Written, Refused as NotWritten}
 use Rattle.engine.specs.declared.Answer.{Answer}
-use Rattle.engine.specs.declared.Answer.the-variants.{None, One, Several}
+use Rattle.engine.specs.declared.Answer.the-variants.{None, One, Several, Refused as NotRead}
 use Rattle.grammar.specs.declared.Verdict.{Verdict}
-use Rattle.grammar.specs.declared.Verdict.the-variants.{Accepted}
+use Rattle.grammar.specs.declared.Verdict.the-variants.{Accepted, Refused as Rejected}
 use Rattle.listing.specs.declared.ListingAnswer.{ListingAnswer}
 use Rattle.load.specs.declared.FlatAnswer.{FlatAnswer}
 use Rattle.load.specs.declared.FlatAnswer.the-variants.{Lines, Refused as NotLoaded}
-use Rattle.listing.specs.declared.ListingAnswer.the-variants.{Right, Wrong}
+use Rattle.listing.specs.declared.ListingAnswer.the-variants.{Right, Wrong, Refused as NotChecked}
 use Rattle.question.specs.declared.ConflictAnswer.{ConflictAnswer}
-use Rattle.question.specs.declared.ConflictAnswer.the-variants.{Yes, No}
+use Rattle.question.specs.declared.ConflictAnswer.the-variants.{Yes, No, Refused as NotAsked}
 use Rattle.reason.specs.declared.ReasonAnswer.{ReasonAnswer}
 use Rattle.reason.specs.declared.ReasonAnswer.the-variants.{Free, Higher, AtFirst, AtLast, Refused as NotReasoned}
 use Rattle.reply.specs.Reply.{answered, refused}
@@ -20,11 +20,6 @@ use Rattle.reply.specs.declared.Reply.{Reply}
 use Rattle.sheet.specs.Refusals.{sheetLimit}
 use Rattle.sheet.specs.declared.Step.{Step}
 use Rattle.sheet.specs.declared.Step.the-variants.{End, Line, Refused as NotTaken}
-use Rattle.grammar.specs.declared.Verdict.the-variants.{Refused as Rejected}
-use Rattle.engine.specs.declared.Answer.the-variants.{Refused as NotRead}
-use Rattle.writing.specs.declared.WriteAnswer.the-variants.{Refused as NotWritten}
-use Rattle.question.specs.declared.ConflictAnswer.the-variants.{Refused as NotAsked}
-use Rattle.listing.specs.declared.ListingAnswer.the-variants.{Refused as NotChecked}
 
 -- how many values a summary byte has
 abbrev pub summaryValues : ℕ

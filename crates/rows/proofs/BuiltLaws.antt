@@ -4,12 +4,12 @@ use mathlib.Core.List.{List}
 use native.Mathlib.Omega.{arith}
 use lib.ListN.{getD}
 use Rattle.charset.specs.Set.{characters}
+use Rattle.classes.proofs.ClassesLaws.{class-character}
 use Rattle.common.proofs.AllLaws.{all-append}
 use Rattle.common.specs.Lists.{All}
 use Rattle.flatten.specs.Trees.{Built, Arguments}
-use Rattle.grammar.proofs.ClassesLaws.{class-character}
-use Rattle.grammar.specs.Layout.{productions, argumentCount}
-use Rattle.grammar.specs.Limits.{classBase, productionLimit}
+use Rattle.layout.specs.Layout.{productions, argumentCount}
+use Rattle.layout.specs.Limits.{classBase, productionLimit}
 use Rattle.theory.specs.Tree.{Tree, leaf, node, Forest, none, _▷_, productionNumber, listing, listings}
 
 -- a character, or the number of a production

@@ -9,11 +9,11 @@ use native.Mathlib.Omega.{arith}
 use lib.ListN.{length, getD, set, drop, length-append, length-map, length-drop}
 use lib.Seq.{set-comm, drop-drop, getD-drop, drop-append-seam, sets}
 use Rattle.charset.specs.Set.{characters}
+use Rattle.classes.proofs.ClassesLaws.{class-character}
 use Rattle.common.proofs.OverwrittenLaws.{sets-append}
 use Rattle.flatten.specs.Trees.{Built, Arguments}
-use Rattle.grammar.proofs.ClassesLaws.{class-character}
-use Rattle.grammar.specs.Layout.{productions, argumentCount, argument}
-use Rattle.grammar.specs.Limits.{classBase}
+use Rattle.layout.specs.Layout.{productions, argumentCount, argument}
+use Rattle.layout.specs.Limits.{classBase}
 use Rattle.numbers.specs.Numbers.{listingLimit}
 use Rattle.rows.proofs.RowsLaws.{rows-below-length, yields-short}
 use Rattle.rows.specs.Rows.{rows, rowsBelow}

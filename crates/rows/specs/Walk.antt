@@ -5,7 +5,7 @@ use mathlib.Core.List.{List, _++_, map}
 use lib.ListN.{length, drop}
 use lib.Seq.{sets}
 use Rattle.flatten.specs.Trees.{Built}
-use Rattle.grammar.specs.Layout.{bodiesAt}
+use Rattle.layout.specs.Layout.{bodiesAt}
 use Rattle.numbers.specs.Numbers.{listingLimit}
 use Rattle.rows.specs.Rows.{rows}
 use Rattle.rows.specs.Table.{word}

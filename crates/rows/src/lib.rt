@@ -1,7 +1,7 @@
 // The rows of a listing that is right: for each number how deep it stands, and where its text starts and ends.
 use charset::CHARACTERS;
 use common::BYTE_VALUES;
-use grammar::layout::argument_count;
+use layout::argument_count;
 use numbers::number_at;
 use tables::FIRST_PRODUCTION;
 ghost use mathlib.Core.Path.{_≡_};

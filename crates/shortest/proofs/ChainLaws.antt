@@ -13,9 +13,9 @@ use Rattle.common.proofs.BelowLaws.{count-small, count-more, count-one}
 use Rattle.common.proofs.BoolLaws.{or-cases, and-first-true, and-second-true, true-or-false}
 use Rattle.common.specs.Below.{countBelow}
 use Rattle.grammar.specs.Check.{isGroup}
-use Rattle.grammar.specs.Layout.{productions, declarations, kind, first, second}
-use Rattle.grammar.specs.Limits.{kindLimit, pairKindLimit}
 use Rattle.grammar.specs.declared.Verdict.the-variants.{Accepted}
+use Rattle.layout.specs.Layout.{productions, declarations, kind, first, second}
+use Rattle.layout.specs.Limits.{kindLimit, pairKindLimit}
 use Rattle.priority.proofs.ChainLaws.{chain-append}
 use Rattle.priority.proofs.CoverLaws.{declared-found, declared-made}
 use Rattle.priority.proofs.DeclarationLaws.{accepted-declares}

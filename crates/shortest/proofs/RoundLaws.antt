@@ -12,8 +12,8 @@ use lib.Seq.{getD-set-same, getD-set-other}
 use borrow.Author.Tests.{eqb-true, eq-eqb}
 use Rattle.common.proofs.BoolLaws.{and-first-true, and-second-true, not-both}
 use Rattle.common.proofs.ListLaws.{getD-there}
-use Rattle.grammar.specs.Layout.{declarations, kind, first, second}
-use Rattle.grammar.specs.Limits.{productionLimit}
+use Rattle.layout.specs.Layout.{declarations, kind, first, second}
+use Rattle.layout.specs.Limits.{productionLimit}
 use Rattle.priority.specs.Priorities.{higher, kindNumber, declarationOf}
 use Rattle.priority.specs.declared.Declaration.{Declaration}
 use Rattle.shortest.specs.Chain.{SaysHigher}

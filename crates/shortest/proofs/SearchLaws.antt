@@ -10,8 +10,8 @@ use lib.ListN.{length, getD, set, replicate, length-set, length-replicate, getD-
 use lib.Seq.{getD-set-same, getD-set-other}
 use Rattle.common.proofs.ListLaws.{length-tabulate}
 use Rattle.common.specs.Lists.{tabulate}
-use Rattle.grammar.specs.Limits.{productionLimit}
 use Rattle.grammar.specs.declared.Verdict.the-variants.{Accepted}
+use Rattle.layout.specs.Limits.{productionLimit}
 use Rattle.priority.proofs.CheckLaws.{accepted-formed}
 use Rattle.priority.proofs.DeclarationLaws.{accepted-declares}
 use Rattle.priority.specs.Check.{checked}

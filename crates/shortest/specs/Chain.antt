@@ -3,7 +3,7 @@ use Prim.Native.Nat.{ℕ, _≤_, _<_}
 use mathlib.Core.Path.{_≡_}
 use mathlib.Core.List.{List, [], _∷_}
 use lib.ListN.{length}
-use Rattle.grammar.specs.Layout.{declarations, kind, first, second}
+use Rattle.layout.specs.Layout.{declarations, kind, first, second}
 use Rattle.priority.specs.Priorities.{higher, kindNumber}
 
 -- Declaration d, counted from 0, says that x is higher than y: it is of kind 1, x is its first production, and y its second.

@@ -5,8 +5,8 @@ use mathlib.Core.List.{List}
 use mathlib.Core.Logic.{_⊎_}
 use lib.ListN.{length, getD}
 use Rattle.common.specs.Lists.{tabulate}
-use Rattle.grammar.specs.Layout.{second}
-use Rattle.grammar.specs.Limits.{productionLimit}
+use Rattle.layout.specs.Layout.{second}
+use Rattle.layout.specs.Limits.{productionLimit}
 use Rattle.shortest.specs.Chain.{SaysHigher}
 
 -- the distance of a production from which no chain was found: more than any that was

@@ -1,18 +1,18 @@
 // A shortest chain of declarations by which a production is higher than another (02, [8]). The search goes breadth first, back from the lower one.
 use common::both;
 use common::wide;
-use grammar::layout::declaration_at;
-use grammar::layout::declaration_count;
-use grammar::limits::PRODUCTION_LIMIT;
+use layout::declaration_at;
+use layout::declaration_count;
+use layout::limits::PRODUCTION_LIMIT;
 use priority::HIGHER;
 use priority::read_declaration;
 ghost use mathlib.Core.Path.{_≡_};
 ghost use Prim.Native.Nat.{_+_, _<_};
 ghost use lib.ListN.{length};
 ghost use Rattle.grammar.specs.Formed.{WellFormed};
-ghost use Rattle.grammar.specs.Layout.{declarationAt};
-ghost use Rattle.grammar.specs.Limits.{productionLimit};
 ghost use Rattle.grammar.specs.declared.Verdict.the-variants.{Accepted};
+ghost use Rattle.layout.specs.Layout.{declarationAt};
+ghost use Rattle.layout.specs.Limits.{productionLimit};
 ghost use Rattle.priority.specs.Check.{checked};
 ghost use Rattle.priority.specs.Priorities.{Higher};
 ghost use Rattle.shortest.specs.Search.{far, RoundMore, way, Steps};

@@ -12,7 +12,7 @@ use Rattle.chart.proofs.LayoutLaws.{row-in, rows-few}
 use Rattle.chart.specs.Layout.{rowLimit, rowOf}
 use Rattle.tables.specs.Layout.{arityIn, rowCount}
 use Rattle.common.proofs.BelowLaws.{sum-bound}
-use Rattle.grammar.specs.Limits.{productionLimit}
+use Rattle.layout.specs.Limits.{productionLimit}
 use Rattle.span.proofs.AdvanceLaws.{advanced-within}
 use Rattle.span.proofs.VisitLaws.{visited-idle, visited-same, visited-rose}
 use Rattle.span.specs.Span.{whole, usedSum, argumentOf, stepOf}

@@ -7,7 +7,7 @@ use lib.ListN.{length, getD, set}
 use Rattle.chart.specs.Layout.{rowLimit, rowOf}
 use Rattle.tables.specs.Layout.{arityIn, rowCount}
 use Rattle.common.specs.Below.{bitOf}
-use Rattle.grammar.specs.Limits.{productionLimit, argumentLimit}
+use Rattle.layout.specs.Limits.{productionLimit, argumentLimit}
 use Rattle.span.specs.Span.{Span, argumentOf, ClosedAt, Raised, spare}
 use Rattle.theory.specs.Steps.{cap}
 

@@ -3,17 +3,17 @@
 // `cells` has the cell of each row; there are `rows` of them. `args` has for each row how many trees may stand there as the next argument, over the whole span;
 // `users` says which rows take production q as their next argument, `uses` which productions have such a row.
 // `inner` counts, for each row, the splits within the span; `front` the cells of the empty span at its start; `back` the arguments of the empty span at its end.
-use chart::layout::ROW_LIMIT;
+use chart::cells::ROW_LIMIT;
 use chart::sums::capped;
 use chart::sums::larger;
 use common::either;
 use common::wide;
-use grammar::limits::PRODUCTION_LIMIT;
+use layout::limits::PRODUCTION_LIMIT;
 ghost use mathlib.Core.Path.{_≡_};
 ghost use Prim.Native.Nat.{ℕ, _+_, _*_, _<_, _≤_, max};
 ghost use lib.ListN.{length, getD};
 ghost use Rattle.theory.specs.Steps.{cap};
-ghost use Rattle.grammar.specs.Limits.{productionLimit};
+ghost use Rattle.layout.specs.Limits.{productionLimit};
 ghost use Rattle.chart.specs.Layout.{rowLimit, rowOf};
 ghost use Rattle.tables.specs.Layout.{arityIn, rowCount};
 ghost use Rattle.span.specs.Tables.{spanOf, advanced, Exact, Founded, Links, Loads, Visited, Settled};

@@ -7,7 +7,7 @@ use lib.ListN.{length, getD, take, drop, length-drop}
 use lib.Seq.{length-take-le, getD-take, getD-drop, ext-getD}
 use Rattle.charset.proofs.BitLaws.{bit-part}
 use Rattle.charset.specs.Set.{bit, wordBits, setWords}
-use Rattle.grammar.specs.Limits.{productionLimit, argumentLimit}
+use Rattle.layout.specs.Limits.{productionLimit, argumentLimit}
 use Rattle.tables.specs.Layout.{slot, slots, countsAt, classWords, slotAt, tableWords, countOf, countsOf, arityIn, takesProduction, octetBits, productionOctet, ParserTables}
 
 -- ---- counts

@@ -11,7 +11,7 @@ use lib.Seq.{getD-set-same, getD-set-other, ext-getD}
 use Rattle.charset.specs.Set.{characters, bit, has, wordBits, setWords}
 use Rattle.common.proofs.BelowLaws.{sum-none, sum-more}
 use Rattle.common.specs.Region.{Region}
-use Rattle.grammar.specs.Limits.{productionLimit, argumentLimit}
+use Rattle.layout.specs.Limits.{productionLimit, argumentLimit}
 use Rattle.tables.proofs.LayoutLaws.{counts-long, count-at}
 use Rattle.tables.specs.Layout.{countsAt, rowsAt, classesAt, productionWords, classWords, slotAt, tableWords, countsOf, arityIn, rowCount, takesChar, takesProduction, ParserTables}
 use Rattle.tables.specs.Put.{CountsPut, ClassesKept, ClassPut}

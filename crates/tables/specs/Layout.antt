@@ -7,7 +7,7 @@ use mathlib.Core.List.{List}
 use lib.ListN.{length, getD, take, drop}
 use Rattle.charset.specs.Set.{bit, wordBits, setWords}
 use Rattle.common.specs.Below.{sumBelow}
-use Rattle.grammar.specs.Limits.{productionLimit, argumentLimit}
+use Rattle.layout.specs.Limits.{productionLimit, argumentLimit}
 
 -- ---- slots
 

@@ -6,7 +6,7 @@ use mathlib.Core.List.{List}
 use lib.Dec.{eqb}
 use lib.ListN.{length, getD}
 use Rattle.charset.specs.Set.{characters}
-use Rattle.grammar.specs.Limits.{productionLimit}
+use Rattle.layout.specs.Limits.{productionLimit}
 use Rattle.tables.specs.Layout.{slots, countsAt, rowsAt, classesAt, classBits, classBit, slotAt, classWords, tableWords, countOf, arityIn, rowCount, takesChar, takesProduction}
 
 -- The count of productions was written, the first n argument counts, and the rows that follow from these.

@@ -27,12 +27,12 @@ use Rattle.flatten.proofs.TableTextLaws.{flat-of-production}
 use Rattle.flatten.specs.Flat.{isProduction, flatClass, flatGrammar, plainClass}
 use Rattle.flatten.specs.Reading.{Reading, EntryList}
 use Rattle.form.specs.Form.{Writable, Says}
-use Rattle.grammar.proofs.ClassesLaws.{sort-no-class}
+use Rattle.grammar.proofs.ArgumentLaws.{sort-no-class}
 use Rattle.grammar.specs.Formed.{WellFormed}
-use Rattle.grammar.specs.Layout.{productions, startSort, argumentCount, result}
-use Rattle.grammar.specs.Limits.{productionLimit}
 use Rattle.grammar.specs.declared.Verdict.{Verdict}
 use Rattle.grammar.specs.declared.Verdict.the-variants.{Accepted}
+use Rattle.layout.specs.Layout.{productions, startSort, argumentCount, result}
+use Rattle.layout.specs.Limits.{productionLimit}
 use Rattle.load.proofs.NamesLaws.{names-accepted, class-accepted}
 use Rattle.load.specs.Absent.{absentIn, Names}
 use Rattle.parse.specs.Outcome.{needed, readingBy, refusal, Outcome}

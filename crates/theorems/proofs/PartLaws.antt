@@ -6,18 +6,18 @@ use mathlib.Core.List.{List, [], _∷_, _++_, append-assoc, append-cancel-left, 
 use mathlib.Core.Logic.{_⊎_, inl, inr, ⊎-elim, by-cases}
 use native.Mathlib.Omega.{arith}
 use native.Mathlib.Decide.{ℕ-discrete, decLt}
+use Rattle.classes.specs.Classes.{isClass}
 use Rattle.common.proofs.BoolLaws.{true-or-false, not-both}
 use Rattle.engine.specs.Outcome.{Answered}
 use Rattle.engine.specs.declared.Answer.the-variants.{Several}
 use Rattle.flatten.specs.Reading.{Reading}
 use Rattle.flatten.specs.Trees.{Built, Arguments}
-use Rattle.grammar.proofs.ClassesLaws.{sort-no-class}
+use Rattle.grammar.proofs.ArgumentLaws.{sort-no-class}
 use Rattle.grammar.proofs.EqualLaws.{equal-sym}
 use Rattle.grammar.specs.Check.{sameProduction}
-use Rattle.grammar.specs.Classes.{isClass}
 use Rattle.grammar.specs.Formed.{WellFormed}
-use Rattle.grammar.specs.Layout.{productions, startSort, argumentCount, result, argument}
 use Rattle.grammar.specs.declared.Verdict.the-variants.{Accepted}
+use Rattle.layout.specs.Layout.{productions, startSort, argumentCount, result, argument}
 use Rattle.parse.specs.Outcome.{Outcome}
 use Rattle.priority.proofs.CheckLaws.{accepted-formed}
 use Rattle.priority.specs.Check.{checked}

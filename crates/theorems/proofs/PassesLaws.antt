@@ -6,14 +6,14 @@ use mathlib.Core.Logic.{_↔_}
 use mathlib.Core.Path.{_≡_, sym, _∙_, ap}
 use native.Mathlib.Omega.{arith}
 use Rattle.charset.specs.Set.{characters}
+use Rattle.classes.proofs.ClassesLaws.{class-named, class-passes}
+use Rattle.classes.specs.Classes.{isClass, classHas, SomeRangeHas}
 use Rattle.flatten.proofs.FlatLaws.{flat-of-class}
 use Rattle.flatten.specs.Flat.{flatClass}
 use Rattle.flatten.specs.Tables.{FlatTables}
 use Rattle.flatten.specs.Trees.{Built}
-use Rattle.grammar.proofs.ClassesLaws.{class-named, class-passes}
-use Rattle.grammar.specs.Classes.{isClass, classHas, SomeRangeHas}
-use Rattle.grammar.specs.Layout.{classes, argument}
-use Rattle.grammar.specs.Limits.{classBase}
+use Rattle.layout.specs.Layout.{classes, argument}
+use Rattle.layout.specs.Limits.{classBase}
 use Rattle.tables.specs.Layout.{slot, takesChar}
 use Rattle.theorems.specs.Theorems.{IsArgument}
 use Rattle.theory.specs.Tree.{leaf}

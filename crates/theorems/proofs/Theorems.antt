@@ -30,12 +30,14 @@ use Rattle.ccg.proofs.WrittenLaws.{text-determines}
 use Rattle.flatten.proofs.FlatWrittenLaws.{flat-written}
 use Rattle.charset.proofs.SpansLaws.{spans-rising, spans-turned, spans-falling}
 use Rattle.charset.specs.Set.{characters, has, inRange}
+use Rattle.classes.proofs.ClassesLaws.{class-passes}
 use Rattle.common.proofs.BelowLaws.{between-in, between-ends}
 use Rattle.ccg.specs.Ccg.{Class, Line, Generated}
 use Rattle.flatten.specs.Flat.{flatClass, flatGrammar, plainClass}
 use Rattle.engine.proofs.AnswerLaws.{none-exactly, none-buffer, several-exactly, several-buffer, one-exactly, one-buffer, long-exactly, long-buffer, refused-is-long}
 use Rattle.numbers.specs.Written.{room}
-use Rattle.grammar.specs.Layout.{startSort}
+use Rattle.layout.specs.Layout.{startSort}
+use Rattle.layout.specs.Limits.{groupStep}
 use Rattle.theorems.proofs.PartLaws.{readings-part, several-part}
 use Rattle.theorems.proofs.TwinLaws.{refused-twins, still-refused, refused-now, judged-as-before}
 use Rattle.theorems.proofs.OneRightLaws.{one-right}
@@ -62,10 +64,8 @@ use Rattle.flatten.proofs.SpelledGrammarLaws.{spelled-flat, spelled-reading}
 use Rattle.flatten.proofs.TurnedLaws.{turned-flat, turned-flat-answer, turned-reading}
 use Rattle.grammar.proofs.FormedLaws.{pair-judged}
 use Rattle.grammar.proofs.RisenLaws.{risen-turned, risen-rises, risen-small}
-use Rattle.grammar.proofs.ClassesLaws.{class-passes}
 use Rattle.grammar.proofs.EqualLaws.{equal-exactly}
 use Rattle.grammar.proofs.TurnedLaws.{turned-back, rising-characters, rising-passed}
-use Rattle.grammar.specs.Limits.{groupStep}
 use Rattle.priority.specs.Priorities.{Kind, left, right, nonassoc, kindNumber, eitherWay, declarationOf, declarationsOf}
 use Rattle.priority.specs.declared.Declaration.{Declaration}
 use Rattle.priority.specs.Spelled.{spelledOut}

@@ -11,21 +11,21 @@ use lib.ListN.{getD}
 use borrow.Author.Tests.{eqb-true, eq-eqb, lt-ltb}
 use Rattle.charset.proofs.SameSetLaws.{same-when, same-set-sym}
 use Rattle.charset.specs.Set.{characters}
+use Rattle.classes.proofs.ClassesLaws.{class-there, class-character, no-class-below}
+use Rattle.classes.specs.Classes.{isClass, classHas, sameClass, sameArgument}
 use Rattle.common.proofs.BelowLaws.{any-same, any-found, any-never, all-here, all-same}
 use Rattle.common.proofs.BoolLaws.{or-second, and-first-true, and-second-true, true-or-false, not-both, same-test}
 use Rattle.common.specs.Below.{anyBelow}
 use Rattle.flatten.specs.Trees.{Built, Arguments, RootConflict, conflictAt, HasConflictIn}
-use Rattle.grammar.proofs.ClassesLaws.{class-there, class-character, no-class-below}
 use Rattle.grammar.proofs.EqualLaws.{argument-exactly, equal-exactly, equal-sym}
 use Rattle.grammar.proofs.VerdictLaws.{refuse-accepted, refuse-case, and-first, and-second, accepted-last, first-all, first-pass, first-same, first-of, order-append}
-use Rattle.grammar.specs.Check.{shortHeader, badHeader, shortContents, badArgumentCounts, badRangeCounts, badLength, badProductions, badDeclarations, sameArgument, sameProduction, repeatedProduction, repeatedProductions}
-use Rattle.grammar.specs.Classes.{isClass, classHas, sameClass}
+use Rattle.grammar.specs.Check.{shortHeader, badHeader, shortContents, badArgumentCounts, badRangeCounts, badLength, badProductions, badDeclarations, sameProduction, repeatedProduction, repeatedProductions}
 use Rattle.grammar.specs.Equal.{OneArgument}
-use Rattle.grammar.specs.Layout.{sorts, productions, classes, argumentCount, productionAt, result, argument}
-use Rattle.grammar.specs.Limits.{sortLimit, classBase}
 use Rattle.grammar.specs.Verdict.{refuseIf, andThen, inOrder}
 use Rattle.grammar.specs.declared.Verdict.{Verdict}
 use Rattle.grammar.specs.declared.Verdict.the-variants.{Accepted, Refused}
+use Rattle.layout.specs.Layout.{sorts, productions, classes, argumentCount, productionAt, result, argument}
+use Rattle.layout.specs.Limits.{sortLimit, classBase}
 use Rattle.priority.specs.Check.{circles, checked}
 use Rattle.priority.specs.Conflict.{Conflict}
 use Rattle.priority.specs.Priorities.{declarationsOf}

@@ -45,6 +45,7 @@ use Rattle.writing.specs.declared.WriteAnswer.the-variants.{Written, Refused as
 use Rattle.charset.specs.Set.{characters, has, spans}
 use Rattle.chart.specs.Counted.{entryOf}
 use Rattle.chart.specs.Layout.{textLimit, chartBytes}
+use Rattle.classes.specs.Classes.{classHas, SomeRangeHas, SetOf, sameClass}
 use Rattle.common.specs.Below.{allBelow, anyBelow}
 use Rattle.archive.specs.Outcome.{lineArity, treesOf, FlatOutcome, LowestRoot, AllThere}
 use Rattle.ccg.specs.Tables.{tableGrammar}
@@ -59,15 +60,14 @@ use Rattle.load.specs.declared.FlatAnswer.the-variants.{Lines, Refused as NotLo
 use Rattle.engine.specs.declared.Answer.{Answer}
 use Rattle.engine.specs.declared.Answer.the-variants.{None, One, Several, Refused as NotRead}
 use Rattle.numbers.specs.Written.{bytesOf}
-use Rattle.grammar.specs.Layout.{productions, classes, declarations, startSort, argumentCount, rangeCount, productionAt, result, argument, rangeAt, low, high, declarationAt, kind, first, second}
 use Rattle.grammar.specs.Check.{outside, shortHeader, badHeader, shortContents, badArgumentCounts, badRangeCounts, badLength, badProductions, isGroup, badDeclaration, badDeclarations, sameProduction, repeatedProductions}
-use Rattle.grammar.specs.Classes.{classHas, SomeRangeHas, SetOf, sameClass}
 use Rattle.grammar.specs.Equal.{OneProduction}
-use Rattle.grammar.specs.Limits.{productionLimit, classBase, pairKindLimit}
 use Rattle.grammar.specs.Turned.{TurnedRound, RangesRise, risen}
 use Rattle.grammar.specs.Verdict.{refuseIf, firstRefusal, inOrder}
 use Rattle.grammar.specs.declared.Verdict.{Verdict}
 use Rattle.grammar.specs.declared.Verdict.the-variants.{Accepted, Refused}
+use Rattle.layout.specs.Layout.{productions, classes, declarations, startSort, argumentCount, rangeCount, productionAt, result, argument, rangeAt, low, high, declarationAt, kind, first, second}
+use Rattle.layout.specs.Limits.{productionLimit, classBase, pairKindLimit}
 use Rattle.listing.specs.Answer.{byteLimit, listingAnswer}
 use Rattle.numbers.specs.Numbers.{numbersOf}
 use Rattle.listing.specs.declared.ListingAnswer.the-variants.{Right, Wrong, Refused as NotChecked}
@@ -599,8 +599,8 @@ pub record IsArgument (b : List ℕ) (p i k : ℕ) : Type 0 where
   pub named : k < classes b
   pub class : argument b p i ≡ classBase + k
 
--- A byte c passes class k of a grammar exactly if some range of it has c, either way round (`SomeRangeHas`, grammar/specs/Classes): by the definition that all others go by,
--- for every list of bytes; by the words that are made of the ranges (`SetOf`: what `grammar::classes::class_set` promises); and at an argument that is class k, by the tables
+-- A byte c passes class k of a grammar exactly if some range of it has c, either way round (`SomeRangeHas`, classes/specs/Classes): by the definition that all others go by,
+-- for every list of bytes; by the words that are made of the ranges (`SetOf`: what `classes::class_set` promises); and at an argument that is class k, by the tables
 -- that texts and listings are read by (`FlatTables`: what `flatten::flatten` promises), by the flat book, and by the grammar's trees.
 pub record PassesClass (b : List ℕ) (k c : ℕ) : Type 0 where
   pub class : (classHas b k c ≡ true) ↔ SomeRangeHas b k c

@@ -13,7 +13,7 @@ use Rattle.charset.proofs.RunLaws.{runs-same}
 use Rattle.charset.specs.Runs.{Range, runs}
 use Rattle.charset.specs.Set.{characters, has}
 use Rattle.common.specs.Lists.{joined}
-use Rattle.grammar.specs.Limits.{productionLimit}
+use Rattle.layout.specs.Limits.{productionLimit}
 use Rattle.tables.specs.Layout.{takesChar}
 use Rattle.theory.specs.Tree.{productionNumber}
 use Rattle.writing.proofs.PutLaws.{put-append, put-same}

@@ -10,7 +10,7 @@ use Rattle.ccg.specs.Tables.{tableClass, tableLine, tableGrammar}
 use Rattle.ccg.specs.Text.{lineText, grammarText}
 use Rattle.common.proofs.ListLaws.{length-tabulate}
 use Rattle.common.specs.Lists.{tabulate}
-use Rattle.grammar.specs.Limits.{productionLimit, argumentLimit}
+use Rattle.layout.specs.Limits.{productionLimit, argumentLimit}
 use Rattle.tables.proofs.LayoutLaws.{counts-long}
 use Rattle.tables.specs.Layout.{slot, countsOf, arityIn, ParserTables}
 use Rattle.writing.proofs.PutLaws.{put-none, put-append, put-long, put-same}

@@ -9,7 +9,7 @@ use Rattle.ccg.specs.Ccg.{Class}
 use Rattle.ccg.specs.Tables.{tableClass, tableLine}
 use Rattle.ccg.specs.Text.{argumentsText, resultText, lineText}
 use Rattle.common.specs.Lists.{tabulate}
-use Rattle.grammar.specs.Limits.{productionLimit}
+use Rattle.layout.specs.Limits.{productionLimit}
 use Rattle.tables.proofs.LayoutLaws.{counts-long}
 use Rattle.tables.specs.Layout.{slot, countsOf, arityIn, ParserTables}
 use Rattle.theory.specs.Tree.{productionNumber}

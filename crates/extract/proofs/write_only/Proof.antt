@@ -6,7 +6,7 @@ use native.Mathlib.Omega.{arith}
 use lib.ListN.{length}
 use borrow.Author.Needs.{needs}
 use Rattle.chart.specs.Layout.{places}
-use Rattle.grammar.specs.Limits.{productionLimit}
+use Rattle.layout.specs.Limits.{productionLimit}
 use Rattle.tables.proofs.LayoutLaws.{counts-few}
 use Rattle.extract.proofs.write_only.Statement.{statement}
 use Rattle.extract.proofs.write_only.Tie as tie

@@ -3,9 +3,9 @@ use Prim.Native.Nat.{_+_}
 use mathlib.Core.Path.{refl, sym, _∙_}
 use borrow.Author.Tests.{lt-ltb, le-leb, lt-leb}
 use borrow.Author.Needs.{needs}
-use Rattle.grammar.specs.Classes.{isClass}
-use Rattle.grammar.specs.Layout.{classes}
-use Rattle.grammar.specs.Limits.{classBase}
+use Rattle.classes.specs.Classes.{isClass}
+use Rattle.layout.specs.Layout.{classes}
+use Rattle.layout.specs.Limits.{classBase}
 use Rattle.flatten.proofs.argument_set.Statement.{statement}
 use Rattle.flatten.proofs.argument_set.Tie as tie
 

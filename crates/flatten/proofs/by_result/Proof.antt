@@ -6,11 +6,11 @@ use native.Mathlib.Omega.{arith}
 use lib.ListN.{getD}
 use Rattle.flatten.proofs.TableLaws.{results-none, results-more}
 use Rattle.flatten.specs.Tables.{ByResult}
-use Rattle.grammar.proofs.FormedLaws.{production-in, bodies-in}
-use Rattle.grammar.proofs.LayoutLaws.{production-first, production-next}
 use Rattle.grammar.specs.Formed.{WellFormed}
-use Rattle.grammar.specs.Layout.{productions, productionAt, result}
-use Rattle.grammar.specs.Limits.{sortLimit, productionLimit}
+use Rattle.layout.proofs.FramedLaws.{production-in, bodies-in}
+use Rattle.layout.proofs.LayoutLaws.{production-first, production-next}
+use Rattle.layout.specs.Layout.{productions, productionAt, result}
+use Rattle.layout.specs.Limits.{sortLimit, productionLimit}
 use Rattle.flatten.proofs.by_result.Statement.{statement}
 use Rattle.flatten.proofs.by_result.Tie as tie
 

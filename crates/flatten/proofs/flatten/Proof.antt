@@ -4,9 +4,9 @@ use mathlib.Core.Path.{_≡_, sym, _∙_, subst}
 use native.Mathlib.Omega.{arith}
 use Rattle.flatten.proofs.TableLaws.{barring-rows, barring-sets, written-all}
 use Rattle.flatten.specs.Tables.{WrittenBelow}
-use Rattle.grammar.proofs.FormedLaws.{production-in, bodies-in}
-use Rattle.grammar.proofs.LayoutLaws.{production-first, production-next}
-use Rattle.grammar.specs.Layout.{productions, productionAt}
+use Rattle.layout.proofs.FramedLaws.{production-in, bodies-in}
+use Rattle.layout.proofs.LayoutLaws.{production-first, production-next}
+use Rattle.layout.specs.Layout.{productions, productionAt}
 use Rattle.priority.specs.Priorities.{kindNumber}
 use Rattle.tables.specs.Layout.{slot}
 use Rattle.flatten.proofs.flatten.Statement.{statement}

@@ -7,7 +7,7 @@ use borrow.Author.Tests.{lt-ltb, le-ltb}
 use borrow.Author.Needs.{needs}
 use Rattle.flatten.specs.Tables.{resultHas}
 use Rattle.charset.specs.Set.{bit, wordBits}
-use Rattle.grammar.specs.Limits.{sortLimit}
+use Rattle.layout.specs.Limits.{sortLimit}
 use Rattle.tables.specs.Layout.{productionWords}
 use Rattle.flatten.proofs.with_result.Statement.{statement}
 use Rattle.flatten.proofs.with_result.Tie as tie

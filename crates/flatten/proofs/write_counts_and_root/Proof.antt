@@ -5,9 +5,9 @@ use native.Mathlib.Omega.{arith}
 use lib.ListN.{length, take, drop}
 use borrow.Author.Needs.{needs}
 use Rattle.flatten.proofs.TableLaws.{has-result, written-none}
-use Rattle.grammar.proofs.FormedLaws.{bodies-in}
-use Rattle.grammar.specs.Layout.{productions, startSort}
-use Rattle.grammar.specs.Limits.{headerLength}
+use Rattle.layout.proofs.FramedLaws.{bodies-in}
+use Rattle.layout.specs.Layout.{productions, startSort}
+use Rattle.layout.specs.Limits.{headerLength}
 use Rattle.tables.specs.Put.{CountsPut}
 use Rattle.flatten.proofs.write_counts_and_root.Statement.{statement}
 use Rattle.flatten.proofs.write_counts_and_root.Tie as tie

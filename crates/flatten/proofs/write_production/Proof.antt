@@ -5,13 +5,13 @@ use mathlib.Core.List.{List}
 use mathlib.Core.Path.{_≡_, sym, _∙_, ap, subst}
 use native.Mathlib.Omega.{arith}
 use lib.ListN.{getD}
+use Rattle.classes.specs.Classes.{isClass, classHas}
 use Rattle.flatten.proofs.TableLaws.{barred-set, stands-at-argument, written-more, written-next}
 use Rattle.flatten.specs.Tables.{WrittenBelow}
-use Rattle.grammar.proofs.ClassesLaws.{argument-below}
-use Rattle.grammar.proofs.FormedLaws.{production-in, bodies-in}
-use Rattle.grammar.specs.Classes.{isClass, classHas}
-use Rattle.grammar.specs.Layout.{argumentCount, productionAt, argument}
-use Rattle.grammar.specs.Limits.{classBase}
+use Rattle.grammar.proofs.ArgumentLaws.{argument-below}
+use Rattle.layout.proofs.FramedLaws.{production-in, bodies-in}
+use Rattle.layout.specs.Layout.{argumentCount, productionAt, argument}
+use Rattle.layout.specs.Limits.{classBase}
 use Rattle.tables.specs.Layout.{slot}
 use Rattle.flatten.proofs.write_production.Statement.{statement}
 use Rattle.flatten.proofs.write_production.Tie as tie

@@ -2,8 +2,7 @@
 use Prim.Native.Nat.{_+_}
 use mathlib.Core.Path.{sym, _∙_}
 use borrow.Author.Tests.{eq-eqb, ne-eqb}
-use Rattle.form.specs.Step.{endingByte, endingLength}
-use Rattle.form.specs.Step.{inEnding}
+use Rattle.form.specs.Step.{endingByte, endingLength, inEnding}
 use borrow.Author.Needs.{needs}
 use Rattle.form.proofs.in_ending.Statement.{statement}
 use Rattle.form.proofs.in_ending.Tie as tie

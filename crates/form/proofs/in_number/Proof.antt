@@ -3,8 +3,7 @@ use mathlib.Core.Bool.{false, true}
 use mathlib.Core.Path.{_≡_, refl, sym, _∙_}
 use borrow.Author.Tests.{eq-eqb, ne-eqb}
 use Rattle.writing.specs.Digits.{isDigit}
-use Rattle.form.specs.Step.{allowed}
-use Rattle.form.specs.Step.{inNumber}
+use Rattle.form.specs.Step.{allowed, inNumber}
 use borrow.Author.Needs.{needs}
 use Rattle.form.proofs.in_number.Statement.{statement}
 use Rattle.form.proofs.in_number.Tie as tie

@@ -1,8 +1,7 @@
 -- `step` meets its contract.
 use mathlib.Core.Path.{_∙_, ap}
 use Rattle.form.proofs.StepLaws.{small-number, small-ending}
-use Rattle.form.specs.Step.{state}
-use Rattle.form.specs.Step.{SmallSpot, stepAt}
+use Rattle.form.specs.Step.{state, SmallSpot, stepAt}
 use borrow.Author.Needs.{needs}
 use Rattle.form.proofs.step.Statement.{statement}
 use Rattle.form.proofs.step.Tie as tie

@@ -5,7 +5,7 @@ use native.Mathlib.Nat.{mul-le-mul-right}
 use native.Mathlib.Omega.{arith}
 use lib.ListN.{length}
 use Rattle.chart.specs.Layout.{rowLimit}
-use Rattle.grammar.specs.Limits.{productionLimit}
+use Rattle.layout.specs.Limits.{productionLimit}
 use Rattle.links.proofs.LinkedLaws.{users-none, users-more}
 use Rattle.links.specs.Linked.{UsersTo}
 use Rattle.tables.specs.Layout.{octetBits, productionOctets}

@@ -4,7 +4,7 @@ use mathlib.Core.Path.{_≡_, sym, _∙_, subst, subst⁻¹}
 use native.Mathlib.Nat.{mul-le-mul-right}
 use native.Mathlib.Omega.{arith}
 use lib.ListN.{length}
-use Rattle.grammar.specs.Limits.{productionLimit}
+use Rattle.layout.specs.Limits.{productionLimit}
 use Rattle.links.proofs.LinkedLaws.{uses-none, uses-more}
 use Rattle.links.specs.Linked.{UsesTo}
 use Rattle.tables.specs.Layout.{octetBits, productionOctets}

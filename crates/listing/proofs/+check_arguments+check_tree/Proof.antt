@@ -8,7 +8,7 @@ use borrow.Author.Needs.{needs}
 use borrow.Fn.Kinds.{In}
 use borrow.Fn.PlainCycle.{Measures, is, falls, and}
 use Rattle.charset.specs.Set.{characters}
-use Rattle.grammar.specs.Limits.{argumentLimit}
+use Rattle.layout.specs.Limits.{argumentLimit}
 use Rattle.tables.proofs.LayoutLaws.{counts-few}
 use Rattle.tables.specs.Layout.{slot, countsOf, arityIn}
 use Rattle.numbers.proofs.NumbersLaws.{numbers-length}

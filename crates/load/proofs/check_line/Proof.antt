@@ -8,7 +8,7 @@ use Rattle.ccg.specs.Tables.{tableClass, tableLine}
 use Rattle.grammar.proofs.VerdictLaws.{first-none, first-more, first-found, first-done}
 use Rattle.grammar.specs.Verdict.{firstRefusal}
 use Rattle.grammar.specs.declared.Verdict.the-variants.{Accepted}
-use Rattle.grammar.specs.Limits.{argumentLimit}
+use Rattle.layout.specs.Limits.{argumentLimit}
 use Rattle.load.proofs.AbsentLaws.{argument-slot, line-arguments}
 use Rattle.load.specs.Absent.{absentIn, absentInArgument, absentInLine}
 use Rattle.tables.proofs.LayoutLaws.{counts-few}

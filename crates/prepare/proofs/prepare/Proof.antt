@@ -4,7 +4,7 @@ use native.Mathlib.Omega.{arith}
 use lib.ListN.{length}
 use lib.Seq.{length-take-le}
 use borrow.Author.Needs.{needs}
-use Rattle.grammar.specs.Limits.{productionLimit}
+use Rattle.layout.specs.Limits.{productionLimit}
 use Rattle.tables.proofs.LayoutLaws.{counts-few, counts-copied}
 use Rattle.prepare.proofs.prepare.Statement.{statement}
 use Rattle.prepare.proofs.prepare.Tie as tie

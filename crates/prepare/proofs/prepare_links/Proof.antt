@@ -6,7 +6,7 @@ use native.Mathlib.Omega.{arith}
 use lib.ListN.{length, drop, length-drop, length-append}
 use lib.Seq.{length-take-le}
 use borrow.Author.Needs.{needs}
-use Rattle.grammar.specs.Limits.{productionLimit, argumentLimit}
+use Rattle.layout.specs.Limits.{productionLimit, argumentLimit}
 use Rattle.links.specs.Linked.{UsersTo, UsesTo}
 use Rattle.prepare.proofs.PreparedLaws.{front-zeros, linked}
 use Rattle.prepare.specs.Prepared.{usesAt, countsAt, preparedBytes}

@@ -5,8 +5,8 @@ use native.Mathlib.Omega.{arith}
 use borrow.Author.Needs.{needs}
 use Rattle.grammar.proofs.FormedLaws.{framed, well-formed}
 use Rattle.grammar.proofs.VerdictLaws.{first-same}
-use Rattle.grammar.specs.Layout.{productions}
 use Rattle.grammar.specs.Verdict.{firstRefusal}
+use Rattle.layout.specs.Layout.{productions}
 use Rattle.priority.proofs.CheckLaws.{checked-frame, checked-bodies, checked-circles}
 use Rattle.priority.proofs.PriorityLaws.{diagonal-circle}
 use Rattle.priority.specs.Check.{circle, onDiagonal}

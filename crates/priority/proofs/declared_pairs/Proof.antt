@@ -9,11 +9,11 @@ use lib.Dec.{eqb}
 use lib.ListN.{getD, set}
 use Rattle.common.specs.Below.{between}
 use Rattle.common.specs.Lists.{tabulate}
-use Rattle.grammar.proofs.FormedLaws.{bodies-in}
 use Rattle.grammar.specs.Check.{isGroup}
 use Rattle.grammar.specs.Formed.{WellFormed}
-use Rattle.grammar.specs.Layout.{declarations}
-use Rattle.grammar.specs.Limits.{productionLimit}
+use Rattle.layout.proofs.FramedLaws.{bodies-in}
+use Rattle.layout.specs.Layout.{declarations}
+use Rattle.layout.specs.Limits.{productionLimit}
 use Rattle.priority.proofs.CoverLaws.{declared-none, pairs-more}
 use Rattle.priority.proofs.TableLaws.{square-put}
 use Rattle.priority.specs.Chain.{entry, Square}

@@ -10,7 +10,7 @@ use lib.ListN.{length, getD, List·getD-eq-default}
 use borrow.Author.Needs.{needs}
 use Rattle.common.proofs.BelowLaws.{any-none, any-next, any-never}
 use Rattle.common.specs.Below.{anyBelow}
-use Rattle.grammar.specs.Limits.{productionLimit}
+use Rattle.layout.specs.Limits.{productionLimit}
 use Rattle.priority.proofs.leads_on.Statement.{statement}
 use Rattle.priority.proofs.leads_on.Tie as tie
 

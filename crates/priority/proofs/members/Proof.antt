@@ -9,7 +9,7 @@ use lib.ListN.{replicate, length-replicate}
 use Rattle.common.proofs.BelowLaws.{between-below, between-above, between-in}
 use Rattle.common.proofs.FillLaws.{Filled, filled-from, filled-more}
 use Rattle.common.specs.Below.{between}
-use Rattle.grammar.specs.Limits.{productionLimit}
+use Rattle.layout.specs.Limits.{productionLimit}
 use Rattle.priority.proofs.TableLaws.{getD-none}
 use Rattle.priority.proofs.members.Statement.{statement}
 use Rattle.priority.proofs.members.Tie as tie

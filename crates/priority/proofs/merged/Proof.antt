@@ -9,7 +9,7 @@ use native.Mathlib.Decide.{decLt}
 use lib.ListN.{length, getD, List·getD-eq-default}
 use borrow.Author.Needs.{needs}
 use Rattle.common.proofs.FillLaws.{Filled, filled-none, filled-more}
-use Rattle.grammar.specs.Limits.{productionLimit}
+use Rattle.layout.specs.Limits.{productionLimit}
 use Rattle.priority.proofs.merged.Statement.{statement}
 use Rattle.priority.proofs.merged.Tie as tie
 

@@ -1,5 +1,5 @@
 -- `no_pairs` meets its contract.
-use Rattle.grammar.specs.Limits.{productionLimit}
+use Rattle.layout.specs.Limits.{productionLimit}
 use Rattle.priority.proofs.TableLaws.{entry-none, square-none}
 use Rattle.priority.proofs.no_pairs.Statement.{statement}
 use Rattle.priority.proofs.no_pairs.Tie as tie

@@ -4,11 +4,11 @@ use mathlib.Core.List.{List}
 use mathlib.Core.Path.{_≡_, refl, sym, _∙_, ap}
 use native.Mathlib.Omega.{arith}
 use lib.ListN.{length}
-use Rattle.grammar.proofs.FormedLaws.{declaration-in}
-use Rattle.grammar.proofs.LayoutLaws.{declaration-from}
 use Rattle.grammar.specs.Formed.{WellFormed}
-use Rattle.grammar.specs.Layout.{declarations, declarationAt}
-use Rattle.grammar.specs.Limits.{declarationLength}
+use Rattle.layout.proofs.FramedLaws.{declaration-in}
+use Rattle.layout.proofs.LayoutLaws.{declaration-from}
+use Rattle.layout.specs.Layout.{declarations, declarationAt}
+use Rattle.layout.specs.Limits.{declarationLength}
 use Rattle.priority.proofs.PriorityLaws.{kind-is, first-is, second-is}
 use Rattle.priority.specs.Priorities.{declarationOf}
 use Rattle.priority.proofs.read_declaration.Statement.{statement}

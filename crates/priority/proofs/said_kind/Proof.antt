@@ -5,7 +5,7 @@ use lib.Dec.{leb, ltb}
 use borrow.Author.Tests.{ltb-true}
 use Rattle.common.proofs.BoolLaws.{and-first-true}
 use Rattle.grammar.specs.Check.{isGroup}
-use Rattle.grammar.specs.Limits.{kindLimit, pairKindLimit}
+use Rattle.layout.specs.Limits.{kindLimit, pairKindLimit}
 use Rattle.priority.specs.Priorities.{saidKind}
 use Rattle.priority.proofs.said_kind.Statement.{statement}
 use Rattle.priority.proofs.said_kind.Tie as tie

@@ -11,7 +11,7 @@ use borrow.Author.Needs.{needs}
 use Rattle.common.proofs.BelowLaws.{between-below, between-above, between-in}
 use Rattle.common.proofs.FillLaws.{Filled, filled-from, filled-more}
 use Rattle.common.specs.Below.{between}
-use Rattle.grammar.specs.Limits.{productionLimit}
+use Rattle.layout.specs.Limits.{productionLimit}
 use Rattle.priority.specs.Chain.{entry, Square}
 use Rattle.priority.proofs.with_group.Statement.{statement}
 use Rattle.priority.proofs.with_group.Tie as tie

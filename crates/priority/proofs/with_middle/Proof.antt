@@ -9,7 +9,7 @@ use native.Mathlib.Decide.{decLt}
 use lib.ListN.{length, getD}
 use borrow.Author.Needs.{needs}
 use Rattle.common.proofs.FillLaws.{Filled, filled-none, filled-more, filled-kept}
-use Rattle.grammar.specs.Limits.{productionLimit}
+use Rattle.layout.specs.Limits.{productionLimit}
 use Rattle.priority.proofs.TableLaws.{entry-out}
 use Rattle.priority.specs.Chain.{entry}
 use Rattle.priority.proofs.with_middle.Statement.{statement}

@@ -5,8 +5,8 @@ use native.Mathlib.Omega.{arith}
 use lib.Dec.{ltb}
 use borrow.Author.Tests.{lt-ltb, le-ltb}
 use borrow.Author.Needs.{needs}
-use Rattle.grammar.proofs.FormedLaws.{bodies-in}
-use Rattle.grammar.specs.Layout.{productions, argumentCount}
+use Rattle.layout.proofs.FramedLaws.{bodies-in}
+use Rattle.layout.specs.Layout.{productions, argumentCount}
 use Rattle.question.specs.Answer.{isThere}
 use Rattle.question.proofs.answer.Statement.{statement}
 use Rattle.question.proofs.answer.Tie as tie

@@ -39,7 +39,7 @@ use borrow.Fn.Frame.{EnvOf}
 use borrow.Fn.Plain.{t-fn-plain}
 use borrow.Fn.Run.{Over}
 use borrow.Fn.Written as written
-use Rattle.grammar.specs.Limits.{productionLimit}
+use Rattle.layout.specs.Limits.{productionLimit}
 use Rattle.question.proofs.Asked as asked
 use Rattle.question.proofs.Asked.Laws as asked′
 use Rattle.question.proofs.give_back.Code as code

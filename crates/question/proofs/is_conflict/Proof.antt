@@ -6,9 +6,9 @@ use mathlib.Core.List.{List}
 use native.Mathlib.Omega.{arith}
 use borrow.Author.Tests.{eq-eqb, ne-eqb}
 use borrow.Author.Needs.{needs}
-use Rattle.grammar.proofs.FormedLaws.{bodies-in}
 use Rattle.grammar.specs.Formed.{WellFormed}
-use Rattle.grammar.specs.Layout.{productions, result, argument}
+use Rattle.layout.proofs.FramedLaws.{bodies-in}
+use Rattle.layout.specs.Layout.{productions, result, argument}
 use Rattle.priority.proofs.ConflictLaws.{fits-result, not-fitting, fitting, barred-higher, barred-single, barred-first, barred-last, barred-middle}
 use Rattle.priority.specs.Conflict.{rightOrNonassoc, leftOrNonassoc, barred, conflicts}
 use Rattle.priority.specs.Priorities.{left, right, nonassoc, kindNumber, declarationsOf}

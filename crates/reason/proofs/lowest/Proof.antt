@@ -7,8 +7,8 @@ use native.Mathlib.Omega.{arith}
 use native.Mathlib.Decide.{ℕ-discrete}
 use borrow.Author.Needs.{needs}
 use borrow.Author.Tests.{not-true, not-false}
-use Rattle.grammar.proofs.FormedLaws.{bodies-in}
-use Rattle.grammar.specs.Layout.{declarations}
+use Rattle.layout.proofs.FramedLaws.{bodies-in}
+use Rattle.layout.specs.Layout.{declarations}
 use Rattle.priority.specs.Priorities.{Kind, nonassoc, covers, declarationOf}
 use Rattle.priority.specs.declared.Declaration.{Declaration}
 use Rattle.reason.proofs.SideLaws.{covered-further}

@@ -5,8 +5,8 @@ use native.Mathlib.Omega.{arith}
 use lib.ListN.{length}
 use borrow.Fn.Kinds.{In}
 use borrow.Fn.PlainCycle.{Measures, is, falls, and}
-use Rattle.grammar.proofs.layout.argument_count.Reads as argument-count-reads
-use Rattle.grammar.specs.Layout.{argumentCount}
+use Rattle.layout.proofs.argument_count.Reads as argument-count-reads
+use Rattle.layout.specs.Layout.{argumentCount}
 use Rattle.numbers.proofs.number_at.Reads as number-at-reads
 use Rattle.numbers.specs.Numbers.{numbersOf}
 use Rattle.rows.proofs.+place_tree.{statement}

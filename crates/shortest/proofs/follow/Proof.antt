@@ -12,8 +12,8 @@ use borrow.Author.Tests.{ltb-true, lt-ltb}
 use Rattle.common.proofs.BoolLaws.{and-both, and-first-true, and-second-true, not-both}
 use Rattle.common.proofs.FillLaws.{Filled, filled-none, filled-more}
 use Rattle.common.proofs.ListLaws.{length-tabulate, getD-tabulate}
-use Rattle.grammar.specs.Limits.{productionLimit}
-use Rattle.grammar.specs.Layout.{second}
+use Rattle.layout.specs.Limits.{productionLimit}
+use Rattle.layout.specs.Layout.{second}
 use Rattle.priority.specs.Priorities.{declarationOf}
 use Rattle.priority.specs.declared.Declaration.{Declaration}
 use Rattle.shortest.proofs.WrittenLaws.{Entry, chain-written}

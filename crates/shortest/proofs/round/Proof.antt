@@ -6,8 +6,8 @@ use mathlib.Core.Logic.{⊎-elim}
 use native.Mathlib.Omega.{arith}
 use lib.ListN.{length, length-set}
 use borrow.Author.Needs.{needs}
-use Rattle.grammar.specs.Layout.{declarations, first, second}
-use Rattle.grammar.specs.Limits.{productionLimit}
+use Rattle.layout.specs.Layout.{declarations, first, second}
+use Rattle.layout.specs.Limits.{productionLimit}
 use Rattle.priority.specs.Priorities.{kindNumber, declarationOf}
 use Rattle.shortest.proofs.RoundLaws.{Midway, leadsBack, test-made, test-new, test-old, round-begins, round-passes, round-finds, round-ends}
 use Rattle.shortest.specs.Search.{Rounds}

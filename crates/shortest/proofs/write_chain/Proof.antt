@@ -7,9 +7,9 @@ use native.Mathlib.Omega.{arith}
 use lib.ListN.{length, getD}
 use borrow.Author.Needs.{needs}
 use Rattle.common.proofs.ListLaws.{getD-there}
-use Rattle.grammar.proofs.FormedLaws.{bodies-in}
-use Rattle.grammar.specs.Limits.{productionLimit}
 use Rattle.grammar.specs.declared.Verdict.the-variants.{Accepted}
+use Rattle.layout.proofs.FramedLaws.{bodies-in}
+use Rattle.layout.specs.Limits.{productionLimit}
 use Rattle.priority.proofs.CheckLaws.{accepted-formed}
 use Rattle.priority.proofs.PriorityLaws.{higher-there}
 use Rattle.priority.specs.Check.{checked}

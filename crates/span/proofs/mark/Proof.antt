@@ -6,7 +6,7 @@ use native.Mathlib.Omega.{arith}
 use native.Mathlib.Nat.{le-refl}
 use lib.ListN.{getD}
 use Rattle.common.proofs.FillLaws.{Filled, filled-none, filled-more}
-use Rattle.grammar.specs.Limits.{productionLimit}
+use Rattle.layout.specs.Limits.{productionLimit}
 use Rattle.span.proofs.mark.Statement.{statement}
 use Rattle.span.proofs.mark.Tie as tie
 

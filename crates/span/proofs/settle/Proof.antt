@@ -3,7 +3,7 @@ use Prim.Native.Nat.{ℕ, _+_, _*_}
 use mathlib.Core.Path.{_≡_, refl, sym, _∙_}
 use lib.ListN.{length}
 use Rattle.common.specs.Below.{bitOf}
-use Rattle.grammar.specs.Limits.{productionLimit}
+use Rattle.layout.specs.Limits.{productionLimit}
 use Rattle.span.proofs.RoundLaws.{loads-kept, founded-kept, Settling, settling-first, settling-next, settling-last, settling-less}
 use Rattle.span.specs.Span.{spare}
 use Rattle.span.specs.Tables.{spanOf, Exact}

@@ -4,12 +4,12 @@ use mathlib.Core.Path.{_≡_, refl, sym, _∙_, ap}
 use native.Mathlib.Omega.{arith}
 use lib.ListN.{getD}
 use borrow.Author.Tests.{not-true, not-false}
-use Rattle.grammar.proofs.FormedLaws.{production-in, bodies-in}
 use Rattle.grammar.proofs.VerdictLaws.{first-none, first-more, first-found, first-done}
 use Rattle.grammar.specs.Check.{namesArgument, badArgument}
-use Rattle.grammar.specs.Layout.{productionAt, argument}
 use Rattle.grammar.specs.Verdict.{firstRefusal}
 use Rattle.grammar.specs.declared.Verdict.the-variants.{Accepted}
+use Rattle.layout.proofs.FramedLaws.{production-in, bodies-in}
+use Rattle.layout.specs.Layout.{productionAt, argument}
 use Rattle.grammar.proofs.check.check_arguments.Statement.{statement}
 use Rattle.grammar.proofs.check.check_arguments.Tie as tie
 

@@ -3,10 +3,10 @@ use Prim.Native.Nat.{ℕ, _<_}
 use native.Mathlib.Omega.{arith}
 use borrow.Author.Needs.{needs}
 use Rattle.charset.specs.Set.{characters}
-use Rattle.grammar.proofs.FormedLaws.{declaration-in}
-use Rattle.grammar.proofs.LayoutLaws.{declaration-small}
 use Rattle.grammar.specs.Check.{badDeclaration}
-use Rattle.grammar.specs.Layout.{byteAt, kind, first, second}
+use Rattle.layout.proofs.FramedLaws.{declaration-in}
+use Rattle.layout.proofs.LayoutLaws.{declaration-small}
+use Rattle.layout.specs.Layout.{byteAt, kind, first, second}
 use Rattle.grammar.proofs.check.check_declaration.Statement.{statement}
 use Rattle.grammar.proofs.check.check_declaration.Tie as tie
 

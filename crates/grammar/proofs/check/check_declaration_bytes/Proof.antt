@@ -7,7 +7,7 @@ use borrow.Author.Needs.{needs}
 use borrow.Author.Tests.{le-ltb, lt-leb}
 use Rattle.grammar.proofs.VerdictLaws.{cases}
 use Rattle.grammar.specs.Check.{isGroup, declarationBytes}
-use Rattle.grammar.specs.Limits.{kindLimit}
+use Rattle.layout.specs.Limits.{kindLimit}
 use Rattle.grammar.proofs.check.check_declaration_bytes.Statement.{statement}
 use Rattle.grammar.proofs.check.check_declaration_bytes.Tie as tie
 

@@ -3,13 +3,13 @@ use Prim.Native.Nat.{_-_, _≤_}
 use mathlib.Core.Path.{_≡_, sym, _∙_}
 use native.Mathlib.Omega.{arith}
 use borrow.Author.Needs.{needs}
-use Rattle.grammar.proofs.FormedLaws.{declaration-in, bodies-in}
-use Rattle.grammar.proofs.LayoutLaws.{declaration-next}
 use Rattle.grammar.proofs.VerdictLaws.{first-none, first-more, first-found, first-done}
 use Rattle.grammar.specs.Check.{badDeclaration}
-use Rattle.grammar.specs.Layout.{declarationAt}
 use Rattle.grammar.specs.Verdict.{firstRefusal}
 use Rattle.grammar.specs.declared.Verdict.the-variants.{Accepted}
+use Rattle.layout.proofs.FramedLaws.{declaration-in, bodies-in}
+use Rattle.layout.proofs.LayoutLaws.{declaration-next}
+use Rattle.layout.specs.Layout.{declarationAt}
 use Rattle.grammar.proofs.check.check_declarations.Statement.{statement}
 use Rattle.grammar.proofs.check.check_declarations.Tie as tie
 

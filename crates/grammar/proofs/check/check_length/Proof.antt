@@ -5,9 +5,9 @@ use native.Mathlib.Omega.{arith}
 use lib.ListN.{length}
 use borrow.Author.Tests.{eq-eqb, ne-eqb}
 use borrow.Author.Needs.{needs}
-use Rattle.grammar.proofs.LayoutLaws.{needed-is-end}
 use Rattle.grammar.specs.Check.{badLength}
-use Rattle.grammar.specs.Layout.{declarations, declarationAt, neededLength}
+use Rattle.layout.proofs.LayoutLaws.{needed-is-end}
+use Rattle.layout.specs.Layout.{declarations, declarationAt, neededLength}
 use Rattle.grammar.proofs.check.check_length.Statement.{statement}
 use Rattle.grammar.proofs.check.check_length.Tie as tie
 

@@ -3,9 +3,9 @@ use mathlib.Core.Path.{refl}
 use native.Mathlib.Omega.{arith}
 use borrow.Author.Tests.{le-leb, lt-leb}
 use borrow.Author.Needs.{needs}
-use Rattle.grammar.proofs.FormedLaws.{production-in}
 use Rattle.grammar.specs.Check.{badProduction}
-use Rattle.grammar.specs.Layout.{result}
+use Rattle.layout.proofs.FramedLaws.{production-in}
+use Rattle.layout.specs.Layout.{result}
 use Rattle.grammar.proofs.check.check_production.Statement.{statement}
 use Rattle.grammar.proofs.check.check_production.Tie as tie
 

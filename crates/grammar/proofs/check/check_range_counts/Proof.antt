@@ -6,10 +6,10 @@ use borrow.Author.Tests.{lt-ltb, le-ltb}
 use borrow.Author.Needs.{needs}
 use Rattle.grammar.proofs.VerdictLaws.{first-none, first-more, first-found, first-done}
 use Rattle.grammar.specs.Check.{badRangeCount}
-use Rattle.grammar.specs.Layout.{productions}
-use Rattle.grammar.specs.Limits.{headerLength}
 use Rattle.grammar.specs.Verdict.{firstRefusal}
 use Rattle.grammar.specs.declared.Verdict.the-variants.{Accepted}
+use Rattle.layout.specs.Layout.{productions}
+use Rattle.layout.specs.Limits.{headerLength}
 use Rattle.grammar.proofs.check.check_range_counts.Statement.{statement}
 use Rattle.grammar.proofs.check.check_range_counts.Tie as tie
 

@@ -2,13 +2,13 @@
 use Prim.Native.Nat.{_-_, _≤_}
 use mathlib.Core.Path.{_≡_, refl, sym, _∙_}
 use native.Mathlib.Omega.{arith}
-use Rattle.grammar.proofs.FormedLaws.{production-in, bodies-in}
-use Rattle.grammar.proofs.LayoutLaws.{production-first, production-next}
 use Rattle.grammar.proofs.VerdictLaws.{first-none, first-more, first-found, first-done}
 use Rattle.grammar.specs.Check.{repeatedProduction}
-use Rattle.grammar.specs.Layout.{productionAt}
 use Rattle.grammar.specs.Verdict.{firstRefusal}
 use Rattle.grammar.specs.declared.Verdict.the-variants.{Accepted}
+use Rattle.layout.proofs.FramedLaws.{production-in, bodies-in}
+use Rattle.layout.proofs.LayoutLaws.{production-first, production-next}
+use Rattle.layout.specs.Layout.{productionAt}
 use Rattle.grammar.proofs.check.check_repeated.Statement.{statement}
 use Rattle.grammar.proofs.check.check_repeated.Tie as tie
 

@@ -3,8 +3,8 @@ use mathlib.Core.Path.{refl}
 use native.Mathlib.Omega.{arith}
 use borrow.Author.Tests.{lt-ltb, le-ltb, le-leb, lt-leb}
 use borrow.Author.Needs.{needs}
+use Rattle.classes.specs.Classes.{isClass}
 use Rattle.grammar.specs.Check.{namesArgument}
-use Rattle.grammar.specs.Classes.{isClass}
 use Rattle.grammar.proofs.check.names_argument.Statement.{statement}
 use Rattle.grammar.proofs.check.names_argument.Tie as tie
 

@@ -5,10 +5,10 @@ use mathlib.Core.Bool.{false}
 use native.Mathlib.Omega.{arith}
 use Rattle.common.proofs.BelowLaws.{any-none, any-more, any-here}
 use Rattle.common.specs.Below.{anyBelow}
-use Rattle.grammar.proofs.FormedLaws.{production-in, bodies-in}
-use Rattle.grammar.proofs.LayoutLaws.{production-first, production-next}
 use Rattle.grammar.specs.Check.{sameProduction}
-use Rattle.grammar.specs.Layout.{productionAt}
+use Rattle.layout.proofs.FramedLaws.{production-in, bodies-in}
+use Rattle.layout.proofs.LayoutLaws.{production-first, production-next}
+use Rattle.layout.specs.Layout.{productionAt}
 use Rattle.grammar.proofs.check.repeats.Statement.{statement}
 use Rattle.grammar.proofs.check.repeats.Tie as tie
 

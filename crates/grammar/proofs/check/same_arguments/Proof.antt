@@ -5,10 +5,10 @@ use mathlib.Core.Bool.{Bool, true}
 use mathlib.Core.List.{List}
 use native.Mathlib.Omega.{arith}
 use borrow.Author.Tests.{eq-eqb, ne-eqb}
+use Rattle.classes.specs.Classes.{sameArgument}
 use Rattle.common.proofs.BelowLaws.{all-none, all-more, all-lost}
 use Rattle.common.specs.Below.{allBelow}
-use Rattle.grammar.specs.Check.{sameArgument}
-use Rattle.grammar.specs.Layout.{byteAt}
+use Rattle.layout.specs.Layout.{byteAt}
 use Rattle.grammar.proofs.check.same_arguments.Statement.{statement}
 use Rattle.grammar.proofs.check.same_arguments.Tie as tie
 

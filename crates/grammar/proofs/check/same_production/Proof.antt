@@ -2,9 +2,9 @@
 use mathlib.Core.Path.{refl}
 use native.Mathlib.Omega.{arith}
 use borrow.Author.Tests.{eq-eqb, ne-eqb}
-use Rattle.grammar.proofs.FormedLaws.{production-in, bodies-in}
 use Rattle.grammar.specs.Check.{sameProduction}
-use Rattle.grammar.specs.Layout.{result, argument}
+use Rattle.layout.proofs.FramedLaws.{production-in, bodies-in}
+use Rattle.layout.specs.Layout.{result, argument}
 use Rattle.grammar.proofs.check.same_production.Statement.{statement}
 use Rattle.grammar.proofs.check.same_production.Tie as tie
 

@@ -6,7 +6,7 @@ use native.Mathlib.Omega.{arith}
 use lib.Dec.{eqb}
 use lib.ListN.{getD}
 use borrow.Author.Needs.{needs}
-use Rattle.grammar.specs.Limits.{productionLimit}
+use Rattle.layout.specs.Limits.{productionLimit}
 use Rattle.meadowsink.proofs.FlatLaws.{EntriesTo, entries-none, entries-more, entries-are}
 use Rattle.meadowsink.proofs.read_flat.root_entries.Statement.{statement}
 use Rattle.meadowsink.proofs.read_flat.root_entries.Tie as tie

@@ -1,0 +1,3 @@
+-- Laws of a grammar's character classes.
+pub mod ClassesLaws
+pub mod CanonicalLaws

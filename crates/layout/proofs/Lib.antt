@@ -1,0 +1,3 @@
+-- Laws of a grammar's layout.
+pub mod LayoutLaws
+pub mod FramedLaws
