@@ -16,7 +16,8 @@ use Rattle.question.specs.Answer.{conflictAnswer}
 use Rattle.question.specs.declared.ConflictAnswer.the-variants.{Yes, No, Refused as NotAsked}
 use Rattle.reason.proofs.LineLaws.{line-higher, line-first, line-last}
 use Rattle.reason.proofs.SideLaws.{right-covered, left-covered}
-use Rattle.reason.specs.Reason.{Covered, LowestDeclaration, Behind, plainly, Reasoned}
+use Rattle.reason.specs.Reason.{LowestDeclaration, Behind, plainly, Reasoned}
+use Rattle.reason.specs.Side.{Covered}
 use Rattle.reason.specs.declared.ReasonAnswer.the-variants.{Free, Higher as ByChain, AtFirst, AtLast, Refused}
 use Rattle.shortest.proofs.ChainLaws.{leads-short}
 use Rattle.shortest.specs.Written.{ShortestWritten}

@@ -15,7 +15,8 @@ use Rattle.priority.proofs.CoverLaws.{declared-found}
 use Rattle.priority.specs.Conflict.{rightOrNonassoc, leftOrNonassoc}
 use Rattle.priority.specs.Priorities.{Kind, left, right, nonassoc, kindNumber, saidKind, eitherWay, namesPair, covers, declarationOf, declarationsOf, declared}
 use Rattle.priority.specs.declared.Declaration.{Declaration}
-use Rattle.reason.specs.Reason.{coversSide, Covered}
+use Rattle.reason.specs.Reason.{coversSide}
+use Rattle.reason.specs.Side.{Covered}
 
 -- ---- one declaration
 

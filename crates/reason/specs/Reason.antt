@@ -7,7 +7,7 @@ use Rattle.grammar.specs.declared.Verdict.the-variants.{Accepted}
 use Rattle.layout.specs.Layout.{declarations}
 use Rattle.priority.specs.Check.{checked}
 use Rattle.priority.specs.Conflict.{Conflict, anywhere, atFirst, atLast}
-use Rattle.priority.specs.Priorities.{Kind, left, right, nonassoc, kindNumber, eitherWay, covers, declarationOf}
+use Rattle.priority.specs.Priorities.{Kind, left, right, nonassoc, covers, declarationOf}
 use Rattle.question.specs.Answer.{There, conflictAnswer}
 use Rattle.question.specs.declared.ConflictAnswer.{ConflictAnswer}
 use Rattle.question.specs.declared.ConflictAnswer.the-variants.{Yes, No, Refused as NotAsked}
@@ -27,17 +27,9 @@ pub record LowestLine (b : List ℕ) (p i q line : ℕ) : Type 0 where
   pub isLine : lineOf conflict ≡ line
   pub lowest : (other : Conflict b p i q) → line ≤ lineOf other
 
--- The number of a kind that holds either way round.
-abbrev pub IsSide : Kind → ℕ → Type 0
-IsSide k n = (n ≡ kindNumber k) × (eitherWay k ≡ true)
-
 -- Declaration d, of two productions or of a group, covers the pair with kind k or as not together: the kinds that a line names, right in line 2 and left in line 3.
 abbrev pub coversSide : List ℕ → Kind → ℕ → ℕ → ℕ → Bool
 coversSide b k p q d = covers (declarationOf b d) k p q || covers (declarationOf b d) nonassoc p q
-
--- Some declaration does.
-abbrev pub Covered : List ℕ → Kind → ℕ → ℕ → Type 0
-Covered b k p q = (d : ℕ) × (d < declarations b) × (coversSide b k p q d ≡ true)
 
 -- It is the lowest that does.
 pub record LowestDeclaration (b : List ℕ) (k : Kind) (p q d : ℕ) : Type 0 where

@@ -21,7 +21,8 @@ ghost use Rattle.grammar.specs.Formed.{WellFormed};
 ghost use Rattle.priority.specs.Priorities.{Kind, nonassoc, namesPair, covers};
 ghost use Rattle.question.specs.Answer.{conflictAnswer};
 ghost use Rattle.question.specs.declared.ConflictAnswer.the-variants.{Yes};
-ghost use Rattle.reason.specs.Reason.{IsSide, Covered, LowestDeclaration, Reasoned};
+ghost use Rattle.reason.specs.Reason.{LowestDeclaration, Reasoned};
+ghost use Rattle.reason.specs.Side.{IsSide, Covered};
 
 // What the question for the reason answers. The lines are those of 01, "Ranks and clashes"; declarations are counted from 0.
 pub enum ReasonAnswer {

@@ -12,7 +12,8 @@ use Rattle.layout.specs.Layout.{declarations}
 use Rattle.priority.specs.Priorities.{Kind, nonassoc, covers, declarationOf}
 use Rattle.priority.specs.declared.Declaration.{Declaration}
 use Rattle.reason.proofs.SideLaws.{covered-further}
-use Rattle.reason.specs.Reason.{IsSide, coversSide, Covered}
+use Rattle.reason.specs.Reason.{coversSide}
+use Rattle.reason.specs.Side.{IsSide, Covered}
 use Rattle.reason.proofs.lowest.Statement.{statement}
 use Rattle.reason.proofs.lowest.Tie as tie
 
