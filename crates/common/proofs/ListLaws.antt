@@ -7,7 +7,7 @@ use native.Mathlib.Omega.{arith}
 use native.Mathlib.Decide.{decLt}
 use native.Mathlib.Nat.{le-refl}
 use native.Mathlib.Numerals.{add-one}
-use lib.ListN.{length, getD, take, drop, length-append, List·getD-append}
+use lib.ListN.{length, getD, take, drop, replicate, length-append, length-replicate, getD-replicate, List·getD-append, List·getD-eq-default}
 use lib.Seq.{getD-at, drop-at, take-add, length-take-le, ext-getD, slice}
 use Rattle.common.specs.Lists.{tabulate, joined}
 
@@ -77,3 +77,10 @@ pub getD-there : {A : Type 0} (l : List A) (i : ℕ) (d e : A) → i < length l 
 getD-there [] i d e h = absurd (omega arith)
 getD-there (a ∷ l) zero d e h = refl
 getD-there (a ∷ l) (suc i) d e h = getD-there l i d e (omega arith)
+
+-- a list of one thing has it everywhere, if that thing also stands for a place that isn't there
+pub getD-all : {A : Type 0} (n : ℕ) (a : A) (i : ℕ) → getD (replicate n a) i a ≡ a
+getD-all n a i =
+    by-cases (decLt i n)
+    (λ l. getD-replicate n i a a l)
+    (λ l. let out : length (replicate n a) ≤ i = omega (arith, length-replicate n a) in List·getD-eq-default (replicate n a) a out)

@@ -10,13 +10,8 @@ use lib.Dec.{eqb}
 use lib.ListN.{length, getD, set, length-set, replicate, length-replicate, getD-replicate, List·getD-eq-default}
 use lib.Seq.{getD-set-same, getD-set-other}
 use borrow.Author.Tests.{eq-eqb, ne-eqb}
+use Rattle.common.proofs.ListLaws.{getD-all}
 use Rattle.priority.specs.Chain.{entry, Square}
-
-pub getD-none : (n i : ℕ) → getD (replicate n false) i false ≡ false
-getD-none n i =
-    by-cases (decLt i n)
-    (λ l. getD-replicate n i false false l)
-    (λ m. List·getD-eq-default (replicate n false) false (omega (arith, length-replicate n false)))
 
 pub entry-out : (t : List (List Bool)) (x y : ℕ) → length t ≤ x → entry t x y ≡ false
 unfolding entry
@@ -26,7 +21,7 @@ pub entry-none : (n x y : ℕ) → entry (replicate n (replicate n false)) x y �
 unfolding entry
 entry-none n x y =
     by-cases (decLt x n)
-    (λ l. rw (getD-replicate n x (replicate n false) [] l) (getD-none n y))
+    (λ l. rw (getD-replicate n x (replicate n false) [] l) (getD-all n false y))
     (λ m. entry-out (replicate n (replicate n false)) x y (omega (arith, length-replicate n (replicate n false))))
 
 pub square-none : (n : ℕ) → Square n (replicate n (replicate n false))

@@ -22,13 +22,13 @@ use Rattle.question.specs.declared.ConflictAnswer.the-variants.{Yes, No,
 
 -- ---- answers that are the same, or not
 
-refused-yes : (n k : ℕ) → Refused n k ≡ Yes → ⊥
+pub refused-yes : (n k : ℕ) → Refused n k ≡ Yes → ⊥
 refused-yes n k e = let z : _≡_ {A = ℕ} 0 1 = cc in omega arith
 
-refused-no : (n k : ℕ) → Refused n k ≡ No → ⊥
+pub refused-no : (n k : ℕ) → Refused n k ≡ No → ⊥
 refused-no n k e = let z : _≡_ {A = ℕ} 0 1 = cc in omega arith
 
-yes-no : Yes ≡ No → ⊥
+pub yes-no : Yes ≡ No → ⊥
 yes-no e = let z : _≡_ {A = ℕ} 0 1 = cc in omega arith
 
 rejected : (n k m j : ℕ) → Refused n k ≡ Refused m j → Rejected n k ≡ Rejected m j

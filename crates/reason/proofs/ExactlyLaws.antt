@@ -2,14 +2,14 @@
 use Prim.Native.Nat.{ℕ, _<_}
 use mathlib.Core.Path.{_≡_, refl, sym, _∙_, ap, subst}
 use mathlib.Core.List.{List}
-use mathlib.Core.Logic.{_↔_, by-cases}
+use mathlib.Core.Logic.{_↔_, _⊎_, inl, inr, ⊎-elim, by-cases}
 use native.Mathlib.Omega.{arith}
 use native.Mathlib.Decide.{decLt}
 use lib.ListN.{length}
 use Rattle.common.proofs.BoolLaws.{not-both}
 use Rattle.priority.specs.Conflict.{Conflict}
 use Rattle.priority.specs.Priorities.{Kind, left, right}
-use Rattle.question.proofs.AnswerLaws.{conflict-yes}
+use Rattle.question.proofs.AnswerLaws.{refused-yes, refused-no, yes-no, conflict-yes}
 use Rattle.question.specs.Answer.{conflictAnswer}
 use Rattle.question.specs.declared.ConflictAnswer.the-variants.{Yes, No, Refused as NotAsked}
 use Rattle.reason.specs.Reason.{Asked, LowestLine, coversSide, LowestDeclaration, Behind, plainly, Reasoned}
@@ -36,48 +36,43 @@ declaration-unique b k p q d e x y =
 length-unique : (b : List ℕ) (x y : ℕ) (chain other : List ℕ) → Shortest b x y chain → Shortest b x y other → length chain ≡ length other
 length-unique b x y chain other s t = omega (arith, s .least other (t .leads), t .least chain (s .leads))
 
--- ---- answers that are the same, or not
+-- ---- what the plain answer says of a reason
 
-yes-not-no : Yes ≡ No → ⊥
-yes-not-no e = let z : _≡_ {A = ℕ} 0 1 = cc in omega arith
+no-free : (r : ReasonAnswer) → plainly r ≡ No → r ≡ Free
+unfolding plainly
+no-free Free e = refl
+no-free (Higher n) e = absurd (yes-no e)
+no-free (AtFirst d) e = absurd (yes-no e)
+no-free (AtLast d) e = absurd (yes-no e)
+no-free (Refused n k) e = absurd (refused-no n k e)
 
-yes-not-refused : (n k : ℕ) → Yes ≡ NotAsked n k → ⊥
-yes-not-refused n k e = let z : _≡_ {A = ℕ} 0 1 = cc in omega arith
-
-no-not-refused : (n k : ℕ) → No ≡ NotAsked n k → ⊥
-no-not-refused n k e = let z : _≡_ {A = ℕ} 0 1 = cc in omega arith
-
-refused-same : (m j n k : ℕ) → NotAsked m j ≡ NotAsked n k → Refused m j ≡ Refused n k
-refused-same m j n k e = cc
+refused-same : (m j : ℕ) (r : ReasonAnswer) → plainly r ≡ NotAsked m j → r ≡ Refused m j
+unfolding plainly
+refused-same m j Free e = absurd (refused-no m j (sym e))
+refused-same m j (Higher n) e = absurd (refused-yes m j (sym e))
+refused-same m j (AtFirst d) e = absurd (refused-yes m j (sym e))
+refused-same m j (AtLast d) e = absurd (refused-yes m j (sym e))
+refused-same m j (Refused n k) e = cc
 
 module _ (b : List ℕ) (p i q : ℕ) (c₀ : List ℕ) where
-  -- ---- no conflict, and refusals, as the plain question has them
+  -- how long a shortest chain is
+  abbrev pub ShortestLength : ℕ → Type 0
+  ShortestLength n = (chain : List ℕ) × Shortest b p q chain × (n ≡ length chain)
 
-  free-from : (r : ReasonAnswer) (c : List ℕ) → Reasoned b p i q c₀ r c → conflictAnswer b p i q ≡ No → r ≡ Free
-  unfolding plainly
-  free-from Free c o e = refl
-  free-from (Higher n) c o e = absurd (yes-not-no (o .plain ∙ e))
-  free-from (AtFirst d) c o e = absurd (yes-not-no (o .plain ∙ e))
-  free-from (AtLast d) c o e = absurd (yes-not-no (o .plain ∙ e))
-  free-from (Refused n k) c o e = absurd (no-not-refused n k (sym (o .plain ∙ e)))
+  -- A yes is by one of the lines, and has what is behind it.
+  abbrev ByLine : ReasonAnswer → Type 0
+  ByLine r =
+      ((n : ℕ) × (r ≡ Higher n) × LowestLine b p i q 1 × ShortestLength n)
+      ⊎ (((d : ℕ) × (r ≡ AtFirst d) × LowestLine b p i q 2 × LowestDeclaration b right p q d)
+      ⊎ ((d : ℕ) × (r ≡ AtLast d) × LowestLine b p i q 3 × LowestDeclaration b left p q d))
 
-  pub free-exactly : (r : ReasonAnswer) (c : List ℕ) → Reasoned b p i q c₀ r c → (r ≡ Free) ↔ (conflictAnswer b p i q ≡ No)
-  unfolding plainly
-  free-exactly r c o = ((λ e. sym (o .plain) ∙ ap plainly e), free-from r c o)
-
-  refused-from : (n k : ℕ) (r : ReasonAnswer) (c : List ℕ) → Reasoned b p i q c₀ r c → conflictAnswer b p i q ≡ NotAsked n k → r ≡ Refused n k
-  unfolding plainly
-  refused-from n k Free c o e = absurd (no-not-refused n k (o .plain ∙ e))
-  refused-from n k (Higher m) c o e = absurd (yes-not-refused n k (o .plain ∙ e))
-  refused-from n k (AtFirst d) c o e = absurd (yes-not-refused n k (o .plain ∙ e))
-  refused-from n k (AtLast d) c o e = absurd (yes-not-refused n k (o .plain ∙ e))
-  refused-from n k (Refused m j) c o e = refused-same m j n k (o .plain ∙ e)
-
-  pub refused-exactly : (r : ReasonAnswer) (c : List ℕ) → Reasoned b p i q c₀ r c → (n k : ℕ) → (r ≡ Refused n k) ↔ (conflictAnswer b p i q ≡ NotAsked n k)
-  unfolding plainly
-  refused-exactly r c o n k = ((λ e. sym (o .plain) ∙ ap plainly e), refused-from n k r c o)
-
-  -- ---- a conflict: the answer with its line, and what is behind it
+  by-line : (r : ReasonAnswer) (c : List ℕ) → Reasoned b p i q c₀ r c → plainly r ≡ Yes → ByLine r
+  unfolding plainly Behind
+  by-line Free c o e = absurd (yes-no (sym e))
+  by-line (Higher n) c o e = let w = o .behind .1 in inl (n, refl, o .behind .0, (w .chain, w .shortest, w .isLength))
+  by-line (AtFirst d) c o e = inr (inl (d, refl, o .behind .0, o .behind .1))
+  by-line (AtLast d) c o e = inr (inr (d, refl, o .behind .0, o .behind .1))
+  by-line (Refused n k) c o e = absurd (refused-yes n k e)
 
   asked-yes : Asked b p i q → Conflict b p i q → conflictAnswer b p i q ≡ Yes
   asked-yes (accepted, there) conflict = conflict-yes b p i q .1 (accepted, there, conflict)
@@ -85,37 +80,19 @@ module _ (b : List ℕ) (p i q : ℕ) (c₀ : List ℕ) where
   yes-asked : conflictAnswer b p i q ≡ Yes → Asked b p i q
   yes-asked e = let (accepted, there, conflict) = conflict-yes b p i q .0 e in (accepted, there)
 
-  -- how long a shortest chain is
-  abbrev pub ShortestLength : ℕ → Type 0
-  ShortestLength n = (chain : List ℕ) × Shortest b p q chain × (n ≡ length chain)
-
-  -- which answer it is if the plain one is yes, by the lowest line
-  module _ (line : ℕ) (low : LowestLine b p i q line) (yes : conflictAnswer b p i q ≡ Yes) where
-    higher-from : line ≡ 1 → (n : ℕ) → ShortestLength n → (r : ReasonAnswer) (c : List ℕ) → Reasoned b p i q c₀ r c → r ≡ Higher n
-    unfolding plainly Behind
-    higher-from e n s Free c o = absurd (yes-not-no (sym yes ∙ sym (o .plain)))
-    higher-from e n (chain, s, l) (Higher m) c o = ap Higher (o .behind .1 .isLength ∙ length-unique b p q (o .behind .1 .chain) chain (o .behind .1 .shortest) s ∙ sym l)
-    higher-from e n s (AtFirst d) c o = absurd (omega (arith, line-unique b p i q line 2 low (o .behind .0)))
-    higher-from e n s (AtLast d) c o = absurd (omega (arith, line-unique b p i q line 3 low (o .behind .0)))
-    higher-from e n s (Refused m j) c o = absurd (yes-not-refused m j (sym yes ∙ sym (o .plain)))
-
-    first-from : line ≡ 2 → (d : ℕ) → LowestDeclaration b right p q d → (r : ReasonAnswer) (c : List ℕ) → Reasoned b p i q c₀ r c → r ≡ AtFirst d
-    unfolding plainly Behind
-    first-from e d s Free c o = absurd (yes-not-no (sym yes ∙ sym (o .plain)))
-    first-from e d s (Higher m) c o = absurd (omega (arith, line-unique b p i q line 1 low (o .behind .0)))
-    first-from e d s (AtFirst m) c o = ap AtFirst (declaration-unique b right p q m d (o .behind .1) s)
-    first-from e d s (AtLast m) c o = absurd (omega (arith, line-unique b p i q line 3 low (o .behind .0)))
-    first-from e d s (Refused m j) c o = absurd (yes-not-refused m j (sym yes ∙ sym (o .plain)))
-
-    last-from : line ≡ 3 → (d : ℕ) → LowestDeclaration b left p q d → (r : ReasonAnswer) (c : List ℕ) → Reasoned b p i q c₀ r c → r ≡ AtLast d
-    unfolding plainly Behind
-    last-from e d s Free c o = absurd (yes-not-no (sym yes ∙ sym (o .plain)))
-    last-from e d s (Higher m) c o = absurd (omega (arith, line-unique b p i q line 1 low (o .behind .0)))
-    last-from e d s (AtFirst m) c o = absurd (omega (arith, line-unique b p i q line 2 low (o .behind .0)))
-    last-from e d s (AtLast m) c o = ap AtLast (declaration-unique b left p q m d (o .behind .1) s)
-    last-from e d s (Refused m j) c o = absurd (yes-not-refused m j (sym yes ∙ sym (o .plain)))
-
   module _ (r : ReasonAnswer) (c : List ℕ) (o : Reasoned b p i q c₀ r c) where
+    pub free-exactly : (r ≡ Free) ↔ (conflictAnswer b p i q ≡ No)
+    unfolding plainly
+    free-exactly = ((λ e. sym (o .plain) ∙ ap plainly e), (λ e. no-free r (o .plain ∙ e)))
+
+    pub refused-exactly : (n k : ℕ) → (r ≡ Refused n k) ↔ (conflictAnswer b p i q ≡ NotAsked n k)
+    unfolding plainly
+    refused-exactly n k = ((λ e. sym (o .plain) ∙ ap plainly e), (λ e. refused-same n k r (o .plain ∙ e)))
+
+    -- a conflict that is asked about has its line
+    line-known : Asked b p i q → Conflict b p i q → ByLine r
+    line-known asked conflict = by-line r c o (o .plain ∙ asked-yes asked conflict)
+
     -- what is behind an answer, once it is known
     known : (s : ReasonAnswer) → r ≡ s → Reasoned b p i q c₀ s c
     known s e = subst (λ (a : ReasonAnswer). Reasoned b p i q c₀ a c) e o
@@ -126,21 +103,30 @@ module _ (b : List ℕ) (p i q : ℕ) (c₀ : List ℕ) where
       (λ e. let k = known (Higher n) e in
           let w = k .behind .1 in
           (yes-asked (sym (k .plain)), k .behind .0, (w .chain, w .shortest, w .isLength))),
-      (λ (asked, low, s). higher-from 1 low (asked-yes asked (low .conflict)) refl n s r c o),
+      (λ (asked, low, (chain, s, long)). ⊎-elim
+          (λ (m, e, other, (own, t, length)). e ∙ ap Higher (length ∙ length-unique b p q own chain t s ∙ sym long))
+          (⊎-elim (λ (d, e, other, t). absurd (omega (arith, line-unique b p i q 1 2 low other))) (λ (d, e, other, t). absurd (omega (arith, line-unique b p i q 1 3 low other))))
+          (line-known asked (low .conflict))),
     )
 
     pub first-exactly : (d : ℕ) → (r ≡ AtFirst d) ↔ (Asked b p i q × LowestLine b p i q 2 × LowestDeclaration b right p q d)
     unfolding plainly Behind
     first-exactly d = (
       (λ e. let k = known (AtFirst d) e in (yes-asked (sym (k .plain)), k .behind .0, k .behind .1)),
-      (λ (asked, low, s). first-from 2 low (asked-yes asked (low .conflict)) refl d s r c o),
+      (λ (asked, low, s). ⊎-elim
+          (λ (n, e, other, t). absurd (omega (arith, line-unique b p i q 2 1 low other)))
+          (⊎-elim (λ (m, e, other, t). e ∙ ap AtFirst (declaration-unique b right p q m d t s)) (λ (m, e, other, t). absurd (omega (arith, line-unique b p i q 2 3 low other))))
+          (line-known asked (low .conflict))),
     )
 
     pub last-exactly : (d : ℕ) → (r ≡ AtLast d) ↔ (Asked b p i q × LowestLine b p i q 3 × LowestDeclaration b left p q d)
     unfolding plainly Behind
     last-exactly d = (
       (λ e. let k = known (AtLast d) e in (yes-asked (sym (k .plain)), k .behind .0, k .behind .1)),
-      (λ (asked, low, s). last-from 3 low (asked-yes asked (low .conflict)) refl d s r c o),
+      (λ (asked, low, s). ⊎-elim
+          (λ (n, e, other, t). absurd (omega (arith, line-unique b p i q 3 1 low other)))
+          (⊎-elim (λ (m, e, other, t). absurd (omega (arith, line-unique b p i q 3 2 low other))) (λ (m, e, other, t). e ∙ ap AtLast (declaration-unique b left p q m d t s)))
+          (line-known asked (low .conflict))),
     )
 
     -- ---- the buffer
@@ -163,11 +149,11 @@ module _ (b : List ℕ) (p i q : ℕ) (c₀ : List ℕ) where
 
   pub one-answer : (r r′ : ReasonAnswer) (c c′ : List ℕ) → Reasoned b p i q c₀ r c → Reasoned b p i q c₀ r′ c′ → r ≡ r′
   unfolding plainly
-  one-answer Free r′ c c′ o o′ = sym (free-from r′ c′ o′ (sym (o .plain)))
+  one-answer Free r′ c c′ o o′ = sym (free-exactly r′ c′ o′ .1 (free-exactly Free c o .0 refl))
   one-answer (Higher n) r′ c c′ o o′ = sym (higher-exactly r′ c′ o′ n .1 (higher-exactly (Higher n) c o n .0 refl))
   one-answer (AtFirst d) r′ c c′ o o′ = sym (first-exactly r′ c′ o′ d .1 (first-exactly (AtFirst d) c o d .0 refl))
   one-answer (AtLast d) r′ c c′ o o′ = sym (last-exactly r′ c′ o′ d .1 (last-exactly (AtLast d) c o d .0 refl))
-  one-answer (Refused n k) r′ c c′ o o′ = sym (refused-from n k r′ c′ o′ (sym (o .plain)))
+  one-answer (Refused n k) r′ c c′ o o′ = sym (refused-exactly r′ c′ o′ n k .1 (refused-exactly (Refused n k) c o n k .0 refl))
 
   -- any other shortest chain would do as well
   pub any-shortest : (n : ℕ) (c : List ℕ) → Reasoned b p i q c₀ (Higher n) c → (chain : List ℕ) → Shortest b p q chain → Reasoned b p i q c₀ (Higher n) (chainAfter chain c₀)

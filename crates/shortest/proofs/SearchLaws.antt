@@ -8,7 +8,7 @@ use native.Mathlib.Decide.{ℕ-discrete, decLt}
 use native.Mathlib.Nat.{le-refl}
 use lib.ListN.{length, getD, set, replicate, length-set, length-replicate, getD-replicate, List·getD-eq-default}
 use lib.Seq.{getD-set-same, getD-set-other}
-use Rattle.common.proofs.ListLaws.{length-tabulate}
+use Rattle.common.proofs.ListLaws.{length-tabulate, getD-all}
 use Rattle.common.specs.Lists.{tabulate}
 use Rattle.grammar.specs.declared.Verdict.the-variants.{Accepted}
 use Rattle.layout.specs.Limits.{productionLimit}
@@ -26,17 +26,11 @@ module _ (b : List ℕ) (q : ℕ) (l : q < productionLimit) where
   abbrev alone : List ℕ
   alone = set (replicate productionLimit far) q 0
 
-  all-far : (x : ℕ) → getD (replicate productionLimit far) x far ≡ far
-  all-far x =
-      by-cases (decLt x productionLimit)
-      (λ h. getD-replicate productionLimit x far far h)
-      (λ h. let out : length (replicate productionLimit far) ≤ x = omega (arith, length-replicate productionLimit far) in List·getD-eq-default (replicate productionLimit far) far out)
-
   alone-there : away alone q ≡ 0
   alone-there = getD-set-same (replicate productionLimit far) q 0 far (omega (arith, length-replicate productionLimit far))
 
   alone-other : (x : ℕ) → (x ≡ q → ⊥) → away alone x ≡ far
-  alone-other x n = getD-set-other (replicate productionLimit far) q x 0 far n ∙ all-far x
+  alone-other x n = getD-set-other (replicate productionLimit far) q x 0 far n ∙ getD-all productionLimit far x
 
   pub rounds-none : Rounds b q 0 alone (replicate productionLimit 0)
   rounds-none =

@@ -8,9 +8,9 @@ use native.Mathlib.Omega.{arith}
 use lib.ListN.{replicate, length-replicate}
 use Rattle.common.proofs.BelowLaws.{between-below, between-above, between-in}
 use Rattle.common.proofs.FillLaws.{Filled, filled-from, filled-more}
+use Rattle.common.proofs.ListLaws.{getD-all}
 use Rattle.common.specs.Below.{between}
 use Rattle.layout.specs.Limits.{productionLimit}
-use Rattle.priority.proofs.TableLaws.{getD-none}
 use Rattle.priority.proofs.members.Statement.{statement}
 use Rattle.priority.proofs.members.Tie as tie
 
@@ -28,7 +28,7 @@ loop-holds : tie.Need-loop-holds Inv-loop μ-loop
 unfolding Member
 loop-holds c = (
   filled-from (Member (c .args .first) (c .args .second)) false (replicate productionLimit false) (c .args .first)
-      (λ k l. getD-none productionLimit k ∙ sym (between-below (c .args .first) (c .args .second) k l)),
+      (λ k l. getD-all productionLimit false k ∙ sym (between-below (c .args .first) (c .args .second) k l)),
   omega arith,
 )
 
@@ -56,7 +56,7 @@ returns c y =
     let start = c .before .before in
     by-cases (decLt y (c .before .loop .y))
     (λ l. c .before .loop .inv .0 .done y l)
-    (λ l. c .before .loop .inv .0 .rest y (omega arith) ∙ getD-none productionLimit y ∙ sym (between-above (start .args .first) (start .args .second) y (omega arith)))
+    (λ l. c .before .loop .inv .0 .rest y (omega arith) ∙ getD-all productionLimit false y ∙ sym (between-above (start .args .first) (start .args .second) y (omega arith)))
 
 pub members-spec : {M : Type 1} → statement M
 members-spec =

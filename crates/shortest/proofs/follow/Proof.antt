@@ -40,7 +40,6 @@ Inv-loop book start p count next out₀ x₀ k₀ out x k = Walked book next p c
 abbrev μ-loop : tie.MeasureT-loop
 μ-loop book start p count next out₀ x₀ k₀ out x k = count - k
 
--- src/lib.rt:74:5
 loop-holds : tie.Need-loop-holds Inv-loop μ-loop
 unfolding reached
 loop-holds c = let start = c .before .before .before in
@@ -52,27 +51,21 @@ loop-holds c = let start = c .before .before .before in
       inBuffer = omega arith;
     }
 
--- src/lib.rt:74:11
 both-requires : tie.Need-both-requires Inv-loop μ-loop
 both-requires c κs = search needs
 
--- src/lib.rt:75:22
 shared-slice-read-wide : tie.Need-shared-slice-read-wide Inv-loop μ-loop
 shared-slice-read-wide c = omega (arith, c .before .before .before .loop .inv .there, c .before .before .before .before .before .before .before .pre .1 .0)
 
--- src/lib.rt:75:13
 wide-requires : tie.Need-wide-requires Inv-loop μ-loop
 wide-requires c κs = search needs
 
--- src/lib.rt:76:18
 shared-slice-read-out : tie.Need-shared-slice-read-out Inv-loop μ-loop
 shared-slice-read-out c = omega (arith, c .before .before .before .before .before .loop .inv .there, c .before .before .before .before .before .before .before .before .before .pre .1 .0)
 
--- src/lib.rt:76:9
 slice-write-out : tie.Need-slice-write-out Inv-loop μ-loop
 slice-write-out c = going (c .before .before .before .before .before .loop .k) (c .before .before .before .before .before .before .before .before .before .args .count) (length (c .before .before .before .before .before .loop .out)) (c .before .before .before .before .both .result) (c .before .before .before .before .both .ensures) (c .before .before .before .if1 .taken) .1
 
--- src/lib.rt:77:13
 read-declaration-requires : tie.Need-read-declaration-requires Inv-loop μ-loop
 read-declaration-requires c κs =
     let start = c .before .before .before .before .before .before .before .before .before in
@@ -80,15 +73,12 @@ read-declaration-requires c κs =
     let says = start .pre .1 .2 (turn .k) (going (c .before .before .before .before .before .loop .k) (c .before .before .before .before .before .before .before .before .before .args .count) (length (c .before .before .before .before .before .loop .out)) (c .before .before .before .before .both .result) (c .before .before .before .before .both .ensures) (c .before .before .before .if1 .taken) .0) in
     (start .pre .0 .0, (omega (arith, says .there, c .before .wide .ensures, ap (onwardFrom (start .args .next .now)) (turn .inv .here)), start .pre .0 .1))
 
--- src/lib.rt:79:9
 add-k : tie.Need-add-k Inv-loop μ-loop
 add-k c = let more = going (c .before .before .before .before .before .before .loop .k) (c .before .before .before .before .before .before .before .before .before .before .args .count) (length (c .before .before .before .before .before .before .loop .out)) (c .before .before .before .before .before .both .result) (c .before .before .before .before .before .both .ensures) (c .before .before .before .before .if1 .taken) in omega (arith, more, c .before .before .before .before .before .before .before .before .before .before .fits .count)
 
--- src/lib.rt:74:5
 loop-less : tie.Need-loop-less Inv-loop μ-loop
 loop-less c = let more = going (c .before .before .before .before .before .before .loop .k) (c .before .before .before .before .before .before .before .before .before .before .args .count) (length (c .before .before .before .before .before .before .loop .out)) (c .before .before .before .before .before .both .result) (c .before .before .before .before .before .both .ensures) (c .before .before .before .before .if1 .taken) .0 in omega (arith, more)
 
--- src/lib.rt:74:5
 loop-again : tie.Need-loop-again Inv-loop μ-loop
 unfolding declarationOf reached
 loop-again c =
@@ -108,11 +98,9 @@ loop-again c =
       inBuffer = omega (arith, more .1, turn .inv .written .long);
     }
 
--- src/lib.rt:67:1
 same-length : tie.Need-same-length Inv-loop μ-loop
 same-length c = c .before .before .loop .inv .written .long
 
--- src/lib.rt:67:1
 returns : tie.Need-returns Inv-loop μ-loop
 returns c =
     let start = c .before .before .before .before .before .before in

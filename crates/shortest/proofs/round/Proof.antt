@@ -27,11 +27,9 @@ Inv-loop book start k distance₀ next₀ count d₀ distance next d = Turn book
 abbrev μ-loop : tie.MeasureT-loop
 μ-loop book start k distance₀ next₀ count d₀ distance next d = count - d
 
--- src/lib.rt:49:9
 declaration-count-requires : tie.Need-declaration-count-requires Inv-loop μ-loop
 declaration-count-requires c κs = c .before .before .before .pre .0 .0 .framed .header
 
--- src/lib.rt:51:5
 loop-holds : tie.Need-loop-holds Inv-loop μ-loop
 loop-holds c = let start = c .before .before .before .before in
     record {
@@ -41,63 +39,48 @@ loop-holds c = let start = c .before .before .before .before in
       midway = λ y r. round-begins (start .args .book .now) y (start .args .k) (start .args .distance .now) (start .args .next .now) r;
     }
 
--- src/lib.rt:52:13
 read-declaration-requires : tie.Need-read-declaration-requires Inv-loop μ-loop
 read-declaration-requires c κs = let start = c .before .before .before .before .before .before in (start .pre .0 .0, (omega (arith, c .before .before .declaration-count .ensures), start .pre .0 .1))
 
--- src/lib.rt:57:18
 mul-both : tie.Need-mul-both Inv-loop μ-loop
 mul-both c = omega (arith, c .before .read-declaration .ensures .1)
 
--- src/lib.rt:57:18
 slice-read-both : tie.Need-slice-read-both Inv-loop μ-loop
 slice-read-both c = omega (arith, c .before .before .read-declaration .ensures .1, c .before .before .before .before .loop .inv .distances)
 
--- src/lib.rt:57:42
 mul-both-2 : tie.Need-mul-both-2 Inv-loop μ-loop
 mul-both-2 c = omega (arith, c .before .before .read-declaration .ensures .1)
 
--- src/lib.rt:57:42
 slice-read-both-2 : tie.Need-slice-read-both-2 Inv-loop μ-loop
 slice-read-both-2 c = omega (arith, c .before .before .before .read-declaration .ensures .1, c .before .before .before .before .before .loop .inv .distances)
 
--- src/lib.rt:57:13
 both-requires : tie.Need-both-requires Inv-loop μ-loop
 both-requires c κs = search needs
 
--- src/lib.rt:55:12
 both-requires-2 : tie.Need-both-requires-2 Inv-loop μ-loop
 both-requires-2 c κs = search needs
 
--- src/lib.rt:59:31
 add-distance : tie.Need-add-distance Inv-loop μ-loop
 add-distance c = omega (arith, c .before .before .before .before .before .before .before .before .before .before .before .before .before .pre .0 .2)
 
--- src/lib.rt:59:13
 mul-distance : tie.Need-mul-distance Inv-loop μ-loop
 mul-distance c = omega (arith, c .before .before .before .before .before .before .read-declaration .ensures .1)
 
--- src/lib.rt:59:13
 slice-write-distance : tie.Need-slice-write-distance Inv-loop μ-loop
 slice-write-distance c = omega (arith, c .before .before .before .before .before .before .read-declaration .ensures .1, c .before .before .before .before .before .before .before .before .loop .inv .distances)
 
--- src/lib.rt:60:27
 cast-next : tie.Need-cast-next Inv-loop μ-loop
 cast-next c = omega (arith, c .before .before .before .before .before .before .before .before .before .declaration-count .ensures, c .before .before .before .before .before .before .before .before .before .before .before .before .shared-slice-known .given 3)
 
--- src/lib.rt:60:13
 slice-write-next : tie.Need-slice-write-next Inv-loop μ-loop
 slice-write-next c = omega (arith, c .before .before .before .before .before .before .read-declaration .ensures .1, c .before .before .before .before .before .before .before .before .loop .inv .nexts)
 
--- src/lib.rt:62:9
 add-d : tie.Need-add-d Inv-loop μ-loop
 add-d c = omega arith
 
--- src/lib.rt:51:5
 loop-less : tie.Need-loop-less Inv-loop μ-loop
 loop-less c = omega arith
 
--- src/lib.rt:51:5
 loop-again : tie.Need-loop-again Inv-loop μ-loop
 unfolding kindNumber declarationOf
 loop-again c =
@@ -119,15 +102,12 @@ loop-again c =
     (λ u. rw (u .1, u .2) (record { distances = turn .inv .distances; nexts = turn .inv .nexts; within = omega arith; midway = λ y r. round-passes b y (start .args .k) (turn .distance) (turn .next) (turn .d) (turn .inv .midway y r) (test-old b (start .args .k) (turn .distance) (turn .d) (sym on ∙ u .0 .left)) }))
     (c .if1 .came)
 
--- src/lib.rt:44:1
 same-length : tie.Need-same-length Inv-loop μ-loop
 same-length c = let start = c .before .before .before .before .before .before in c .before .loop .inv .distances ∙ sym (start .pre .1 .0)
 
--- src/lib.rt:44:1
 same-length-2 : tie.Need-same-length-2 Inv-loop μ-loop
 same-length-2 c = let start = c .before .before .before .before .before .before in c .before .loop .inv .nexts ∙ sym (start .pre .1 .1)
 
--- src/lib.rt:44:1
 returns : tie.Need-returns Inv-loop μ-loop
 returns c y r =
     let start = c .before .before .before .before .before .before in

@@ -48,39 +48,30 @@ Inv-loop book p q out start distance₀ next₀ k₀ distance next k = Rounds bo
 abbrev μ-loop : tie.MeasureT-loop
 μ-loop book p q out start distance₀ next₀ k₀ distance next k = far - k
 
--- src/lib.rt:29:9
 declaration-at-requires : tie.Need-declaration-at-requires Inv-loop μ-loop
 declaration-at-requires c κs = let start = c .before .before in (bodies-in (start .args .book .now) (accepted-formed (start .args .book .now) (start .pre .0) .framed), omega arith)
 
--- src/lib.rt:32:5
 mul-distance : tie.Need-mul-distance Inv-loop μ-loop
 mul-distance c = let known = there (c .before .before .before .args .book .now) (c .before .before .before .args .p) (c .before .before .before .args .q) (c .before .before .before .pre .0) (c .before .before .before .pre .1) in omega (arith, known)
 
--- src/lib.rt:32:5
 array-write-distance : tie.Need-array-write-distance Inv-loop μ-loop
 array-write-distance c = there (c .before .before .before .args .book .now) (c .before .before .before .args .p) (c .before .before .before .args .q) (c .before .before .before .pre .0) (c .before .before .before .pre .1) .1
 
--- src/lib.rt:34:5
 loop-holds : tie.Need-loop-holds Inv-loop μ-loop
 loop-holds c = let start = c .before .before .before in (rounds-none (start .args .book .now) (start .args .q) (there (c .before .before .before .args .book .now) (c .before .before .before .args .p) (c .before .before .before .args .q) (c .before .before .before .pre .0) (c .before .before .before .pre .1) .1), omega arith)
 
--- src/lib.rt:34:11
 mul-loop : tie.Need-mul-loop Inv-loop μ-loop
 mul-loop c = let known = there (c .before .before .before .before .args .book .now) (c .before .before .before .before .args .p) (c .before .before .before .before .args .q) (c .before .before .before .before .pre .0) (c .before .before .before .before .pre .1) in omega (arith, known)
 
--- src/lib.rt:34:11
 array-read-loop : tie.Need-array-read-loop Inv-loop μ-loop
 array-read-loop c = there (c .before .before .before .before .args .book .now) (c .before .before .before .before .args .p) (c .before .before .before .before .args .q) (c .before .before .before .before .pre .0) (c .before .before .before .before .pre .1) .0
 
--- src/lib.rt:35:31
 slice-aggregate-round : tie.Need-slice-aggregate-round Inv-loop μ-loop
 slice-aggregate-round c = sym (c .before .before .loop .inv .0 .sound .distances)
 
--- src/lib.rt:35:46
 slice-aggregate-round-2 : tie.Need-slice-aggregate-round-2 Inv-loop μ-loop
 slice-aggregate-round-2 c = sym (c .before .before .before .loop .inv .0 .sound .nexts)
 
--- src/lib.rt:35:9
 round-requires : tie.Need-round-requires Inv-loop μ-loop
 round-requires c κs =
     let start = c .before .before .before .before .before .before .before in (
@@ -88,31 +79,24 @@ round-requires c κs =
       (c .before .before .before .loop .inv .0 .sound .distances, c .before .before .before .loop .inv .0 .sound .nexts),
     )
 
--- src/lib.rt:36:9
 add-k : tie.Need-add-k Inv-loop μ-loop
 add-k c = let more = still (c .before .before .before .before .before .before .before .before .before .before .args .book .now) (c .before .before .before .before .before .before .before .before .before .before .args .p) (c .before .before .before .before .before .before .before .before .before .before .args .q) (c .before .before .before .before .before .before .before .before .before .before .pre .0) (c .before .before .before .before .before .before .before .before .before .before .pre .1) (c .before .before .before .before .before .before .loop .k) (c .before .before .before .before .before .before .loop .distance) (c .before .before .before .before .before .before .loop .next) (c .before .before .before .before .before .before .loop .inv .0) (c .before .before .before .before .before .loop-test .taken) in omega (arith, more)
 
--- src/lib.rt:34:5
 loop-less : tie.Need-loop-less Inv-loop μ-loop
 loop-less c = let more = still (c .before .before .before .before .before .before .before .before .before .before .args .book .now) (c .before .before .before .before .before .before .before .before .before .before .args .p) (c .before .before .before .before .before .before .before .before .before .before .args .q) (c .before .before .before .before .before .before .before .before .before .before .pre .0) (c .before .before .before .before .before .before .before .before .before .before .pre .1) (c .before .before .before .before .before .before .loop .k) (c .before .before .before .before .before .before .loop .distance) (c .before .before .before .before .before .before .loop .next) (c .before .before .before .before .before .before .loop .inv .0) (c .before .before .before .before .before .loop-test .taken) in omega (arith, more)
 
--- src/lib.rt:34:5
 loop-again : tie.Need-loop-again Inv-loop μ-loop
 loop-again c = (c .before .before .round .ensures (c .before .before .before .before .before .before .before .before .before .before .args .q) (c .before .before .before .before .before .before .loop .inv .0), still (c .before .before .before .before .before .before .before .before .before .before .args .book .now) (c .before .before .before .before .before .before .before .before .before .before .args .p) (c .before .before .before .before .before .before .before .before .before .before .args .q) (c .before .before .before .before .before .before .before .before .before .before .pre .0) (c .before .before .before .before .before .before .before .before .before .before .pre .1) (c .before .before .before .before .before .before .loop .k) (c .before .before .before .before .before .before .loop .distance) (c .before .before .before .before .before .before .loop .next) (c .before .before .before .before .before .before .loop .inv .0) (c .before .before .before .before .before .loop-test .taken))
 
--- src/lib.rt:38:17
 mul-count : tie.Need-mul-count Inv-loop μ-loop
 mul-count c = let known = there (c .before .before .before .before .before .args .book .now) (c .before .before .before .before .before .args .p) (c .before .before .before .before .before .args .q) (c .before .before .before .before .before .pre .0) (c .before .before .before .before .before .pre .1) in omega (arith, known)
 
--- src/lib.rt:38:17
 array-read-count : tie.Need-array-read-count Inv-loop μ-loop
 array-read-count c = there (c .before .before .before .before .before .args .book .now) (c .before .before .before .before .before .args .p) (c .before .before .before .before .before .args .q) (c .before .before .before .before .before .pre .0) (c .before .before .before .before .before .pre .1) .0
 
--- src/lib.rt:39:35
 slice-aggregate-follow : tie.Need-slice-aggregate-follow Inv-loop μ-loop
 slice-aggregate-follow c = sym (c .before .before .loop .inv .0 .sound .nexts)
 
--- src/lib.rt:39:5
 follow-requires : tie.Need-follow-requires Inv-loop μ-loop
 follow-requires c κs =
     let start = c .before .before .before .before .before .before .before in (
@@ -120,11 +104,9 @@ follow-requires c κs =
       (c .before .before .before .loop .inv .0 .sound .nexts, there (c .before .before .before .before .before .before .before .args .book .now) (c .before .before .before .before .before .before .before .args .p) (c .before .before .before .before .before .before .before .args .q) (c .before .before .before .before .before .before .before .pre .0) (c .before .before .before .before .before .before .before .pre .1) .0, found (c .before .before .before .before .before .before .before .args .book .now) (c .before .before .before .before .before .before .before .args .p) (c .before .before .before .before .before .before .before .args .q) (c .before .before .before .before .before .before .before .pre .0) (c .before .before .before .before .before .before .before .pre .1) (c .before .before .before .loop .k) (c .before .before .before .loop .distance) (c .before .before .before .loop .next) (c .before .before .before .loop .inv .0) (c .before .before .before .loop .inv .1) (c .before .before .loop-test .left) .0),
     )
 
--- src/lib.rt:25:1
 same-length : tie.Need-same-length Inv-loop μ-loop
 same-length c = search needs
 
--- src/lib.rt:25:1
 returns : tie.Need-returns Inv-loop μ-loop
 returns c =
     let start = c .before .before .before .before .before .before .before .before .before .before in
