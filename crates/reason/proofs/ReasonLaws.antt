@@ -22,9 +22,32 @@ use Rattle.reason.specs.declared.ReasonAnswer.the-variants.{Free, Higher
 use Rattle.shortest.proofs.ChainLaws.{leads-short}
 use Rattle.shortest.specs.Written.{ShortestWritten}
 
-module _ (b : List ℕ) (p i q : ℕ) (c₀ : List ℕ) where
-  -- ---- no conflict, or no answer
+-- ---- what yes tells
 
+module _ (b : List ℕ) (p i q : ℕ) (yes : conflictAnswer b p i q ≡ Yes) where
+  pub yes-accepted : checked b ≡ Accepted
+  yes-accepted = conflict-yes b p i q .0 yes .0
+
+  pub yes-formed : WellFormed b
+  yes-formed = accepted-formed b yes-accepted
+
+  pub yes-there : (p < productionLimit) × (q < productionLimit)
+  yes-there =
+      let (hp, hi, hq) = conflict-yes b p i q .0 yes .1 in
+      (omega (arith, hp, yes-formed .framed .fewProductions), omega (arith, hq, yes-formed .framed .fewProductions))
+
+  yes-conflict : Conflict b p i q
+  yes-conflict = conflict-yes b p i q .0 yes .2
+
+  pub first-covered : (Higher b p q → ⊥) → i ≡ 0 → Covered b right p q
+  first-covered level z = right-covered b p q (line-first b p i q level yes-conflict z .1)
+
+  pub last-covered : (Higher b p q → ⊥) → (i ≡ 0 → ⊥) → Covered b left p q
+  last-covered level z = left-covered b p q (line-last b p i q level z yes-conflict .1)
+
+-- ---- the answers
+
+module _ (b : List ℕ) (p i q : ℕ) (c₀ : List ℕ) where
   pub reasoned-free : conflictAnswer b p i q ≡ No → Reasoned b p i q c₀ Free c₀
   unfolding plainly Behind
   reasoned-free e = record { plain = sym e; behind = refl }
@@ -33,41 +56,18 @@ module _ (b : List ℕ) (p i q : ℕ) (c₀ : List ℕ) where
   unfolding plainly Behind
   reasoned-refused number place e = record { plain = sym e; behind = refl }
 
-  -- ---- a conflict
-
   module _ (yes : conflictAnswer b p i q ≡ Yes) where
-    pub yes-accepted : checked b ≡ Accepted
-    yes-accepted = conflict-yes b p i q .0 yes .0
-
-    pub yes-formed : WellFormed b
-    yes-formed = accepted-formed b yes-accepted
-
-    pub yes-there : (p < productionLimit) × (q < productionLimit)
-    yes-there =
-        let (hp, hi, hq) = conflict-yes b p i q .0 yes .1 in
-        (omega (arith, hp, yes-formed .framed .fewProductions), omega (arith, hq, yes-formed .framed .fewProductions))
-
-    yes-conflict : Conflict b p i q
-    yes-conflict = conflict-yes b p i q .0 yes .2
-
     pub reasoned-higher : (n : ℕ) (c : List ℕ) → Higher b p q → ShortestWritten b p q c₀ n c → Reasoned b p i q c₀ (ByChain n) c
     unfolding plainly Behind
-    reasoned-higher n c h s = record { plain = sym yes; behind = (line-higher b p i q yes-conflict h, s) }
+    reasoned-higher n c h s = record { plain = sym yes; behind = (line-higher b p i q (yes-conflict b p i q yes) h, s) }
 
-    module _ (no : Higher b p q → ⊥) where
-      pub first-covered : i ≡ 0 → Covered b right p q
-      first-covered z = right-covered b p q (line-first b p i q no yes-conflict z .1)
+    pub reasoned-first : (Higher b p q → ⊥) → (d : ℕ) → i ≡ 0 → LowestDeclaration b right p q d → Reasoned b p i q c₀ (AtFirst d) c₀
+    unfolding plainly Behind
+    reasoned-first level d z l = record { plain = sym yes; behind = (line-first b p i q level (yes-conflict b p i q yes) z .0, l, refl) }
 
-      pub reasoned-first : (d : ℕ) → i ≡ 0 → LowestDeclaration b right p q d → Reasoned b p i q c₀ (AtFirst d) c₀
-      unfolding plainly Behind
-      reasoned-first d z l = record { plain = sym yes; behind = (line-first b p i q no yes-conflict z .0, l, refl) }
-
-      pub last-covered : (i ≡ 0 → ⊥) → Covered b left p q
-      last-covered z = left-covered b p q (line-last b p i q no z yes-conflict .1)
-
-      pub reasoned-last : (d : ℕ) → (i ≡ 0 → ⊥) → LowestDeclaration b left p q d → Reasoned b p i q c₀ (AtLast d) c₀
-      unfolding plainly Behind
-      reasoned-last d z l = record { plain = sym yes; behind = (line-last b p i q no z yes-conflict .0, l, refl) }
+    pub reasoned-last : (Higher b p q → ⊥) → (d : ℕ) → (i ≡ 0 → ⊥) → LowestDeclaration b left p q d → Reasoned b p i q c₀ (AtLast d) c₀
+    unfolding plainly Behind
+    reasoned-last level d z l = record { plain = sym yes; behind = (line-last b p i q level z (yes-conflict b p i q yes) .0, l, refl) }
 
 -- ---- what a reason counts
 
@@ -77,8 +77,8 @@ module _ (b : List ℕ) (p i q : ℕ) (c₀ : List ℕ) (c : List ℕ) where
   unfolding plainly Behind
   reasoned-short n r =
       let written = r .behind .1 in
-      omega (arith, written .isLength, leads-short b (yes-accepted b p i q c₀ (sym (r .plain))) (written .shortest .leads))
+      omega (arith, written .isLength, leads-short b (yes-accepted b p i q (sym (r .plain))) (written .shortest .leads))
 
   pub reasoned-few : (n : ℕ) → Reasoned b p i q c₀ (ByChain n) c → n < productionLimit
   unfolding plainly
-  reasoned-few n r = omega (arith, reasoned-short n r, yes-formed b p i q c₀ (sym (r .plain)) .framed .fewProductions)
+  reasoned-few n r = omega (arith, reasoned-short n r, yes-formed b p i q (sym (r .plain)) .framed .fewProductions)

@@ -21,35 +21,35 @@ module _ (b : List ℕ) (table : List (List Bool)) (p q : ℕ) (on : Bool) (all 
   higher-off e h = not-both (entry table p q) (all p q .1 h) (sym read ∙ e)
 
 priorities-requires : tie.Need-priorities-requires
-priorities-requires c κs = yes-formed (c .before .before .args .book .now) (c .before .before .args .p) (c .before .before .args .i) (c .before .before .args .q) (c .before .before .args .chain .now) (c .before .before .pre)
+priorities-requires c κs = yes-formed _ _ _ _ (c .before .before .pre)
 
 entry-at-requires : tie.Need-entry-at-requires
-entry-at-requires c κs = yes-there (c .before .before .before .args .book .now) (c .before .before .before .args .p) (c .before .before .before .args .i) (c .before .before .before .args .q) (c .before .before .before .args .chain .now) (c .before .before .before .pre)
+entry-at-requires c κs = yes-there _ _ _ _ (c .before .before .before .pre)
 
 write-chain-requires : tie.Need-write-chain-requires
-write-chain-requires c κs = (yes-accepted (c .before .before .before .before .before .before .args .book .now) (c .before .before .before .before .before .before .args .p) (c .before .before .before .before .before .before .args .i) (c .before .before .before .before .before .before .args .q) (c .before .before .before .before .before .before .args .chain .now) (c .before .before .before .before .before .before .pre), higher-on (c .before .before .before .before .before .before .args .book .now) (c .before .before .before .priorities .result) (c .before .before .before .before .before .before .args .p) (c .before .before .before .before .before .before .args .q) (c .before .before .entry-at .result) (c .before .before .before .priorities .ensures) (c .before .before .entry-at .ensures) (c .before .if1 .taken))
+write-chain-requires c κs = (yes-accepted _ _ _ _ (c .before .before .before .before .before .before .pre), higher-on _ _ _ _ _ (c .before .before .before .priorities .ensures) (c .before .before .entry-at .ensures) (c .before .if1 .taken))
 
 same-length : tie.Need-same-length
 same-length c = search needs
 
 returns : tie.Need-returns
-returns c = reasoned-higher (c .before .before .before .before .before .before .before .before .before .args .book .now) (c .before .before .before .before .before .before .before .before .before .args .p) (c .before .before .before .before .before .before .before .before .before .args .i) (c .before .before .before .before .before .before .before .before .before .args .q) (c .before .before .before .before .before .before .before .before .before .args .chain .now) (c .before .before .before .before .before .before .before .before .before .pre) (c .before .before .write-chain .result) _ (higher-on (c .before .before .before .before .before .before .before .before .before .args .book .now) (c .before .before .before .before .before .before .priorities .result) (c .before .before .before .before .before .before .before .before .before .args .p) (c .before .before .before .before .before .before .before .before .before .args .q) (c .before .before .before .before .before .entry-at .result) (c .before .before .before .before .before .before .priorities .ensures) (c .before .before .before .before .before .entry-at .ensures) (c .before .before .before .before .if1 .taken)) (c .before .before .write-chain .ensures)
+returns c = reasoned-higher _ _ _ _ _ (c .before .before .before .before .before .before .before .before .before .pre) (c .before .before .write-chain .result) _ (higher-on _ _ _ _ _ (c .before .before .before .before .before .before .priorities .ensures) (c .before .before .before .before .before .entry-at .ensures) (c .before .before .before .before .if1 .taken)) (c .before .before .write-chain .ensures)
 
 lowest-requires : tie.Need-lowest-requires
 unfolding kindNumber eitherWay
-lowest-requires c κs = (yes-formed (c .before .before .before .before .before .before .args .book .now) (c .before .before .before .before .before .before .args .p) (c .before .before .before .before .before .before .args .i) (c .before .before .before .before .before .before .args .q) (c .before .before .before .before .before .before .args .chain .now) (c .before .before .before .before .before .before .pre), (right, (refl, refl), first-covered (c .before .before .before .before .before .before .args .book .now) (c .before .before .before .before .before .before .args .p) (c .before .before .before .before .before .before .args .i) (c .before .before .before .before .before .before .args .q) (c .before .before .before .before .before .before .args .chain .now) (c .before .before .before .before .before .before .pre) (higher-off (c .before .before .before .before .before .before .args .book .now) (c .before .before .before .priorities .result) (c .before .before .before .before .before .before .args .p) (c .before .before .before .before .before .before .args .q) (c .before .before .entry-at .result) (c .before .before .before .priorities .ensures) (c .before .before .entry-at .ensures) (c .before .if1 .left)) (c .if2 .taken)))
+lowest-requires c κs = (yes-formed _ _ _ _ (c .before .before .before .before .before .before .pre), (right, (refl, refl), first-covered _ _ _ _ (c .before .before .before .before .before .before .pre) (higher-off _ _ _ _ _ (c .before .before .before .priorities .ensures) (c .before .before .entry-at .ensures) (c .before .if1 .left)) (c .if2 .taken)))
 
 returns-2 : tie.Need-returns-2
 unfolding kindNumber eitherWay
-returns-2 c = reasoned-first (c .before .before .before .before .before .before .before .args .book .now) (c .before .before .before .before .before .before .before .args .p) (c .before .before .before .before .before .before .before .args .i) (c .before .before .before .before .before .before .before .args .q) (c .before .before .before .before .before .before .before .args .chain .now) (c .before .before .before .before .before .before .before .pre) (higher-off (c .before .before .before .before .before .before .before .args .book .now) (c .before .before .before .before .priorities .result) (c .before .before .before .before .before .before .before .args .p) (c .before .before .before .before .before .before .before .args .q) (c .before .before .before .entry-at .result) (c .before .before .before .before .priorities .ensures) (c .before .before .before .entry-at .ensures) (c .before .before .if1 .left)) (c .lowest .result) (c .before .if2 .taken) (c .lowest .ensures right (refl, refl))
+returns-2 c = reasoned-first _ _ _ _ _ (c .before .before .before .before .before .before .before .pre) (higher-off _ _ _ _ _ (c .before .before .before .before .priorities .ensures) (c .before .before .before .entry-at .ensures) (c .before .before .if1 .left)) (c .lowest .result) (c .before .if2 .taken) (c .lowest .ensures right (refl, refl))
 
 lowest-requires-2 : tie.Need-lowest-requires-2
 unfolding kindNumber eitherWay
-lowest-requires-2 c κs = (yes-formed (c .before .before .before .before .before .before .args .book .now) (c .before .before .before .before .before .before .args .p) (c .before .before .before .before .before .before .args .i) (c .before .before .before .before .before .before .args .q) (c .before .before .before .before .before .before .args .chain .now) (c .before .before .before .before .before .before .pre), (left, (refl, refl), last-covered (c .before .before .before .before .before .before .args .book .now) (c .before .before .before .before .before .before .args .p) (c .before .before .before .before .before .before .args .i) (c .before .before .before .before .before .before .args .q) (c .before .before .before .before .before .before .args .chain .now) (c .before .before .before .before .before .before .pre) (higher-off (c .before .before .before .before .before .before .args .book .now) (c .before .before .before .priorities .result) (c .before .before .before .before .before .before .args .p) (c .before .before .before .before .before .before .args .q) (c .before .before .entry-at .result) (c .before .before .before .priorities .ensures) (c .before .before .entry-at .ensures) (c .before .if1 .left)) (c .if2 .left)))
+lowest-requires-2 c κs = (yes-formed _ _ _ _ (c .before .before .before .before .before .before .pre), (left, (refl, refl), last-covered _ _ _ _ (c .before .before .before .before .before .before .pre) (higher-off _ _ _ _ _ (c .before .before .before .priorities .ensures) (c .before .before .entry-at .ensures) (c .before .if1 .left)) (c .if2 .left)))
 
 returns-3 : tie.Need-returns-3
 unfolding kindNumber eitherWay
-returns-3 c = reasoned-last (c .before .before .before .before .before .before .before .args .book .now) (c .before .before .before .before .before .before .before .args .p) (c .before .before .before .before .before .before .before .args .i) (c .before .before .before .before .before .before .before .args .q) (c .before .before .before .before .before .before .before .args .chain .now) (c .before .before .before .before .before .before .before .pre) (higher-off (c .before .before .before .before .before .before .before .args .book .now) (c .before .before .before .before .priorities .result) (c .before .before .before .before .before .before .before .args .p) (c .before .before .before .before .before .before .before .args .q) (c .before .before .before .entry-at .result) (c .before .before .before .before .priorities .ensures) (c .before .before .before .entry-at .ensures) (c .before .before .if1 .left)) (c .lowest2 .result) (c .before .if2 .left) (c .lowest2 .ensures left (refl, refl))
+returns-3 c = reasoned-last _ _ _ _ _ (c .before .before .before .before .before .before .before .pre) (higher-off _ _ _ _ _ (c .before .before .before .before .priorities .ensures) (c .before .before .before .entry-at .ensures) (c .before .before .if1 .left)) (c .lowest2 .result) (c .before .if2 .left) (c .lowest2 .ensures left (refl, refl))
 
 pub behind-spec : {M : Type 1} → statement M
 behind-spec =

@@ -38,31 +38,37 @@ loop-holds : tie.Need-loop-holds Inv-loop μ-loop
 loop-holds c k side e l = absurd (omega arith)
 
 read-declaration-requires : tie.Need-read-declaration-requires Inv-loop μ-loop
-read-declaration-requires c κs = (c .before .before .before .pre .0, (further (c .before .before .before .args .book .now) (c .before .before .before .args .kind) (c .before .before .before .args .p) (c .before .before .before .args .q) (c .before .before .before .pre .1) (c .loop .d) (c .loop .inv), c .before .declaration-at .ensures))
+read-declaration-requires c κs = (c .before .before .before .pre .0, (further _ _ _ _ (c .before .before .before .pre .1) _ (c .loop .inv), c .before .declaration-at .ensures))
 
 covers-side-requires : tie.Need-covers-side-requires Inv-loop μ-loop
 covers-side-requires c κs = search needs
 
 add-d : tie.Need-add-d Inv-loop μ-loop
-add-d c = let more = further (c .before .before .before .before .before .before .args .book .now) (c .before .before .before .before .before .before .args .kind) (c .before .before .before .before .before .before .args .p) (c .before .before .before .before .before .before .args .q) (c .before .before .before .before .before .before .pre .1) (c .before .before .before .loop .d) (c .before .before .before .loop .inv) in omega (arith, more, c .before .before .before .before .before .shared-slice-known .given 3)
+add-d c = let more = further _ _ _ _ (c .before .before .before .before .before .before .pre .1) _ (c .before .before .before .loop .inv) in omega (arith, more, c .before .before .before .before .before .shared-slice-known .given 3)
 
 loop-less : tie.Need-loop-less Inv-loop μ-loop
-loop-less c = let more = further (c .before .before .before .before .before .before .args .book .now) (c .before .before .before .before .before .before .args .kind) (c .before .before .before .before .before .before .args .p) (c .before .before .before .before .before .before .args .q) (c .before .before .before .before .before .before .pre .1) (c .before .before .before .loop .d) (c .before .before .before .loop .inv) in omega (arith, more)
+loop-less c = let more = further _ _ _ _ (c .before .before .before .before .before .before .pre .1) _ (c .before .before .before .loop .inv) in omega (arith, more)
 
 loop-again : tie.Need-loop-again Inv-loop μ-loop
 loop-again c k side e l =
     let start = c .before .before .before .before .before .before in
-    let b = start .args .book .now in
-    let d = c .before .before .before .loop .d in
-    elim (ℕ-discrete e d) [
-      | yes same ↦ ap (coversSide b k (start .args .p) (start .args .q)) same ∙ tested b k (start .args .p) (start .args .q) d (c .before .before .read-declaration .result) (c .before .covers-side .result) (c .before .before .read-declaration .ensures .0) (c .before .covers-side .ensures k side) ∙ not-true (c .before .covers-side .result) (c .if1 .taken)
+    let test = c .before .covers-side in
+    elim (ℕ-discrete e (c .before .before .before .loop .d)) [
+      | yes same ↦ ap (coversSide (start .args .book .now) k (start .args .p) (start .args .q)) same
+          ∙ tested _ _ _ _ _ _ _ (c .before .before .read-declaration .ensures .0) (test .ensures k side)
+          ∙ not-true (test .result) (c .if1 .taken)
       | no other ↦ c .before .before .before .loop .inv k side e (omega arith)
     ]
 
 returns : tie.Need-returns Inv-loop μ-loop
 returns c k side =
-    let start = c .before .before .before .before .before .before in
-    record { there = further (c .before .before .before .before .before .before .args .book .now) (c .before .before .before .before .before .before .args .kind) (c .before .before .before .before .before .before .args .p) (c .before .before .before .before .before .before .args .q) (c .before .before .before .before .before .before .pre .1) (c .before .before .before .loop .d) (c .before .before .before .loop .inv); covering = tested (start .args .book .now) k (start .args .p) (start .args .q) (c .before .before .before .loop .d) (c .before .before .read-declaration .result) (c .before .covers-side .result) (c .before .before .read-declaration .ensures .0) (c .before .covers-side .ensures k side) ∙ not-false (c .before .covers-side .result) (c .if1 .left); lower = c .before .before .before .loop .inv k side }
+    let turn = c .before .before .before .loop in
+    let test = c .before .covers-side in
+    record {
+      there = further _ _ _ _ (c .before .before .before .before .before .before .pre .1) _ (turn .inv);
+      covering = tested _ _ _ _ _ _ _ (c .before .before .read-declaration .ensures .0) (test .ensures k side) ∙ not-false (test .result) (c .if1 .left);
+      lower = turn .inv k side;
+    }
 
 pub lowest-spec : {M : Type 1} → statement M
 lowest-spec =

@@ -21,7 +21,7 @@ enum-known-plain : tie.Need-enum-known-plain
 enum-known-plain c = search needs
 
 returns : tie.Need-returns
-returns c = reasoned-free (c .before .before .before .before .before .args .book .now) (c .before .before .before .before .before .args .p) (c .before .before .before .before .before .args .i) (c .before .before .before .before .before .args .q) (c .before .before .before .before .before .args .chain .now) (sym (c .before .before .conflict .ensures) ∙ c .enum-told .given .1)
+returns c = reasoned-free _ _ _ _ _ (sym (c .before .before .conflict .ensures) ∙ c .enum-told .given .1)
 
 same-length : tie.Need-same-length
 same-length c = search needs
@@ -30,7 +30,7 @@ returns-2 : tie.Need-returns-2
 returns-2 c = search needs
 
 returns-3 : tie.Need-returns-3
-returns-3 c = reasoned-refused (c .before .before .before .before .before .before .args .book .now) (c .before .before .before .before .before .before .args .p) (c .before .before .before .before .before .before .args .i) (c .before .before .before .before .before .before .args .q) (c .before .before .before .before .before .before .args .chain .now) _ _ (sym (c .before .before .before .conflict .ensures) ∙ c .before .plain .given .1)
+returns-3 c = reasoned-refused _ _ _ _ _ _ _ (sym (c .before .before .before .conflict .ensures) ∙ c .before .plain .given .1)
 
 pub reason-spec : {M : Type 1} → statement M
 reason-spec =

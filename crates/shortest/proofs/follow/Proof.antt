@@ -64,20 +64,25 @@ shared-slice-read-out : tie.Need-shared-slice-read-out Inv-loop μ-loop
 shared-slice-read-out c = omega (arith, c .before .before .before .before .before .loop .inv .there, c .before .before .before .before .before .before .before .before .before .pre .1 .0)
 
 slice-write-out : tie.Need-slice-write-out Inv-loop μ-loop
-slice-write-out c = going (c .before .before .before .before .before .loop .k) (c .before .before .before .before .before .before .before .before .before .args .count) (length (c .before .before .before .before .before .loop .out)) (c .before .before .before .before .both .result) (c .before .before .before .before .both .ensures) (c .before .before .before .if1 .taken) .1
+slice-write-out c = going _ _ _ _ (c .before .before .before .before .both .ensures) (c .before .before .before .if1 .taken) .1
 
 read-declaration-requires : tie.Need-read-declaration-requires Inv-loop μ-loop
 read-declaration-requires c κs =
     let start = c .before .before .before .before .before .before .before .before .before in
     let turn = c .before .before .before .before .before .loop in
-    let says = start .pre .1 .2 (turn .k) (going (c .before .before .before .before .before .loop .k) (c .before .before .before .before .before .before .before .before .before .args .count) (length (c .before .before .before .before .before .loop .out)) (c .before .before .before .before .both .result) (c .before .before .before .before .both .ensures) (c .before .before .before .if1 .taken) .0) in
+    let says = start .pre .1 .2 (turn .k) (going _ _ _ _ (c .before .before .before .before .both .ensures) (c .before .before .before .if1 .taken) .0) in
     (start .pre .0 .0, (omega (arith, says .there, c .before .wide .ensures, ap (onwardFrom (start .args .next .now)) (turn .inv .here)), start .pre .0 .1))
 
 add-k : tie.Need-add-k Inv-loop μ-loop
-add-k c = let more = going (c .before .before .before .before .before .before .loop .k) (c .before .before .before .before .before .before .before .before .before .before .args .count) (length (c .before .before .before .before .before .before .loop .out)) (c .before .before .before .before .before .both .result) (c .before .before .before .before .before .both .ensures) (c .before .before .before .before .if1 .taken) in omega (arith, more, c .before .before .before .before .before .before .before .before .before .before .fits .count)
+add-k c =
+    let start = c .before .before .before .before .before .before .before .before .before .before in
+    let more : c .before .before .before .before .before .before .loop .k < start .args .count = going _ _ _ _ (c .before .before .before .before .before .both .ensures) (c .before .before .before .before .if1 .taken) .0 in
+    omega (arith, more, start .fits .count)
 
 loop-less : tie.Need-loop-less Inv-loop μ-loop
-loop-less c = let more = going (c .before .before .before .before .before .before .loop .k) (c .before .before .before .before .before .before .before .before .before .before .args .count) (length (c .before .before .before .before .before .before .loop .out)) (c .before .before .before .before .before .both .result) (c .before .before .before .before .before .both .ensures) (c .before .before .before .before .if1 .taken) .0 in omega (arith, more)
+loop-less c =
+    let more : c .before .before .before .before .before .before .loop .k < c .before .before .before .before .before .before .before .before .before .before .args .count = going _ _ _ _ (c .before .before .before .before .before .both .ensures) (c .before .before .before .before .if1 .taken) .0 in
+    omega (arith, more)
 
 loop-again : tie.Need-loop-again Inv-loop μ-loop
 unfolding declarationOf reached
@@ -88,7 +93,7 @@ loop-again c =
     let next = start .args .next .now in
     let p = start .args .p in
     let count = start .args .count in
-    let more = going (c .before .before .before .before .before .before .loop .k) (c .before .before .before .before .before .before .before .before .before .before .args .count) (length (c .before .before .before .before .before .before .loop .out)) (c .before .before .before .before .before .both .result) (c .before .before .before .before .before .both .ensures) (c .before .before .before .before .if1 .taken) in
+    let more = going _ _ _ _ (c .before .before .before .before .before .both .ensures) (c .before .before .before .before .if1 .taken) in
     record {
       written = filled-more (Entry (way b next p count)) 0 (start .args .out .now) (turn .k) (turn .out) (onwardFrom next (turn .x)) (omega (arith, more .1, turn .inv .written .long)) (turn .inv .written)
           (ap (onwardFrom next) (turn .inv .here) ∙ sym (getD-tabulate count (λ k. onwardFrom next (reached b next p k)) (turn .k) 0 (more .0)));

@@ -96,10 +96,24 @@ loop-again c =
     test-made (start .args .k) (turn .distance) l (c .before .before .both .result) (c .before .both2 .result) (omega (arith, hf, turn .inv .distances)) (omega (arith, hs, turn .inv .distances))
     (c .before .before .both .ensures) (c .before .both2 .ensures)
     ∙ ap (leadsBack (start .args .k) (turn .distance)) own in
+    let k = start .args .k in
     ⊎-elim
-    (λ u. let (says, new, at) = test-new b (start .args .k) (turn .distance) (turn .d) few (sym on ∙ u .0 .taken) in
-    rw (u .1, u .2) (record { distances = length-set (turn .distance) (l .first) (start .args .k + 1) ∙ turn .inv .distances; nexts = length-set (turn .next) (l .first) (turn .d) ∙ turn .inv .nexts; within = omega arith; midway = λ y r. rw same (round-finds b y (start .args .k) (turn .distance) (turn .next) (turn .d) (turn .inv .midway y r) (first b (turn .d)) (second b (turn .d)) says (omega (arith, hf, same)) (start .pre .0 .2) new at) }))
-    (λ u. rw (u .1, u .2) (record { distances = turn .inv .distances; nexts = turn .inv .nexts; within = omega arith; midway = λ y r. round-passes b y (start .args .k) (turn .distance) (turn .next) (turn .d) (turn .inv .midway y r) (test-old b (start .args .k) (turn .distance) (turn .d) (sym on ∙ u .0 .left)) }))
+    (λ u. let (says, new, at) = test-new b k (turn .distance) (turn .d) few (sym on ∙ u .0 .taken) in
+    rw (u .1, u .2)
+    (record {
+      distances = length-set (turn .distance) (l .first) (k + 1) ∙ turn .inv .distances;
+      nexts = length-set (turn .next) (l .first) (turn .d) ∙ turn .inv .nexts;
+      within = omega arith;
+      midway = λ y r. rw same
+          (round-finds b y k (turn .distance) (turn .next) (turn .d) (turn .inv .midway y r) (first b (turn .d)) (second b (turn .d)) says (omega (arith, hf, same)) (start .pre .0 .2) new at);
+    }))
+    (λ u. rw (u .1, u .2)
+    (record {
+      distances = turn .inv .distances;
+      nexts = turn .inv .nexts;
+      within = omega arith;
+      midway = λ y r. round-passes b y k (turn .distance) (turn .next) (turn .d) (turn .inv .midway y r) (test-old b k (turn .distance) (turn .d) (sym on ∙ u .0 .left));
+    }))
     (c .if1 .came)
 
 same-length : tie.Need-same-length Inv-loop μ-loop

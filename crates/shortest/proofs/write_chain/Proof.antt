@@ -52,19 +52,19 @@ declaration-at-requires : tie.Need-declaration-at-requires Inv-loop μ-loop
 declaration-at-requires c κs = let start = c .before .before in (bodies-in (start .args .book .now) (accepted-formed (start .args .book .now) (start .pre .0) .framed), omega arith)
 
 mul-distance : tie.Need-mul-distance Inv-loop μ-loop
-mul-distance c = let known = there (c .before .before .before .args .book .now) (c .before .before .before .args .p) (c .before .before .before .args .q) (c .before .before .before .pre .0) (c .before .before .before .pre .1) in omega (arith, known)
+mul-distance c = let known = there _ _ _ (c .before .before .before .pre .0) (c .before .before .before .pre .1) in omega (arith, known)
 
 array-write-distance : tie.Need-array-write-distance Inv-loop μ-loop
-array-write-distance c = there (c .before .before .before .args .book .now) (c .before .before .before .args .p) (c .before .before .before .args .q) (c .before .before .before .pre .0) (c .before .before .before .pre .1) .1
+array-write-distance c = there _ _ _ (c .before .before .before .pre .0) (c .before .before .before .pre .1) .1
 
 loop-holds : tie.Need-loop-holds Inv-loop μ-loop
-loop-holds c = let start = c .before .before .before in (rounds-none (start .args .book .now) (start .args .q) (there (c .before .before .before .args .book .now) (c .before .before .before .args .p) (c .before .before .before .args .q) (c .before .before .before .pre .0) (c .before .before .before .pre .1) .1), omega arith)
+loop-holds c = let start = c .before .before .before in (rounds-none (start .args .book .now) (start .args .q) (there _ _ _ (c .before .before .before .pre .0) (c .before .before .before .pre .1) .1), omega arith)
 
 mul-loop : tie.Need-mul-loop Inv-loop μ-loop
-mul-loop c = let known = there (c .before .before .before .before .args .book .now) (c .before .before .before .before .args .p) (c .before .before .before .before .args .q) (c .before .before .before .before .pre .0) (c .before .before .before .before .pre .1) in omega (arith, known)
+mul-loop c = let known = there _ _ _ (c .before .before .before .before .pre .0) (c .before .before .before .before .pre .1) in omega (arith, known)
 
 array-read-loop : tie.Need-array-read-loop Inv-loop μ-loop
-array-read-loop c = there (c .before .before .before .before .args .book .now) (c .before .before .before .before .args .p) (c .before .before .before .before .args .q) (c .before .before .before .before .pre .0) (c .before .before .before .before .pre .1) .0
+array-read-loop c = there _ _ _ (c .before .before .before .before .pre .0) (c .before .before .before .before .pre .1) .0
 
 slice-aggregate-round : tie.Need-slice-aggregate-round Inv-loop μ-loop
 slice-aggregate-round c = sym (c .before .before .loop .inv .0 .sound .distances)
@@ -74,25 +74,34 @@ slice-aggregate-round-2 c = sym (c .before .before .before .loop .inv .0 .sound 
 
 round-requires : tie.Need-round-requires Inv-loop μ-loop
 round-requires c κs =
-    let start = c .before .before .before .before .before .before .before in (
-      (accepted-formed (start .args .book .now) (start .pre .0), c .before .before .before .before .declaration-at .ensures, still (c .before .before .before .before .before .before .before .args .book .now) (c .before .before .before .before .before .before .before .args .p) (c .before .before .before .before .before .before .before .args .q) (c .before .before .before .before .before .before .before .pre .0) (c .before .before .before .before .before .before .before .pre .1) (c .before .before .before .loop .k) (c .before .before .before .loop .distance) (c .before .before .before .loop .next) (c .before .before .before .loop .inv .0) (c .before .before .loop-test .taken)),
-      (c .before .before .before .loop .inv .0 .sound .distances, c .before .before .before .loop .inv .0 .sound .nexts),
+    let start = c .before .before .before .before .before .before .before in
+    let rounds = c .before .before .before .loop .inv .0 in (
+      (accepted-formed (start .args .book .now) (start .pre .0), c .before .before .before .before .declaration-at .ensures, still _ _ _ (start .pre .0) (start .pre .1) _ _ _ (c .before .before .before .loop .inv .0) (c .before .before .loop-test .taken)),
+      (rounds .sound .distances, rounds .sound .nexts),
     )
 
 add-k : tie.Need-add-k Inv-loop μ-loop
-add-k c = let more = still (c .before .before .before .before .before .before .before .before .before .before .args .book .now) (c .before .before .before .before .before .before .before .before .before .before .args .p) (c .before .before .before .before .before .before .before .before .before .before .args .q) (c .before .before .before .before .before .before .before .before .before .before .pre .0) (c .before .before .before .before .before .before .before .before .before .before .pre .1) (c .before .before .before .before .before .before .loop .k) (c .before .before .before .before .before .before .loop .distance) (c .before .before .before .before .before .before .loop .next) (c .before .before .before .before .before .before .loop .inv .0) (c .before .before .before .before .before .loop-test .taken) in omega (arith, more)
+add-k c =
+    let start = c .before .before .before .before .before .before .before .before .before .before in
+    let more : c .before .before .before .before .before .before .loop .k + 1 < far = still _ _ _ (start .pre .0) (start .pre .1) _ _ _ (c .before .before .before .before .before .before .loop .inv .0) (c .before .before .before .before .before .loop-test .taken) in
+    omega (arith, more)
 
 loop-less : tie.Need-loop-less Inv-loop μ-loop
-loop-less c = let more = still (c .before .before .before .before .before .before .before .before .before .before .args .book .now) (c .before .before .before .before .before .before .before .before .before .before .args .p) (c .before .before .before .before .before .before .before .before .before .before .args .q) (c .before .before .before .before .before .before .before .before .before .before .pre .0) (c .before .before .before .before .before .before .before .before .before .before .pre .1) (c .before .before .before .before .before .before .loop .k) (c .before .before .before .before .before .before .loop .distance) (c .before .before .before .before .before .before .loop .next) (c .before .before .before .before .before .before .loop .inv .0) (c .before .before .before .before .before .loop-test .taken) in omega (arith, more)
+loop-less c =
+    let start = c .before .before .before .before .before .before .before .before .before .before in
+    let more : c .before .before .before .before .before .before .loop .k + 1 < far = still _ _ _ (start .pre .0) (start .pre .1) _ _ _ (c .before .before .before .before .before .before .loop .inv .0) (c .before .before .before .before .before .loop-test .taken) in
+    omega (arith, more)
 
 loop-again : tie.Need-loop-again Inv-loop μ-loop
-loop-again c = (c .before .before .round .ensures (c .before .before .before .before .before .before .before .before .before .before .args .q) (c .before .before .before .before .before .before .loop .inv .0), still (c .before .before .before .before .before .before .before .before .before .before .args .book .now) (c .before .before .before .before .before .before .before .before .before .before .args .p) (c .before .before .before .before .before .before .before .before .before .before .args .q) (c .before .before .before .before .before .before .before .before .before .before .pre .0) (c .before .before .before .before .before .before .before .before .before .before .pre .1) (c .before .before .before .before .before .before .loop .k) (c .before .before .before .before .before .before .loop .distance) (c .before .before .before .before .before .before .loop .next) (c .before .before .before .before .before .before .loop .inv .0) (c .before .before .before .before .before .loop-test .taken))
+loop-again c =
+    let start = c .before .before .before .before .before .before .before .before .before .before in
+    (c .before .before .round .ensures (start .args .q) (c .before .before .before .before .before .before .loop .inv .0), still _ _ _ (start .pre .0) (start .pre .1) _ _ _ (c .before .before .before .before .before .before .loop .inv .0) (c .before .before .before .before .before .loop-test .taken))
 
 mul-count : tie.Need-mul-count Inv-loop μ-loop
-mul-count c = let known = there (c .before .before .before .before .before .args .book .now) (c .before .before .before .before .before .args .p) (c .before .before .before .before .before .args .q) (c .before .before .before .before .before .pre .0) (c .before .before .before .before .before .pre .1) in omega (arith, known)
+mul-count c = let known = there _ _ _ (c .before .before .before .before .before .pre .0) (c .before .before .before .before .before .pre .1) in omega (arith, known)
 
 array-read-count : tie.Need-array-read-count Inv-loop μ-loop
-array-read-count c = there (c .before .before .before .before .before .args .book .now) (c .before .before .before .before .before .args .p) (c .before .before .before .before .before .args .q) (c .before .before .before .before .before .pre .0) (c .before .before .before .before .before .pre .1) .0
+array-read-count c = there _ _ _ (c .before .before .before .before .before .pre .0) (c .before .before .before .before .before .pre .1) .0
 
 slice-aggregate-follow : tie.Need-slice-aggregate-follow Inv-loop μ-loop
 slice-aggregate-follow c = sym (c .before .before .loop .inv .0 .sound .nexts)
@@ -101,7 +110,7 @@ follow-requires : tie.Need-follow-requires Inv-loop μ-loop
 follow-requires c κs =
     let start = c .before .before .before .before .before .before .before in (
       (accepted-formed (start .args .book .now) (start .pre .0), c .before .before .before .before .declaration-at .ensures),
-      (c .before .before .before .loop .inv .0 .sound .nexts, there (c .before .before .before .before .before .before .before .args .book .now) (c .before .before .before .before .before .before .before .args .p) (c .before .before .before .before .before .before .before .args .q) (c .before .before .before .before .before .before .before .pre .0) (c .before .before .before .before .before .before .before .pre .1) .0, found (c .before .before .before .before .before .before .before .args .book .now) (c .before .before .before .before .before .before .before .args .p) (c .before .before .before .before .before .before .before .args .q) (c .before .before .before .before .before .before .before .pre .0) (c .before .before .before .before .before .before .before .pre .1) (c .before .before .before .loop .k) (c .before .before .before .loop .distance) (c .before .before .before .loop .next) (c .before .before .before .loop .inv .0) (c .before .before .before .loop .inv .1) (c .before .before .loop-test .left) .0),
+      (c .before .before .before .loop .inv .0 .sound .nexts, there _ _ _ (start .pre .0) (start .pre .1) .0, found _ _ _ (start .pre .0) (start .pre .1) _ _ _ (c .before .before .before .loop .inv .0) (c .before .before .before .loop .inv .1) (c .before .before .loop-test .left) .0),
     )
 
 same-length : tie.Need-same-length Inv-loop μ-loop
@@ -110,9 +119,10 @@ same-length c = search needs
 returns : tie.Need-returns Inv-loop μ-loop
 returns c =
     let start = c .before .before .before .before .before .before .before .before .before .before in
-    let (steps, shortest, long) = found (c .before .before .before .before .before .before .before .before .before .before .args .book .now) (c .before .before .before .before .before .before .before .before .before .before .args .p) (c .before .before .before .before .before .before .before .before .before .before .args .q) (c .before .before .before .before .before .before .before .before .before .before .pre .0) (c .before .before .before .before .before .before .before .before .before .before .pre .1) (c .before .before .before .before .before .before .loop .k) (c .before .before .before .before .before .before .loop .distance) (c .before .before .before .before .before .before .loop .next) (c .before .before .before .before .before .before .loop .inv .0) (c .before .before .before .before .before .before .loop .inv .1) (c .before .before .before .before .before .loop-test .left) in
+    let turn = c .before .before .before .before .before .before .loop in
+    let (steps, shortest, long) = found _ _ _ (start .pre .0) (start .pre .1) _ _ _ (c .before .before .before .before .before .before .loop .inv .0) (c .before .before .before .before .before .before .loop .inv .1) (c .before .before .before .before .before .loop-test .left) in
     record {
-      chain = way (start .args .book .now) (c .before .before .before .before .before .before .loop .next) (start .args .p) (getD (c .before .before .before .before .before .before .loop .distance) (start .args .p) 0);
+      chain = way (start .args .book .now) (turn .next) (start .args .p) (getD (turn .distance) (start .args .p) 0);
       shortest = shortest;
       isLength = long;
       isWritten = c .before .before .follow .ensures;

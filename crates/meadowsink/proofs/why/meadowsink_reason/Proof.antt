@@ -11,10 +11,10 @@ reason-requires : tie.Need-reason-requires
 reason-requires c κs = search needs
 
 reason-reply-requires : tie.Need-reason-reply-requires
-reason-reply-requires c κs = reason-few (c .before .before .before .before .before .before .args .book .now) (c .before .before .before .before .before .before .args .p) (c .before .before .before .before .before .before .args .i) (c .before .before .before .before .before .before .args .q) (c .before .before .before .before .before .before .args .chain .now) (omega (arith, c .before .before .before .before .before .shared-slice-known .given 3)) (c .before .before .reason .result) _ (c .before .before .reason .ensures)
+reason-reply-requires c κs = reason-few _ _ _ _ _ (omega (arith, c .before .before .before .before .before .shared-slice-known .given 3)) _ _ (c .before .before .reason .ensures)
 
 number-requires : tie.Need-number-requires
-number-requires c κs = rw (c .reason-reply .ensures) (reason-fits (c .before .before .before .before .before .before .before .args .book .now) (c .before .before .before .before .before .before .before .args .p) (c .before .before .before .before .before .before .before .args .i) (c .before .before .before .before .before .before .before .args .q) (c .before .before .before .before .before .before .before .args .chain .now) (omega (arith, c .before .before .before .before .before .before .shared-slice-known .given 3)) (c .before .before .before .reason .result) _ (c .before .before .before .reason .ensures))
+number-requires c κs = rw (c .reason-reply .ensures) (reason-fits _ _ _ _ _ (omega (arith, c .before .before .before .before .before .before .shared-slice-known .given 3)) _ _ (c .before .before .before .reason .ensures))
 
 same-length : tie.Need-same-length
 same-length c = search needs
