@@ -1,4 +1,6 @@
 // The operation "reading by a flat text" (02, [7]): the parses of a text by a written character class grammar (01's flat book) alone.
+#![tactic(auto)]
+
 ghost use Rattle.std.specs.Prelude.{◌≡◌};
 ghost use Rattle.ccg.specs.Tables.{table_grammar};
 ghost use Rattle.grammar.specs.declared.Verdict.TheVariants.{Accepted};

@@ -1,5 +1,7 @@
 // The written form of a character class grammar. What does not fit the buffer is dropped and still counted, so a first pass over an empty buffer
 // gives the length.
+#![tactic(auto)]
+
 ghost use Rattle.std.specs.Prelude.{◌≡◌, ◌∷◌, ◌+◌, ◌-◌, ◌<◌, ◌≤◌, length};
 ghost use Rattle.layout.specs.Limits.{production_limit};
 ghost use Rattle.theory.specs.Tree.{production_number};

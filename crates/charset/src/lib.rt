@@ -1,5 +1,7 @@
 // Character classes: a set of bytes in four 64-bit words, and its normal ranges.
 // (01, "The book": a class of characters is a set of bytes held as one record.)
+#![tactic(auto)]
+
 ghost use Rattle.std.specs.Prelude.{◌≡◌, false, ◌||◌, ℕ, ◌+◌, ◌-◌, ◌/◌, ◌%◌, ◌<◌, ◌≤◌, min, length, get_or};
 ghost use Rattle.charset.specs.Set.{characters, word_bits, set_words, bit, has, in_range, spans, same_bits, same_set};
 ghost use Rattle.charset.specs.Runs.{runs, first_run};
@@ -11,13 +13,13 @@ pub const CHARACTERS: usize = 256;
 // How many words hold a set of characters.
 pub const SET_WORDS: usize = 4;
 
-#[derive(Drop)]
+#[derive(Clone, Copy)]
 pub struct CharSet {
     pub words: [u64; SET_WORDS],
 }
 
 // What reading the normal ranges one after the other finds.
-#[derive(Drop)]
+#[derive(Clone, Copy)]
 pub enum NextRun {
     // The next range, its ends included.
     Run(usize, usize),

@@ -1,4 +1,6 @@
 // The character classes of a grammar, as sets.
+#![tactic(auto)]
+
 pub mod canonical;
 
 ghost use Rattle.std.specs.Prelude.{◌≡◌, ◌<◌};

@@ -1,4 +1,6 @@
 // A column of the chart: the sums of splits for its spans, by row and start, and what is stored of a span once it is settled.
+#![tactic(auto)]
+
 ghost use Rattle.std.specs.Prelude.{◌≡◌, ◌&&◌, ℕ, ◌+◌, ◌*◌, ◌<◌, ◌≤◌, eqb, length, get_or};
 ghost use Rattle.common.specs.Below.{bit_of};
 ghost use Rattle.common.specs.Region.{Region};

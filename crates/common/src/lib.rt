@@ -1,4 +1,6 @@
 // What the crates above share: two tests in one, bytes as numbers, copying words, and definitions and laws of lists, sums and tests over the numbers below a bound.
+#![tactic(auto)]
+
 ghost use Rattle.std.specs.Prelude.{◌≡◌, ◌&&◌, ◌||◌, ℕ, ◌+◌, ◌<◌, ◌≤◌, length, get_or};
 ghost use Rattle.common.specs.Bytes.{number_at};
 ghost use Rattle.common.specs.Region.{Region};

@@ -1,4 +1,6 @@
 // Which of two parses of a text is lower (02, [9], "Which of two readings is lower"), as their listings give them.
+#![tactic(auto)]
+
 ghost use Rattle.std.specs.Prelude.{◌≡◌, [], ◌∷◌, ℕ, ◌<◌};
 ghost use Rattle.compare.specs.Answer.{found_right, not_right, compare_lines, Compared};
 ghost use Rattle.compare.specs.Uses.{uses};
@@ -20,7 +22,7 @@ use priority::check_grammar;
 use tables::{FIRST_PRODUCTION, zero_tables};
 
 // What comparing two parses gives.
-#[derive(Drop)]
+#[derive(Clone, Copy)]
 pub enum CompareAnswer {
     // How the first stands to the second.
     Ordered(Order),

@@ -1,5 +1,7 @@
 // Asks the conflict question for each grammar of its input and prints the answers, a line each.
 // A case is two fields: the grammar, and three bytes for production p, argument i and production q.
+#![tactic(auto)]
+
 ghost use Rattle.std.specs.Prelude.{◌≤◌, length};
 
 use common::wide;

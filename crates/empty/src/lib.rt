@@ -1,5 +1,7 @@
 // The empty span, settled once for all places. At it the split at the start and the split at the end are one: a cell is the product of the cell before it and
 // the next argument. The arguments are held fixed while the cells are settled, and taken up again until they stay.
+#![tactic(auto)]
+
 ghost use Rattle.std.specs.Prelude.{◌≡◌, Bool, List, ℕ, ◌≤◌, length, get_or};
 ghost use Rattle.common.specs.Zeros.{AllZero};
 ghost use Rattle.chart.specs.Layout.{row_limit};

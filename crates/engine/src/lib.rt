@@ -1,4 +1,6 @@
 // Parses a text by the flat tables, whichever grammar they come from; and the refusals of a text and of its chart.
+#![tactic(auto)]
+
 ghost use Rattle.std.specs.Prelude.{◌≡◌, ◌<◌, ◌≤◌, length};
 ghost use Rattle.common.specs.Below.{sum_below};
 ghost use Rattle.common.specs.Bytes.{byte_values};
@@ -20,7 +22,7 @@ use prepare::{prepare, zero_prepared};
 use tables::{ROOT_SLOT, argument_count, production_count, takes_production};
 
 // What parsing a text gives.
-#[derive(Drop)]
+#[derive(Clone, Copy)]
 pub enum Answer {
     // No parse.
     None,

@@ -1,5 +1,7 @@
 // Writes the listing of the only tree that a filled chart counts. The chart says where each argument ends and which production stands there;
 // a stack of levels says what is written. No walk is longer than the buffer.
+#![tactic(auto)]
+
 ghost use Rattle.std.specs.Prelude.{◌≡◌, true, ◌&&◌, ◌↔◌, ◌+◌, ◌-◌, ◌*◌, ◌<◌, ◌≤◌, eqb, leb, length, get_or};
 ghost use Rattle.theory.specs.Tree.{Tree};
 ghost use Rattle.theory.specs.Grammar.{Stands};
@@ -18,7 +20,7 @@ use numbers::put_number;
 use tables::{FIRST_PRODUCTION, argument_count, production_count, takes_char, takes_production};
 
 // What writing has come to.
-#[derive(Drop)]
+#[derive(Clone, Copy)]
 pub struct Progress {
     // How many levels are open.
     pub levels: usize,

@@ -1,4 +1,6 @@
 // Fills a chart: columns rising, in each the starts falling, so that every span inside one is done before it.
+#![tactic(auto)]
+
 ghost use Rattle.std.specs.Prelude.{◌≡◌, not, ◌&&◌, eqb, ℕ, ◌+◌, ◌*◌, ◌<◌, ◌≤◌, length, get_or};
 ghost use Rattle.common.specs.Zeros.{AllZero};
 ghost use Rattle.tables.specs.Layout.{ParserTables};
@@ -96,7 +98,7 @@ fn char_args(text: &[u8], tables: &[u64], prepared: &[u8], i: usize, j: usize, a
 }
 
 // A part of the text.
-#[derive(Drop)]
+#[derive(Clone, Copy)]
 struct Span {
     start: usize,
     end: usize,

@@ -1,4 +1,6 @@
 // Reads a grammar (01's book) from standard input and prints its character class grammar (01's flat book), or why it is refused.
+#![tactic(auto)]
+
 use flatten::write_flat;
 use libc::STDIN_FILENO;
 use report::{print_refusal, print_start};

@@ -1,5 +1,7 @@
 // Writes the character class grammar of each grammar of its input and prints it, or why it is refused.
 // A case is two fields: the grammar, and two bytes with the length of the buffer, low byte first.
+#![tactic(auto)]
+
 ghost use Rattle.std.specs.Prelude.{◌≤◌, length};
 
 use common::two_bytes;

@@ -1,4 +1,6 @@
 // The character class grammar of a grammar (01's flat book): the operation that writes it, and its tables.
+#![tactic(auto)]
+
 ghost use Rattle.std.specs.Prelude.{◌≡◌, not, ◌&&◌, ◌||◌, ℕ, ◌+◌, ◌-◌, ◌<◌, eqb, leb, length};
 ghost use Rattle.charset.specs.Set.{characters, has};
 ghost use Rattle.classes.specs.Classes.{is_class, class_has};

@@ -1,4 +1,6 @@
 // The written form of a character class grammar (01's flat book), byte by byte: where in it a text is, and whether some text of the form goes on from there.
+#![tactic(auto)]
+
 ghost use Rattle.std.specs.Prelude.{◌≡◌, true, ◌-◌, ◌*◌, ◌<◌, ◌≤◌};
 ghost use Rattle.ccg.specs.Text.{number_limit};
 ghost use Rattle.common.specs.Below.{between};
@@ -21,7 +23,7 @@ const LAST_NUMBER: usize = FIRST_PRODUCTION + PRODUCTION_LIMIT - 1;
 const ENDING_LENGTH: usize = 10;
 
 // Where in a line a text is.
-#[derive(Drop)]
+#[derive(Clone, Copy)]
 pub enum Spot {
     // An argument or the line's end begins here.
     Between,
@@ -41,7 +43,7 @@ pub enum Spot {
     Stuck,
 }
 
-#[derive(Drop)]
+#[derive(Clone, Copy)]
 pub struct State {
     // How many lines are complete, and how many arguments of the next.
     pub line: usize,

@@ -1,8 +1,10 @@
 // The check of a grammar's bytes (01's book): refusals 1 to 8.
+#![tactic(auto)]
+
 pub mod check;
 
 // What checking a grammar gives.
-#[derive(Drop)]
+#[derive(Clone, Copy)]
 pub enum Verdict {
     Accepted,
     // The refusal's number and its place.

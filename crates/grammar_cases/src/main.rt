@@ -1,4 +1,6 @@
 // Checks each grammar of its input and prints the verdicts, a line each.
+#![tactic(auto)]
+
 use grammar::Verdict;
 use libc::{STDIN_FILENO, STDOUT_FILENO};
 use priority::check_grammar;

@@ -1,4 +1,6 @@
 // Where each part of a grammar stands among its bytes, and what it says.
+#![tactic(auto)]
+
 pub mod limits;
 
 ghost use Rattle.std.specs.Prelude.{◌≡◌, ◌<◌, ◌≤◌, length};

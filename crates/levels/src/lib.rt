@@ -1,5 +1,7 @@
 // The stack of levels while a tree is written: a level for each production whose arguments are not all written.
 // Its bytes are its production, how many of its arguments are written, and the places where they begin and end.
+#![tactic(auto)]
+
 ghost use Rattle.std.specs.Prelude.{◌≡◌, ℕ, ◌+◌, ◌*◌, ◌<◌, ◌≤◌, length, set};
 ghost use Rattle.chart.specs.Layout.{text_limit};
 ghost use Rattle.common.specs.Region.{Region};
@@ -15,7 +17,7 @@ pub const ENDS: usize = ARGUMENT_LIMIT + 1;
 pub const LEVEL: usize = ENDS + 2;
 
 // What comes next at a level: an argument of a production, and its part of the text.
-#[derive(Drop)]
+#[derive(Clone, Copy)]
 pub struct Due {
     pub production: usize,
     pub argument: usize,

@@ -1,4 +1,6 @@
 // The lines of a page: for each row its numbers in columns, and the first bytes of its text.
+#![tactic(auto)]
+
 ghost use Rattle.std.specs.Prelude.{◌≡◌, ℕ, ◌+◌, ◌≤◌, ◌<◌, length, get_or};
 ghost use Rattle.common.specs.Lists.{tabulate};
 ghost use Rattle.numbers.specs.Numbers.{listing_limit, numbers_of};

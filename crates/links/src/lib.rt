@@ -1,5 +1,7 @@
 // Turns the classes of the flat tables round: for each production, the rows that take it as their next argument (its users), and the productions that have
 // such a row (its uses). Eight productions go together: an octet of a class has a bit for each of them, and bit b of all octets is a row of users.
+#![tactic(auto)]
+
 ghost use Rattle.std.specs.Prelude.{◌≡◌, ℕ, ◌+◌, ◌*◌, ◌<◌, ◌≤◌, min, length, get_or};
 ghost use Rattle.common.specs.Below.{bit_of};
 ghost use Rattle.common.specs.Region.{Region};

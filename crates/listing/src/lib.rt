@@ -1,4 +1,6 @@
 // The operation "checking a listing": whether numbers are the listing of a parse of a text, and if not, where they go wrong.
+#![tactic(auto)]
+
 ghost use Rattle.std.specs.Prelude.{◌≡◌, ◌&&◌, List, [], ◌∷◌, ◌-◌, ◌<◌, ◌≤◌, ltb, leb, length, drop};
 ghost use Rattle.grammar.specs.Formed.{WellFormed};
 ghost use Rattle.grammar.specs.Verdict.{in_order, unless_refused};
@@ -30,7 +32,7 @@ use tables::{
 const BYTE_LIMIT: usize = 2 * LISTING_LIMIT;
 
 // What checking a listing gives.
-#[derive(Drop)]
+#[derive(Clone, Copy)]
 pub enum ListingAnswer {
     // It is the listing of a parse of the text.
     Right,
@@ -41,7 +43,7 @@ pub enum ListingAnswer {
 }
 
 // What the walk over a part of a listing gives.
-#[derive(Drop)]
+#[derive(Clone, Copy)]
 pub enum Part {
     // The part is complete: the index of the next number, and the next place in the text.
     Complete(usize, usize),

@@ -1,5 +1,7 @@
 // Checks each listing of its input and prints the answers, a line each.
 // A case is three fields: the grammar, the text and the listing.
+#![tactic(auto)]
+
 ghost use Rattle.std.specs.Prelude.{◌≤◌, length};
 
 use libc::{STDIN_FILENO, STDOUT_FILENO};

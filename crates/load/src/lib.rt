@@ -1,4 +1,6 @@
 // A flat text (01's flat book, written) is read into tables, byte by byte; and the operation "checking a flat text" (02, [7]).
+#![tactic(auto)]
+
 ghost use Rattle.std.specs.Prelude.{◌≡◌, true, ◌+◌, ◌≤◌, ◌<◌, length};
 ghost use Rattle.ccg.specs.Tables.{table_class, table_line, table_grammar};
 ghost use Rattle.ccg.specs.Text.{number_limit};
@@ -22,7 +24,7 @@ use tables::{
 };
 
 // What checking a flat text gives.
-#[derive(Drop)]
+#[derive(Clone, Copy)]
 pub enum FlatAnswer {
     // How many lines there are.
     Lines(usize),

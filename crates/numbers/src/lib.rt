@@ -1,4 +1,6 @@
 // A listing's numbers as bytes: two a number, the low one first.
+#![tactic(auto)]
+
 ghost use Rattle.std.specs.Prelude.{◌≡◌, [], ◌∷◌, ◌+◌, ◌*◌, ◌<◌, ◌≤◌, length, get_or};
 ghost use Rattle.common.specs.Bytes.{byte_values};
 ghost use Rattle.numbers.specs.Numbers.{numbers_of};

@@ -1,4 +1,6 @@
 // Which of two parses is lower, by how often they use each production (02, [9]): the one that does with fewer uses of the highest productions.
+#![tactic(auto)]
+
 ghost use Rattle.std.specs.Prelude.{◌≡◌, true, false, ◌↔◌, ℕ, ◌≤◌, get_or};
 ghost use Rattle.grammar.specs.Formed.{WellFormed};
 ghost use Rattle.layout.specs.Limits.{production_limit};
@@ -12,7 +14,7 @@ use priority::priorities;
 use relation::{any_true, merged};
 
 // How the first of two parses stands to the second.
-#[derive(Drop)]
+#[derive(Clone, Copy)]
 pub enum Order {
     // It is lower.
     Below,

@@ -1,4 +1,6 @@
 // A parse as a page for the binder, a line for each number of its listing; and the part of the text under a number.
+#![tactic(auto)]
+
 ghost use Rattle.std.specs.Prelude.{◌≡◌};
 ghost use Rattle.listing.specs.Answer.{listing_answer};
 ghost use Rattle.listing.specs.declared.ListingAnswer.TheVariants.{Right};

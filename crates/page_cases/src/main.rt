@@ -2,6 +2,8 @@
 // A case is five fields: the grammar, the text, the listing, the length of the page's buffer and the index, these two as numbers of up to three bytes, low byte first.
 // The buffer is filled with `#` before. Of a page of more than 20 lines the first and the last two are printed; behind a page comes a line with what the buffer
 // has beyond it, behind a refusal one with all that it has. Of a text, a byte outside 32 to 126 is printed as `\` and its number.
+#![tactic(auto)]
+
 ghost use Rattle.std.specs.Prelude.{◌<◌, ◌≤◌, length};
 
 use libc::{STDIN_FILENO, STDOUT_FILENO};

@@ -1,4 +1,6 @@
 // The operation "reading a text": the parses of a text by a grammar.
+#![tactic(auto)]
+
 ghost use Rattle.grammar.specs.Formed.{WellFormed};
 ghost use Rattle.parse.specs.Outcome.{Outcome, AcceptedOutcome};
 

@@ -1,5 +1,7 @@
 // What is prepared once for the flat tables and serves every text, as one array of bytes: which rows take a production (users), which productions have such a
 // row (uses), how many arguments each production has (counts), and the empty span, its cells and the arguments behind them.
+#![tactic(auto)]
+
 ghost use Rattle.std.specs.Prelude.{◌≡◌, ◌+◌, ◌≤◌, length};
 ghost use Rattle.std.proofs.lemmas.List.Edits.{sets};
 ghost use Rattle.common.specs.Zeros.{AllZero};

@@ -1,4 +1,6 @@
 // Priorities: the pairs that declarations cover, "higher" closed under transitivity, and the whole check of a grammar.
+#![tactic(auto)]
+
 ghost use Rattle.std.specs.Prelude.{◌≡◌, true, false, ◌&&◌, ◌||◌, ◌↔◌, ℕ, ◌<◌, ◌≤◌, get_or};
 ghost use Rattle.common.specs.Below.{any_below, between};
 ghost use Rattle.grammar.specs.Formed.{WellFormed};
@@ -26,7 +28,7 @@ pub const RIGHT: usize = 3;
 pub const NONASSOC: usize = 4;
 
 // A declaration (a line of 01's ranks): its kind's number, and the two productions in the order in which it names them.
-#[derive(Drop)]
+#[derive(Clone, Copy)]
 pub struct Declaration {
     pub kind: usize,
     pub first: usize,

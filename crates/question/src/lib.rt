@@ -1,4 +1,6 @@
 // The conflict question (01's clash question): may production q stand as argument i of production p?
+#![tactic(auto)]
+
 ghost use Rattle.std.specs.Prelude.{◌≡◌, true, cond, ◌↔◌, ℕ, ◌<◌};
 ghost use Rattle.grammar.specs.Formed.{WellFormed};
 ghost use Rattle.layout.specs.Limits.{production_limit};
@@ -14,7 +16,7 @@ use priority::{LEFT, NONASSOC, RIGHT, check_grammar, declared_pairs, priorities}
 use relation::entry_at;
 
 // What the conflict question answers.
-#[derive(Drop)]
+#[derive(Clone, Copy)]
 pub enum ConflictAnswer {
     Yes,
     No,
@@ -23,7 +25,7 @@ pub enum ConflictAnswer {
 }
 
 // What asking over the closed priorities gives: the answer, and the priorities as they were passed.
-#[derive(Drop)]
+#[derive(Clone, Copy)]
 pub struct Asked {
     pub conflict: bool,
     pub higher: [[bool; PRODUCTION_LIMIT]; PRODUCTION_LIMIT],

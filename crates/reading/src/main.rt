@@ -1,5 +1,7 @@
 // Reads a grammar (01's book) from the file `book` and a text from standard input, and prints the answer: none, several, one and the numbers of the listing,
 // or why it is refused.
+#![tactic(auto)]
+
 ghost use Rattle.std.specs.Prelude.{◌+◌, ◌*◌, ◌≤◌, ◌<◌, length};
 
 use common::two_bytes;

@@ -1,4 +1,6 @@
 // Why production q may not stand as argument i of production p (02, [8], "Why it clashes").
+#![tactic(auto)]
+
 ghost use Rattle.std.specs.Prelude.{◌≡◌, ◌||◌};
 ghost use Rattle.common.specs.Below.{between};
 ghost use Rattle.grammar.specs.Formed.{WellFormed};
@@ -17,7 +19,7 @@ use relation::entry_at;
 use shortest::write_chain;
 
 // What the question for the reason answers. The lines are those of 01, "Ranks and clashes"; declarations are counted from 0.
-#[derive(Drop)]
+#[derive(Clone, Copy)]
 pub enum ReasonAnswer {
     // There is no conflict.
     Free,

@@ -1,11 +1,13 @@
 // The input of the programs that run stored cases: fields, each two bytes with its length, low byte first, and then its bytes.
+#![tactic(auto)]
+
 ghost use Rattle.std.specs.Prelude.{◌≡◌, ◌<◌, ◌≤◌, length};
 ghost use Rattle.records.specs.Fields.{field_start, field_end};
 
 use common::{BYTE_VALUES, two_bytes, wide};
 
 // Where a field's bytes start and end.
-#[derive(Drop)]
+#[derive(Clone, Copy)]
 pub struct Field {
     pub start: usize,
     pub end: usize,

@@ -1,4 +1,6 @@
 // A relation between productions as a table of yes-or-no entries, and its closure under transitivity.
+#![tactic(auto)]
+
 ghost use Rattle.std.specs.Prelude.{◌≡◌, true, false, ◌&&◌, ◌||◌, ◌↔◌, ℕ, ◌<◌, ◌≤◌, get_or};
 ghost use Rattle.common.specs.Below.{any_below, between};
 ghost use Rattle.layout.specs.Limits.{production_limit};

@@ -1,4 +1,6 @@
 // The answer of an operation, in the form in which all calls give it. A module to each kind of answer says what it is in this form.
+#![tactic(auto)]
+
 pub mod check;
 pub mod check_flat;
 pub mod check_listing;
@@ -13,7 +15,7 @@ ghost use Rattle.std.specs.Prelude.{◌≡◌};
 ghost use Rattle.reply.specs.Reply.{Fits, answered, refused, number_of, place_of};
 
 // Its kind, its value, and the place of a refusal, 0 for none.
-#[derive(Drop)]
+#[derive(Clone, Copy)]
 pub struct Reply {
     pub kind: usize,
     pub value: usize,

@@ -1,4 +1,6 @@
 // What the programs print. No contract can say what is written, so these are kept thin.
+#![tactic(auto)]
+
 use libc::STDOUT_FILENO;
 
 // The first `length` bytes of a buffer; nothing if it has fewer.

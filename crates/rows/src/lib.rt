@@ -1,4 +1,6 @@
 // The rows of a listing that is right: for each number how deep it stands, and where its text starts and ends.
+#![tactic(auto)]
+
 ghost use Rattle.std.specs.Prelude.{◌≡◌, ◌≤◌, ◌<◌, length, get_or, set};
 ghost use Rattle.numbers.specs.Numbers.{listing_limit, numbers_of};
 ghost use Rattle.theory.specs.Tree.{Tree};
@@ -15,7 +17,7 @@ use tables::FIRST_PRODUCTION;
 pub const PLACES: usize = BYTE_VALUES;
 
 // Where a number of a listing stands: how far below the root; the number; where its text starts, and the index after the text's last byte.
-#[derive(Drop)]
+#[derive(Clone, Copy)]
 pub struct Row {
     pub depth: usize,
     pub number: usize,
@@ -24,7 +26,7 @@ pub struct Row {
 }
 
 // Where numbers and text go on behind a tree.
-#[derive(Drop)]
+#[derive(Clone, Copy)]
 pub struct Next {
     pub number: usize,
     pub byte: usize,

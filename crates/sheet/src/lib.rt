@@ -1,4 +1,6 @@
 // A sheet: each line is read from its own part of it. The operations "a sheet", which writes a summary byte for each line, and "a step down a sheet".
+#![tactic(auto)]
+
 ghost use Rattle.std.specs.Prelude.{◌≡◌, ◌≤◌, ltb, length};
 ghost use Rattle.grammar.specs.Formed.{WellFormed};
 ghost use Rattle.prepare.specs.Prepared.{Prepared};
@@ -24,7 +26,7 @@ const SHEET_LIMIT: usize = 65535;
 const NO_LISTING: usize = 1;
 
 // What a step down a sheet gives.
-#[derive(Drop)]
+#[derive(Clone, Copy)]
 pub enum Step {
     // No line is left.
     End,
@@ -35,7 +37,7 @@ pub enum Step {
 }
 
 // A step, and where the next line starts after it.
-#[derive(Drop)]
+#[derive(Clone, Copy)]
 pub struct Stepped {
     pub step: Step,
     pub next: usize,

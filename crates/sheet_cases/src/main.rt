@@ -1,6 +1,8 @@
 // Reads each sheet of its input and takes a step down it; prints what both answer, and what the buffers hold then.
 // A case is five fields: the grammar, the sheet, the lengths of the chart and of the summary, and the start of the step.
 // Chart and summary are filled with `#` before. Of each the first 12 bytes are printed, a byte outside 32 to 126 as `\` and its number.
+#![tactic(auto)]
+
 ghost use Rattle.std.specs.Prelude.{◌<◌, ◌≤◌, length};
 
 use libc::{STDIN_FILENO, STDOUT_FILENO};

@@ -1,4 +1,6 @@
 // A shortest chain of declarations by which a production is higher than another (02, [8]). The search goes breadth first, back from the lower one.
+#![tactic(auto)]
+
 ghost use Rattle.std.specs.Prelude.{◌≡◌, ◌+◌, ◌<◌, length};
 ghost use Rattle.grammar.specs.Formed.{WellFormed};
 ghost use Rattle.grammar.specs.declared.Verdict.TheVariants.{Accepted};

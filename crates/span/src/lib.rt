@@ -3,6 +3,8 @@
 // `cells` has the cell of each row; there are `rows` of them. `args` has for each row how many trees may stand there as the next argument, over the whole span;
 // `users` says which rows take production q as their next argument, `uses` which productions have such a row.
 // `inner` counts, for each row, the splits within the span; `front` the cells of the empty span at its start; `back` the arguments of the empty span at its end.
+#![tactic(auto)]
+
 ghost use Rattle.std.specs.Prelude.{◌≡◌, ℕ, ◌+◌, ◌*◌, ◌<◌, ◌≤◌, max, length, get_or};
 ghost use Rattle.theory.specs.Steps.{cap};
 ghost use Rattle.layout.specs.Limits.{production_limit};

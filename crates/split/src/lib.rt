@@ -1,4 +1,6 @@
 // The lines of a sheet: where one ends and the next one starts, and how many there are.
+#![tactic(auto)]
+
 ghost use Rattle.std.specs.Prelude.{◌≡◌, suc, min, ◌≤◌, length};
 ghost use Rattle.split.specs.Lines.{lines, goes_on, line_end};
 

@@ -1,5 +1,7 @@
 // The flat tables: a character class grammar (01's flat book) as words in one array, read through one slice. They know nothing of the grammar that they come from.
 // First how many productions there are; then for each how many arguments it has; for each its first row; and a class for each slot.
+#![tactic(auto)]
+
 ghost use Rattle.std.specs.Prelude.{◌≡◌, false, not, ◌&&◌, ℕ, ◌+◌, ◌*◌, ◌/◌, ◌%◌, ◌<◌, ◌≤◌, length, get_or};
 ghost use Rattle.charset.specs.Set.{characters, word_bits, bit, has};
 ghost use Rattle.common.specs.Bytes.{byte_values};
@@ -196,7 +198,7 @@ pub fn add_member(tables: &mut [u64], s: usize, x: usize)
 // ---- sets of productions
 
 // A bit for each production.
-#[derive(Drop)]
+#[derive(Clone, Copy)]
 pub struct ProductionSet {
     pub words: [u64; PRODUCTION_WORDS],
 }

@@ -1,1 +1,2 @@
 // No code: what is proved of the operations, on a page (specs/Theorems.antt).
+#![tactic(auto)]

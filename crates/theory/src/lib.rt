@@ -1,1 +1,2 @@
 // No code: parse trees, what they spell, and their listings.
+#![tactic(auto)]

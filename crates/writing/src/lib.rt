@@ -1,10 +1,12 @@
 // Writing into a lent buffer. What does not fit the buffer is dropped and still counted, so a first pass over an empty buffer gives the length.
+#![tactic(auto)]
+
 ghost use Rattle.std.specs.Prelude.{◌≡◌, [], ◌∷◌, ◌+◌, ◌<◌, ◌≤◌, length};
 ghost use Rattle.writing.specs.Put.{Put, farthest};
 ghost use Rattle.writing.specs.Numeral.{digit_zero, numeral_base, numeral, set_right};
 
 // What writing a text into a lent buffer gives.
-#[derive(Drop)]
+#[derive(Clone, Copy)]
 pub enum WriteAnswer {
     // How many bytes were written, from the buffer's start on.
     Written(usize),

@@ -1,0 +1,18 @@
+-- `result_sort` meets its contract: the byte lies within the bytes.
+use Prim.Native.Nat.{ℕ}
+use mathlib.Core.Path.{◌∙◌, ap}
+use native.Mathlib.Omega.{arith}
+use lib.ListN.{get_or}
+use Rattle.layout.proofs.FramedLaws.{production_in, bodies_in}
+use Rattle.layout.specs.Layout.{result_sort}
+use Rattle.layout.proofs.result.Goals as goal
+
+pub production_at-requires : goal.production_at-requires
+production_at-requires c = record { book_in_bounds = bodies_in c.args.book.now c.requires.framed; p_bound = omega arith }
+
+pub byte_at-requires : goal.byte_at-requires
+byte_at-requires c = omega (arith, c.production_at.ensures, production_in c.args.book.now c.requires.framed c.args.p (omega arith))
+
+pub returns : goal.returns
+unfolding result_sort
+returns c = c.byte_at.ensures ∙ ap (λ (k : ℕ). get_or c.args.book.now (k) 0) c.production_at.ensures
