@@ -61,7 +61,7 @@ loop-k-preserved c =
     let k = at.k in
     let few = class_few b s.requires k (omega (arith, c.class_count-count.ensures)) in
     let held = c.hold_set in
-    (omega arith, omega (arith, c.range_count.ensures, at.invariant.1, class_next b k), held.ensures, filled_more b at.table held.new.0 k c.lowest_same.result few held.ensures c.lowest_same.ensures at.invariant.3)
+    (omega arith, omega (arith, c.range_count.ensures, at.invariant.1, class_next b k), held.ensures, filled_more b at.table held.new.sets k c.lowest_same.result few held.ensures c.lowest_same.ensures at.invariant.3)
 
 pub returns : goal.returns
 returns c =

@@ -19,4 +19,4 @@ returns c =
     let a = s.args in
     let own = c.ranges_set in
     let four : length own.result.words ≡ set_words = search rules in
-    held_more a.book.now own.result.words a.sets-1.now c.put_words.new.0 a.k four own.ensures s.requires.sets_held c.put_words.ensures
+    held_more a.book.now own.result.words a.sets.now c.put_words.new.out a.k four own.ensures s.requires.sets_held c.put_words.ensures
