@@ -1,0 +1,13 @@
+-- `check_argument_counts` meets its contract: no count passed is refused.
+use Prim.Native.Nat.{◌-◌, ◌≤◌}
+use mathlib.Core.Path.{◌≡◌}
+use Rattle.grammar.specs.Check.{bad_argument_count}
+use Rattle.grammar.specs.Verdict.{first_refusal}
+use Rattle.grammar.specs.declared.Verdict.TheVariants.{Accepted}
+use Rattle.grammar.proofs.check.check_argument_counts.Given as goal
+
+abbrev pub invariant-loop-p : goal.invariant-loop-p
+invariant-loop-p l = (l.p ≤ l.count) × (first_refusal l.p (bad_argument_count l.book) ≡ Accepted)
+
+abbrev pub decreases-loop-p : goal.decreases-loop-p
+decreases-loop-p l = l.count - l.p
