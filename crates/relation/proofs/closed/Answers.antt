@@ -1,0 +1,33 @@
+-- `closed` meets its contract: after the turn for a middle, entries are chains through all middles so far.
+use Prim.Native.Nat.{ℕ, ◌-◌}
+use mathlib.Core.Path.{◌≡◌, refl, sym, ◌∙◌, subst}
+use native.Mathlib.Omega.{arith}
+use Rattle.relation.proofs.ChainLaws.{through_next, through_same, through_chain, chain_through}
+use Rattle.relation.specs.Chain.{through}
+use Rattle.relation.specs.Table.{entry}
+use Rattle.relation.proofs.closed.Goals as goal
+use Rattle.relation.proofs.closed.Goals.{then-any_true, else-any_true}
+
+pub loop-middle-init : goal.loop-middle-init
+unfolding through
+loop-middle-init c = ((λ x y. refl), omega arith)
+
+pub loop-middle-preserved : goal.loop-middle-preserved
+unfolding entry
+loop-middle-preserved c =
+    let l = c in
+    let t = l.args.table in
+    let m = l.loop-middle.middle in
+    let i = l.loop-middle.invariant.0 in
+    elim c.if-any_true.branch [
+      | then-any_true w ↦ ((λ x y. rw w.closure-is (w.with_middle.ensures x y ∙ rw (i x y, i x m, i m y) (sym (through_next (entry t) m x y)))), omega arith)
+      | else-any_true w ↦ ((λ x y. rw w.closure-is (i x y ∙ sym (through_same (entry t) m x y (sym (i m y) ∙ c.any_true.ensures.false_value w.if-any_true.false y)))), omega arith)
+    ]
+
+pub returns : goal.returns
+returns c x y =
+    let t = c.args.table in
+    let n = c.args.count in
+    let e : c.loop-middle.middle ≡ n = omega arith in
+    let i = subst (λ (k : ℕ). entry c.loop-middle.closure x y ≡ through (entry t) k x y) e (c.loop-middle.invariant.0 x y) in
+    ((λ h. through_chain (entry t) n x y (sym i ∙ h)), (λ h. i ∙ chain_through (entry t) n c.requires.1 h))
