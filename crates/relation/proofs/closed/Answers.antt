@@ -20,7 +20,7 @@ loop-middle-preserved c =
     let m = l.loop-middle.middle in
     let i = l.loop-middle.invariant.0 in
     elim c.if-any_true.branch [
-      | then-any_true w ↦ ((λ x y. rw w.closure-is (w.with_middle.ensures x y ∙ rw (i x y, i x m, i m y) (sym (through_next (entry t) m x y)))), omega arith)
+      | then-any_true w ↦ ((λ x y. rw w.closure-is (w.with_middle-wider.ensures x y ∙ rw (i x y, i x m, i m y) (sym (through_next (entry t) m x y)))), omega arith)
       | else-any_true w ↦ ((λ x y. rw w.closure-is (i x y ∙ sym (through_same (entry t) m x y (sym (i m y) ∙ c.any_true.ensures.false_value w.if-any_true.false y)))), omega arith)
     ]
 

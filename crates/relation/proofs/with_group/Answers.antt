@@ -13,6 +13,7 @@ use Rattle.common.proofs.FillLaws.{filled_from, filled_more}
 use Rattle.common.specs.Below.{between}
 use Rattle.layout.specs.Limits.{production_limit}
 use Rattle.relation.specs.Table.{entry, Square}
+use Rattle.relation.proofs.with_group.Invariants.{Grouped}
 use Rattle.relation.proofs.with_group.Goals as goal
 
 module _ (t : List (List Bool)) (first second x : ℕ) where

@@ -33,7 +33,7 @@ loop-x-init c = (filled_none (Passes c.args.table c.args.middle) [] c.args.table
 
 pub loop-x-preserved : goal.loop-x-preserved
 unfolding Passes entry
-loop-x-preserved c = let h = c.if-wider-x.branch in ? --
+loop-x-preserved c =
     let l = c in
     let t = l.args.table in
     let m = l.args.middle in
