@@ -155,6 +155,7 @@ module _ (b : List ℕ) where
           refusal7 (bad_group d l (and_first_true (is_group (kind b d)) (ltb (second b d) (first b d)) t) (ltb-true (second b d) (first b d) (and_second_true (is_group (kind b d)) (ltb (second b d) (first b d)) t))),
           lower7 (declaration_at b d + 1) (declarations_lower d (declaration_at b d + 1) pass (omega arith) (λ h. refuse_accepted _ 7 (declaration_at b d) a) (λ h. absurd (omega arith))),
         ))
+    by_declaration d l pass (there a (there c (there s (there _ n)))) = elim n [ ]
 
     bad_declaration_lem : {n k : ℕ} → bad_declarations b ≡ Refused n k → Given b 5 n k
     unfolding bad_declaration declaration_bytes

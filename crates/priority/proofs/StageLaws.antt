@@ -126,6 +126,7 @@ module _ (b : List ℕ) where
   by_header (there s (there p (there c (there a (here e))))) =
       refuse_case (Given 1) (ltb 0 (byte_at b 5)) 2 5 e
       (λ t. (refusal2 (bad_last (ltb-true 0 (byte_at b 5) t)), λ m j l h. header_below 5 (omega arith) (λ x. refuse_accepted _ 2 0 s) (λ x. refuse_accepted _ 2 1 p) (λ x. refuse_accepted _ 2 2 c) (λ x. refuse_accepted _ 2 4 a) (never 5 5 (omega arith)) j l h.1))
+  by_header (there s (there p (there c (there a (there _ n))))) = elim n [ ]
 
   pub given2 : {n k : ℕ} → stage 1 ≡ Refused n k → Given 1 n k
   unfolding bad_header header_bytes

@@ -21,6 +21,7 @@ use Rattle.priority.specs.Priorities.{higher, kind_number, said_kind, declared_i
 use Rattle.priority.specs.declared.Declaration.{Declaration}
 use Rattle.priority.proofs.declared_pairs.Invariants.{Taken}
 use Rattle.priority.proofs.declared_pairs.Goals as goal
+use Rattle.priority.proofs.declared_pairs.Goals.{then-both, else-both}
 
 -- a group of the grammar rises
 rise : (b : List ℕ) → WellFormed b → (d : ℕ) → d < declarations b → (l : Declaration) → l ≡ declaration_of b d → is_group l.kind ≡ true → l.first ≤ l.second
@@ -115,10 +116,10 @@ loop-d-preserved c =
       pairs = λ k k' i i'. pairs_more production_limit d (declaration_of b) l own t turn.invariant.square sf ss rises k k' (turn.invariant.pairs k k' i i') written turned v w
           (ew ∙ ap₂ (λ (m n : ℕ). eqb (said_kind l.kind) m || eqb (said_kind l.kind) n) i i') et either2.ensures either3.ensures wider e;
     } in
-    ⊎_elim
-    (λ u. rw u.2 (next u.1.result u.1.ensures.0 (λ x y. group_on t₂ u.1.result l.first l.second (written && is_group l.kind) x y (sym on ∙ u.0.taken) (u.1.ensures.1 x y))))
-    (λ u. rw u.1 (next t₂ square (λ x y. group_off t₂ t₂ l.first l.second (written && is_group l.kind) x y (sym on ∙ u.0.left))))
-    c.if-both.branch
+    elim c.if-both.branch [
+      | then-both u ↦ rw u.table-is (next u.with_group-wider.result u.with_group-wider.ensures.square (λ x y. group_on t₂ u.with_group-wider.result l.first l.second (written && is_group l.kind) x y (sym on ∙ u.if-both.true) (u.with_group-wider.ensures.with_group x y)))
+      | else-both u ↦ rw u.table-is (next t₂ square (λ x y. group_off t₂ t₂ l.first l.second (written && is_group l.kind) x y (sym on ∙ u.if-both.false)))
+    ]
 
 pub returns : goal.returns
 unfolding declarations_of
