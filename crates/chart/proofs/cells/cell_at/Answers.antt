@@ -1,0 +1,23 @@
+-- `cell_at` meets its contract: no part of the sum is more than the whole, which is small.
+use Prim.Native.Nat.{ℕ, ◌*◌}
+use mathlib.Core.Path.{ap}
+use native.Mathlib.Omega.{arith}
+use Rattle.chart.proofs.LayoutLaws.{cell_few}
+use Rattle.chart.specs.Layout.{cell_at}
+use Rattle.chart.proofs.cells.cell_at.Goals as goal
+
+pub overflow_mul-result : goal.overflow_mul-result
+unfolding cell_at
+overflow_mul-result c = omega (arith, ap (λ (s : ℕ). c.args.row * s) c.span_count.ensures, cell_few c.args.n c.args.row c.args.i c.args.j c.requires.0 c.requires.1 c.requires.2 c.requires.3)
+
+pub overflow_add-result : goal.overflow_add-result
+unfolding cell_at
+overflow_add-result c = omega (arith, ap (λ (s : ℕ). c.args.row * s) c.span_count.ensures, cell_few c.args.n c.args.row c.args.i c.args.j c.requires.0 c.requires.1 c.requires.2 c.requires.3)
+
+pub overflow_add-result-2 : goal.overflow_add-result-2
+unfolding cell_at
+overflow_add-result-2 c = omega (arith, ap (λ (s : ℕ). c.args.row * s) c.span_count.ensures, cell_few c.args.n c.args.row c.args.i c.args.j c.requires.0 c.requires.1 c.requires.2 c.requires.3)
+
+pub returns : goal.returns
+unfolding cell_at
+returns c = omega (arith, ap (λ (s : ℕ). c.args.row * s) c.span_count.ensures)
