@@ -4,10 +4,16 @@ use mathlib.Core.Path.{◌≡◌, ◌∙◌, subst}
 use native.Mathlib.Omega.{arith}
 use lib.ListN.{length, take, drop}
 use Rattle.flatten.proofs.TableLaws.{has_result, written_none}
+use Rattle.layout.proofs.FramedLaws.{bodies_in}
 use Rattle.layout.specs.Layout.{productions, start_sort}
 use Rattle.layout.specs.Limits.{header_length}
 use Rattle.tables.specs.Put.{CountsPut}
 use Rattle.flatten.proofs.write_counts_and_root.Goals as goal
+
+pub slice_bounds-put_counts-end : goal.slice_bounds-put_counts-end
+slice_bounds-put_counts-end c =
+    let start = c in
+    omega (arith, c.production_count-count.ensures, bodies_in start.args.book.now start.requires.well_formed.framed)
 
 pub returns : goal.returns
 returns c =

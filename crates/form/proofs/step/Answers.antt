@@ -5,10 +5,10 @@ use Rattle.form.specs.Step.{state, SmallSpot, step_at}
 use Rattle.form.proofs.step.Goals as goal
 
 pub in_number-requires : goal.in_number-requires
-in_number-requires c = small_number _ _ _ _ _ c.requires.spot-1 c.in_number.is
+in_number-requires c = small_number _ _ _ _ _ c.requires.spot c.in-Number.is
 
 pub in_ending-requires : goal.in_ending-requires
-in_ending-requires c = small_ending _ _ _ c.requires.spot-1 c.in_ending.is
+in_ending-requires c = small_ending _ _ _ c.requires.spot c.in-Ending.is
 
 pub returns-in-Between : goal.returns-in-Between
 unfolding step_at SmallSpot
@@ -26,7 +26,7 @@ pub returns-in-Number : goal.returns-in-Number
 unfolding step_at SmallSpot
 returns-in-Number c =
     let start = c in
-    c.at-in-Number.ensures ∙ rw c.in_number.is (ap (state start.args.state.line start.args.state.argument) c.in_number.ensures)
+    c.at-in-Number.ensures ∙ rw c.in-Number.is (ap (state start.args.state.line start.args.state.argument) c.in_number.ensures)
 
 pub returns-in-Dash : goal.returns-in-Dash
 unfolding step_at SmallSpot

@@ -53,7 +53,7 @@ loop-q-preserved c =
     let these = l.args.these in
     let q = l.loop-q.q in
     elim c.if-these-q.branch [
-      | then-these-q w ↦ (omega arith, λ p. rw w.lower-is (joined higher these q p w.if-these-q.true _ _ (l.loop-q.invariant.1 p) (w.merged.ensures p)))
+      | then-these-q w ↦ (omega arith, λ p. rw w.lower-is (joined higher these q p w.if-these-q.true _ _ (l.loop-q.invariant.1 p) (w.merged-wider.ensures p)))
       | else-these-q w ↦ (
         omega arith,
         λ p. rw w.lower-is (

@@ -1,0 +1,76 @@
+-- `check_line` meets its contract: none of the arguments passed has such a number.
+use Prim.Native.Nat.{ℕ, ◌+◌, ◌-◌, ◌*◌, ◌<◌}
+use mathlib.Core.Path.{sym, ◌∙◌, ap}
+use native.Mathlib.Omega.{arith}
+use lib.ListN.{length}
+use Rattle.ccg.specs.Tables.{table_class, table_line}
+use Rattle.grammar.proofs.VerdictLaws.{first_none, first_more, first_found, first_done}
+use Rattle.layout.specs.Limits.{argument_limit}
+use Rattle.load.proofs.AbsentLaws.{argument_slot, line_arguments}
+use Rattle.load.specs.Absent.{absent_in, absent_in_argument, absent_in_line}
+use Rattle.tables.proofs.LayoutLaws.{counts_few}
+use Rattle.tables.specs.Layout.{counts_of, arity_in}
+use Rattle.load.proofs.check_line.Goals as goal
+
+pub production_count-count-requires : goal.production_count-count-requires
+production_count-count-requires c = c.requires.0
+
+pub argument_count-arguments-requires : goal.argument_count-arguments-requires
+argument_count-arguments-requires c = c.requires
+
+pub loop-i-init : goal.loop-i-init
+loop-i-init c = (omega arith, first_none _)
+
+pub overflow_mul-p : goal.overflow_mul-p
+overflow_mul-p c =
+    let start = c in
+    let t = start.args.tables.now in
+    omega (arith, c.argument_count-arguments.ensures, start.requires.0.few_arguments start.args.p, counts_few t start.requires.0, start.requires.1)
+
+pub overflow_add-p : goal.overflow_add-p
+overflow_add-p c =
+    let start = c in
+    let t = start.args.tables.now in
+    omega (arith, c.argument_count-arguments.ensures, start.requires.0.few_arguments start.args.p, counts_few t start.requires.0, start.requires.1)
+
+pub check_class-found-requires : goal.check_class-found-requires
+check_class-found-requires c =
+    let start = c in
+    let t = start.args.tables.now in (
+      start.requires.0.long,
+      omega (arith, c.argument_count-arguments.ensures, start.requires.0.few_arguments start.args.p, counts_few t start.requires.0, start.requires.1),
+      omega (arith, c.production_count-count.ensures, counts_few t start.requires.0),
+    )
+
+pub returns-in_default : goal.returns-in_default
+unfolding absent_in_line
+returns-in_default c =
+    let start = c in
+    let turn = c.loop-i in
+    let t = start.args.tables.now in
+    let count = c.production_count-count.ensures in
+    let less : turn.i < arity_in (counts_of t) start.args.p = omega (arith, c.argument_count-arguments.ensures) in
+    let found = c.check_class-found.ensures ∙ ap (λ (n : ℕ). absent_in n (table_class t (start.args.p * argument_limit + turn.i))) count ∙ sym (argument_slot t (length (counts_of t)) start.args.p turn.i less) in
+    let told = c.in_default.is in
+    told ∙ sym (first_found (absent_in_argument (length (counts_of t)) (table_line t start.args.p)) turn.i _ _ _ (omega (arith, less, line_arguments t start.args.p)) turn.invariant.1 (sym found ∙ told))
+
+pub overflow_add-i : goal.overflow_add-i
+overflow_add-i c =
+    let start = c in
+    omega (arith, c.argument_count-arguments.ensures, start.requires.0.few_arguments start.args.p)
+
+pub loop-i-preserved : goal.loop-i-preserved
+loop-i-preserved c =
+    let start = c in
+    let turn = c.loop-i in
+    let t = start.args.tables.now in
+    let count = c.production_count-count.ensures in
+    let less : turn.i < arity_in (counts_of t) start.args.p = omega (arith, c.argument_count-arguments.ensures) in
+    let found = c.check_class-found.ensures ∙ ap (λ (n : ℕ). absent_in n (table_class t (start.args.p * argument_limit + turn.i))) count ∙ sym (argument_slot t (length (counts_of t)) start.args.p turn.i less) in
+    (omega arith, first_more (absent_in_argument (length (counts_of t)) (table_line t start.args.p)) turn.i turn.invariant.1 (sym found ∙ c.in-Accepted.is))
+
+pub returns : goal.returns
+unfolding absent_in_line
+returns c =
+    let start = c in
+    first_done _ _ _ c.loop-i.invariant.1 (omega (arith, c.argument_count-arguments.ensures, line_arguments start.args.tables.now start.args.p))

@@ -1,0 +1,16 @@
+-- `check_line` meets its contract: none of the arguments passed has such a number.
+use Prim.Native.Nat.{◌-◌, ◌≤◌}
+use mathlib.Core.Path.{◌≡◌}
+use lib.ListN.{length}
+use Rattle.ccg.specs.Tables.{table_line}
+use Rattle.grammar.specs.Verdict.{first_refusal}
+use Rattle.grammar.specs.declared.Verdict.TheVariants.{Accepted}
+use Rattle.load.specs.Absent.{absent_in_argument}
+use Rattle.tables.specs.Layout.{counts_of}
+use Rattle.load.proofs.check_line.Given as goal
+
+abbrev pub invariant-loop-i : goal.invariant-loop-i
+invariant-loop-i l = (l.i ≤ l.arguments) × (first_refusal l.i (absent_in_argument (length (counts_of l.tables)) (table_line l.tables l.p)) ≡ Accepted)
+
+abbrev pub decreases-loop-i : goal.decreases-loop-i
+decreases-loop-i l = l.arguments - l.i

@@ -1,0 +1,14 @@
+-- `check_names` meets its contract: none of the lines passed has such a number.
+use Prim.Native.Nat.{◌-◌, ◌≤◌}
+use mathlib.Core.Path.{◌≡◌}
+use Rattle.ccg.specs.Tables.{table_grammar}
+use Rattle.grammar.specs.Verdict.{first_refusal}
+use Rattle.grammar.specs.declared.Verdict.TheVariants.{Accepted}
+use Rattle.load.specs.Absent.{absent_in_line_at}
+use Rattle.load.proofs.check_names.Given as goal
+
+abbrev pub invariant-loop-p : goal.invariant-loop-p
+invariant-loop-p l = (l.p ≤ l.count) × (first_refusal l.p (absent_in_line_at (table_grammar l.tables)) ≡ Accepted)
+
+abbrev pub decreases-loop-p : goal.decreases-loop-p
+decreases-loop-p l = l.count - l.p
