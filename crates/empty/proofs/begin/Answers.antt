@@ -31,7 +31,7 @@ pub slice_bounds-spread-end : goal.slice_bounds-spread-end
 slice_bounds-spread-end c = omega (arith, c.requires.by_index.1.users_long, c.requires.by_index.1.few_productions)
 
 pub spread-requires : goal.spread-requires
-spread-requires c = record { args_len = (c.loop-p.invariant.0.args_long, omega (arith, c.spread-arg-in-loop-p-1.given.2)); rows_le_row_limit = part_outside c.requires.by_index.1 c.loop-p.p c.args.rows c.loop-p-test.true c.requires.all_zero.2; by_index = begun_fits c.requires.by_index.1 c.loop-p-test.true c.loop-p.invariant.0 }
+spread-requires c = record { args_len = (c.loop-p.invariant.0.args_long, omega arith); rows_le_row_limit = part_outside c.requires.by_index.1 c.loop-p.p c.args.rows c.loop-p-test.true c.requires.all_zero.2; by_index = begun_fits c.requires.by_index.1 c.loop-p-test.true c.loop-p.invariant.0 }
 
 pub overflow_add-base : goal.overflow_add-base
 overflow_add-base c = omega (arith, c.requires.by_index.1.few_arguments c.loop-p.p, c.wide.ensures)
