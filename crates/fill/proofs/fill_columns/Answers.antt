@@ -30,4 +30,7 @@ pub shape_of-live : goal.shape_of-live
 shape_of-live c = c.loop-j.invariant.live_long
 
 pub returns : goal.returns
-returns c = let within = c.loop-j.invariant.within in columns_all c.loop-j.chart c.loop-j.sums c.loop-j.live c.loop-j.j (omega arith) c.loop-j.invariant
+returns c =
+    let within = c.loop-j.invariant.within in
+    let both = columns_all c.loop-j.chart c.loop-j.sums c.loop-j.live c.loop-j.j (omega arith) c.loop-j.invariant in
+    record { onward = both.0; small_cells = both.1 }

@@ -47,7 +47,7 @@ add_splits-requires c = let start = c in
     let few = table_rows_few start.args.tables.now start.requires.ready.fits.tables in
     let x = settle-span.new.cells in
     let args = settle-span.new.args in
-    let cells = cells_small start.args.tables.now start.args.prepared.now start.args.text.now start.args.chart.now start.args.sums.now start.args.live.now row_count.result start.args.span.start start.args.span.end row_count.ensures start.requires.ready start.requires.start_lt_end.0 start.requires.start_lt_end.1 c.sums_at.new.out char-args.new.args zero-cells.result x args store_cells.new.chart zero-cells.ensures settle-span.ensures store_cells.ensures start.requires.small.cells-1 in record { n_le_text_limit = (start.requires.ready.fits.short, omega (arith, row_count.ensures), omega (arith, start.requires.start_lt_end.0, start.requires.start_lt_end.1), settle-span.auto.args ∙ char-args.auto.args ∙ c.zero_row-args.ensures.long); n_in_bounds = (omega (arith, start.requires.ready.fits.long_enough, store_cells.auto.chart, ap (λ (n : ℕ). n * span_count (length start.args.text.now)) row_count.ensures), start.requires.ready.sums_long, start.requires.ready.live_long); by_index = ((λ r k lr lk. start.requires.small.little.small_sums r k (omega (arith, row_count.ensures)) (omega (arith, start.requires.start_lt_end.0))), (λ r k lr lk. cells.small_cells r k start.args.span.start (omega (arith, row_count.ensures)) lk (omega (arith, start.requires.start_lt_end.0)))) }
+    let cells = cells_small start.args.tables.now start.args.prepared.now start.args.text.now start.args.chart.now start.args.sums.now start.args.live.now row_count.result start.args.span.start start.args.span.end row_count.ensures start.requires.ready start.requires.start_lt_end.0 start.requires.start_lt_end.1 c.sums_at.new.out char-args.new.args zero-cells.result x args store_cells.new.chart zero-cells.ensures settle-span.ensures store_cells.ensures start.requires.small.cells in record { n_le_text_limit = (start.requires.ready.fits.short, omega (arith, row_count.ensures), omega (arith, start.requires.start_lt_end.0, start.requires.start_lt_end.1), settle-span.auto.args ∙ char-args.auto.args ∙ c.zero_row-args.ensures.long); n_in_bounds = (omega (arith, start.requires.ready.fits.long_enough, store_cells.auto.chart, ap (λ (n : ℕ). n * span_count (length start.args.text.now)) row_count.ensures), start.requires.ready.sums_long, start.requires.ready.live_long); by_index = ((λ r k lr lk. start.requires.small.little.small_sums r k (omega (arith, row_count.ensures)) (omega (arith, start.requires.start_lt_end.0))), (λ r k lr lk. cells.small_cells r k start.args.span.start (omega (arith, row_count.ensures)) lk (omega (arith, start.requires.start_lt_end.0)))) }
 
 pub returns : goal.returns
 returns c = let start = c in
