@@ -96,18 +96,21 @@ module _ (g : List Line) (roots : List Bool) (w c₀ : List ℕ) where
   by_name n k (there a (here e)) is = inr (a, refused_lowest g roots k (subst (λ (m : ℕ). absent_in (length g) (root_class roots) ≡ Rejected m k) is e))
   by_name n k (there a (there b (here e))) is = absurd (omega (arith, (text_long w e).0))
   by_name n k (there a (there b (there c (here e)))) is = absurd (omega (arith, (chart_short need c₀ e).0))
+  by_name n k (there a (there b (there c (there _ e)))) is = elim e [ ]
 
   by_ten : (n k : ℕ) → FirstIn refusals n k → n ≡ 10 → AllThere g roots × (text_limit < length w) × (k ≡ length w)
   by_ten n k (here e) is = absurd (omega (arith, names_number g n k e))
   by_ten n k (there a (here e)) is = absurd (omega (arith, class_number (length g) (root_class roots) n k e))
   by_ten n k (there a (there b (here e))) is = let h = text_long w e in (all_there a b, h.1, h.2)
   by_ten n k (there a (there b (there c (here e)))) is = absurd (omega (arith, (chart_short need c₀ e).0))
+  by_ten n k (there a (there b (there c (there _ e)))) is = elim e [ ]
 
   by_twenty : (n k : ℕ) → FirstIn refusals n k → n ≡ 20 → AllThere g roots × (length w ≤ text_limit) × (k ≡ need) × (length c₀ < k)
   by_twenty n k (here e) is = absurd (omega (arith, names_number g n k e))
   by_twenty n k (there a (here e)) is = absurd (omega (arith, class_number (length g) (root_class roots) n k e))
   by_twenty n k (there a (there b (here e))) is = absurd (omega (arith, (text_long w e).0))
   by_twenty n k (there a (there b (there c (here e)))) is = let h = chart_short need c₀ e in (all_there a b, text_short w c, h.1, h.2)
+  by_twenty n k (there a (there b (there c (there _ e)))) is = elim e [ ]
 
   abbrev verdict : Verdict
   verdict = flat_refusal g roots w c₀

@@ -33,6 +33,7 @@ module _ (g : List Line) (roots : List Bool) (w c₀ : List ℕ) where
   first_number n k (there a (here e)) = inl (class_number (length g) (root_class roots) n k e)
   first_number n k (there a (there b (here e))) = refuse_case (λ m j. Numbers m) (ltb text_limit (length w)) 10 (length w) e (λ t. inr (inl refl))
   first_number n k (there a (there b (there c (here e)))) = refuse_case (λ m j. Numbers m) (ltb (length c₀) need) 20 need e (λ t. inr (inr refl))
+  first_number n k (there a (there b (there c (there _ e)))) = elim e [ ]
 
   pub flat_numbers : (n k : ℕ) → flat_refusal g roots w c₀ ≡ Refused n k → Numbers n
   unfolding flat_refusal

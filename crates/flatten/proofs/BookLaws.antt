@@ -31,7 +31,7 @@ module _ (b : List ℕ) (formed : WellFormed b) (bytes : (k : ℕ) → get_or b 
   sub_test : (p d q : ℕ) → p < productions b → d < argument_count b p → q < productions b → takes_production t (slot p d) q ≡ may_stand b p d q
   sub_test p d q lp ld lq = tables.productions_are p d q lp ld (omega (arith, formed.framed.few_productions)) ∙ rw (lt-ltb q (productions b) lq) refl
 
-  -- at the root if its result_sort is the start sort
+  -- at the root if its result is the start sort
   root_test : (q : ℕ) → q < productions b → takes_production t root_slot q ≡ eqb (result_sort b q) (start_sort b)
   root_test q l = tables.roots_are q (omega (arith, formed.framed.few_productions)) ∙ rw (lt-ltb q (productions b) l) refl
 

@@ -20,11 +20,11 @@ use Rattle.priority.specs.Conflict.{conflicts}
 use Rattle.theory.specs.Tree.{Tree, leaf, node, Forest, production_number}
 
 module _ (b : List ℕ) (w : WellFormed b) (bytes : (k : ℕ) → get_or b k 0 < characters) (cc : Class) (p : ℕ) (f : Forest) where
-  -- the number of a production that is there is in the class of its result_sort
+  -- the number of a production that is there is in the class of its result
   own_class : p < productions b → plain_class b (result_sort b p) (production_number p) ≡ true
   own_class l = plain_production b w (result_sort b p) p l refl
 
-  -- A tree of any class with a production at its root is built at that production's result_sort without a conflict, and back.
+  -- A tree of any class with a production at its root is built at that production's result without a conflict, and back.
   pub flat_any : Generated (flat_grammar b) cc (node p f) ↔ ((cc (production_number p) ≡ true) × Built b (result_sort b p) (node p f) × ConflictFree b (node p f))
   unfolding Generated Built
   flat_any = (

@@ -126,7 +126,7 @@ module _ (b : List ℕ) (w : WellFormed b) where
       plain_of_sort b x n c ∙ and_both (is_production b n) (eqb (result_sort b q) x) number (eq-eqb (result_sort b q) x (sym same)))
       (true_or_false (is_class b x))
 
-  -- a production with the right result_sort that doesn't conflict is in the argument's class
+  -- a production with the right result that doesn't conflict is in the argument's class
   pub flat_production : (p i q : ℕ) → q < productions b → result_sort b q ≡ argument b p i → conflicts b p i q ≡ false → flat_class b p i (production_number q) ≡ true
   unfolding may_stand_in
   flat_production p i q l e free =

@@ -81,7 +81,7 @@ results_none b =
       are = λ x q lx lq. ap (λ (v : ℕ). bit v (q % word_bits)) (get_or-replicate result_words (x * production_words + q / word_bits) 0 0 (omega arith)) ∙ bit_zero (q % word_bits) ∙ sym (rw (le-ltb q 0 (omega arith)) refl);
     }
 
--- one production more, with result_sort y: its bit is set
+-- one production more, with result y: its bit is set
 module _ (b : List ℕ) (n y : ℕ) (sets : List ℕ) (r : ByResult b n sets) (ln : n < production_limit) (ly : y < sort_limit) (is : y ≡ result_sort b n) where
   abbrev word : ℕ
   word = y * production_words + n / word_bits

@@ -57,10 +57,10 @@ module _ (b : List ℕ) (p : ℕ) (f : Forest) where
   free_node : AllFree b p f → ConflictFree b (node p f)
   free_node all = conflict_free_node (free_root all) (λ k t at. (all k t at).0)
 
--- ---- what may stand as an argument: a production with the right result_sort that isn't in a conflict there
+-- ---- what may stand as an argument: a production with the right result that isn't in a conflict there
 
 module _ (b : List ℕ) (formed : WellFormed b) (p d q : ℕ) where
-  -- it has the right result_sort
+  -- it has the right result
   may_result : q < productions b → may_stand b p d q ≡ true → result_sort b q ≡ argument b p d
   unfolding may_stand_in
   may_result l e =
@@ -88,7 +88,7 @@ pub record TestsAre (b : List ℕ) (g : Grammar) : Type 0 where
   -- characters at a class that has them
   pub chars_are : (p d c : ℕ) → p < productions b → d < argument_count b p → c < characters
       → g.chars p d c ≡ (is_class b (argument b p d) && class_has b (argument b p d - class_base) c)
-  -- productions with the right result_sort, unless they conflict there
+  -- productions with the right result, unless they conflict there
   pub subs_are : (p d q : ℕ) → p < productions b → d < argument_count b p → q < productions b → g.subs p d q ≡ may_stand b p d q
 
 module _ (b : List ℕ) (formed : WellFormed b) (bytes : (k : ℕ) → get_or b k 0 < characters) (g : Grammar) (tests : TestsAre b g) where

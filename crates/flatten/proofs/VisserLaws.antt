@@ -152,7 +152,7 @@ module _ (b : List ℕ) (w : WellFormed b) (bytes : (k : ℕ) → get_or b k 0 <
         | no e ↦ flat_filtered (omega arith) ∙ rw (ne_eqb (argument_count b p) 1 e) refl
       ]
 
-  -- a production in the class of Algorithm 3.7 has the argument's sort as its result_sort
+  -- a production in the class of Algorithm 3.7 has the argument's sort as its result
   free_result : (n : ℕ) → context_free_class b p i n ≡ true → is_production b n ≡ true → result_sort b (n - production_number 0) ≡ argument b p i
   unfolding nums
   free_result n e is =

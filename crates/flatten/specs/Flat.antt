@@ -16,7 +16,7 @@ is_production b n = leb (production_number 0) n && ltb n (production_number (pro
 
 -- ---- by a list of declarations
 
--- Production q may stand as argument i of p: the argument is a sort and q's result_sort, and q doesn't conflict there.
+-- Production q may stand as argument i of p: the argument is a sort and q's result, and q doesn't conflict there.
 unfoldable pub may_stand_in : List ℕ → List Declaration → ℕ → ℕ → ℕ → Bool
 may_stand_in b ls p i q = fits b p i q && not (conflicts_in b ls p i q)
 
@@ -25,7 +25,7 @@ unfoldable pub flat_class_in : List ℕ → List Declaration → ℕ → ℕ →
 flat_class_in b ls p i n =
     cond (is_class b (argument b p i)) (class_has b (argument b p i - class_base) n) (is_production b n && may_stand_in b ls p i (n - production_number 0))
 
--- The line of production p. Its result_sort is its own number.
+-- The line of production p. Its result is its own number.
 unfoldable pub flat_line_in : List ℕ → List Declaration → ℕ → Line
 flat_line_in b ls p = record { arguments = tabulate (argument_count b p) (flat_class_in b ls p); result = production_number p }
 
@@ -47,6 +47,6 @@ flat_line b = flat_line_in b (declarations_of b)
 abbrev pub flat_grammar : List ℕ → List Line
 flat_grammar b = flat_grammar_in b (declarations_of b)
 
--- The numbers of all productions with result_sort x, for a sort x; the characters of class x, for a class: what may stand at x if conflicts are let through.
+-- The numbers of all productions with result x, for a sort x; the characters of class x, for a class: what may stand at x if conflicts are let through.
 unfoldable pub plain_class : List ℕ → ℕ → ℕ → Bool
 plain_class b x n = cond (is_class b x) (class_has b (x - class_base) n) (is_production b n && eqb (result_sort b (n - production_number 0)) x)

@@ -44,7 +44,7 @@ result_words = sort_limit * production_words
 unfoldable pub result_has : List ℕ → ℕ → ℕ → Bool
 result_has sets x q = ltb x sort_limit && bit (get_or sets (x * production_words + q / word_bits) 0) (q % word_bits)
 
--- Of the first n productions each is in the set of its result_sort, and in no other.
+-- Of the first n productions each is in the set of its result, and in no other.
 pub record ByResult (b : List ℕ) (n : ℕ) (sets : List ℕ) : Type 0 where
   pub long : length sets ≡ result_words
   pub are : (x q : ℕ) → x < sort_limit → q < production_limit → bit (get_or sets (x * production_words + q / word_bits) 0) (q % word_bits) ≡ (ltb q n && eqb (result_sort b q) x)

@@ -8,7 +8,7 @@ use Rattle.priority.specs.Priorities.{declarations_of}
 use Rattle.priority.specs.declared.Declaration.{Declaration}
 use Rattle.theory.specs.Tree.{Tree, leaf, node, Forest, none, ◌▷◌, At, Subtree}
 
--- A tree is built at an argument byte x: a character of the class that x is, or a production with result_sort x whose arguments are built in turn.
+-- A tree is built at an argument byte x: a character of the class that x is, or a production with result x whose arguments are built in turn.
 -- Conflicts are let through.
 unfoldable mutual
   pub Built : List ℕ → ℕ → Tree → Type 0

@@ -49,7 +49,7 @@ filtered_class b p i =
     (cond (eqb (i + 1) (argument_count b p)) (without (context_free_class b p i) (in_r b p))
     (without (context_free_class b p i) (in_m b p))))
 
--- The line of production p; (3a) of Algorithm 3.7: its result_sort is its own number.
+-- The line of production p; (3a) of Algorithm 3.7: its result is its own number.
 unfoldable pub visser_line : List ℕ → ℕ → Line
 visser_line b p = record { arguments = tabulate (argument_count b p) (filtered_class b p); result = production_number p }
 

@@ -137,7 +137,7 @@ module _ (b c : List ℕ) (same : SameFront b c) where
       let start = production_first b in
       ap (byte_at c) e ∙ same.before (production_at b p + i) (omega (arith, production_within b p l)) (λ o. omega arith)
 
-  -- a production's result_sort
+  -- a production's result
   pub same_result : (p : ℕ) → p < productions b → result_sort c p ≡ result_sort b p
   unfolding result_sort
   same_result p l = rw add-zero at (same_body p 0 (production_at c p) l (omega arith) (omega (arith, same_production_at p (omega arith))))

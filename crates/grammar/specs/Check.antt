@@ -56,7 +56,7 @@ bad_length b = refuse_if (not (eqb (length b) (needed_length b))) 4 (min (length
 unfoldable pub names_argument : List ℕ → ℕ → Bool
 names_argument b x = ltb x (sorts b) || is_class b x
 
--- 5: a result_sort or argument byte that names nothing; the place is that byte
+-- 5: a result or argument byte that names nothing; the place is that byte
 unfoldable pub bad_argument : List ℕ → ℕ → ℕ → Verdict
 bad_argument b p i = refuse_if (not (names_argument b (argument b p i))) 5 (argument_at b p i)
 
@@ -96,7 +96,7 @@ unfoldable pub same_production : List ℕ → ℕ → ℕ → Bool
 same_production b p q =
     eqb (result_sort b p) (result_sort b q) && eqb (argument_count b p) (argument_count b q) && all_below (argument_count b p) (λ i. same_argument b (argument b p i) (argument b q i))
 
--- 8: a production equal to an earlier one; the place is the result_sort byte of the first such
+-- 8: a production equal to an earlier one; the place is the result byte of the first such
 unfoldable pub repeated_production : List ℕ → ℕ → Verdict
 repeated_production b p = refuse_if (any_below p (same_production b p)) 8 (production_at b p)
 

@@ -10,7 +10,7 @@ abbrev pub OneArgument : List ℕ → ℕ → ℕ → Type 0
 OneArgument b x y =
     (x ≡ y) ⊎ ((is_class b x ≡ true) × (is_class b y ≡ true) × ((c : ℕ) → c < characters → class_has b (x - class_base) c ≡ class_has b (y - class_base) c))
 
--- Two productions have one result_sort, as many arguments, and the same arguments.
+-- Two productions have one result, as many arguments, and the same arguments.
 abbrev pub OneProduction : List ℕ → ℕ → ℕ → Type 0
 OneProduction b p q =
     (result_sort b p ≡ result_sort b q) × (argument_count b p ≡ argument_count b q) × ((i : ℕ) → i < argument_count b p → OneArgument b (argument b p i) (argument b q i))

@@ -48,7 +48,7 @@ bodies_at b = header_length + productions b + classes b
 
 -- ---- the bodies, without gaps
 
--- production p: its result_sort sort, then a byte for each argument
+-- production p: its result sort, then a byte for each argument
 unfoldable pub production_at : List ℕ → ℕ → ℕ
 production_at b p = bodies_at b + sum_below p (λ q. 1 + argument_count b q)
 

@@ -85,21 +85,25 @@ module _ (b w l : List ℕ) where
   by_ten (here e) ten = absurd (omega (arith, checked_number b e))
   by_ten (there a (here e)) ten = let h = text_long w e in (a, h.1, h.2)
   by_ten (there a (there c (here e))) ten = absurd (omega (arith, (listing_refused l e).0))
+  by_ten (there a (there c (there _ e))) ten = elim e [ ]
 
   by_eleven : {n k : ℕ} → FirstIn lines n k → n ≡ 11 → (checked b ≡ Accepted) × (length w ≤ text_limit) × BadListing × (k ≡ length l)
   by_eleven (here e) eleven = absurd (omega (arith, checked_number b e))
   by_eleven (there a (here e)) eleven = absurd (omega (arith, (text_long w e).0))
   by_eleven (there a (there c (here e))) eleven = let h = listing_refused l e in (a, text_short w c, h.1, h.2)
+  by_eleven (there a (there c (there _ e))) eleven = elim e [ ]
 
   by_grammar : {n k : ℕ} → FirstIn lines n k → n ≤ 9 → checked b ≡ Rejected n k
   by_grammar (here e) small = e
   by_grammar (there a (here e)) small = absurd (omega (arith, (text_long w e).0))
   by_grammar (there a (there c (here e))) small = absurd (omega (arith, (listing_refused l e).0))
+  by_grammar (there a (there c (there _ e))) small = elim e [ ]
 
   pub small_number : {n k : ℕ} → FirstIn lines n k → n ≤ 11
   small_number (here e) = omega (arith, checked_number b e)
   small_number (there a (here e)) = omega (arith, (text_long w e).0)
   small_number (there a (there c (here e))) = omega (arith, (listing_refused l e).0)
+  small_number (there a (there c (there _ e))) = elim e [ ]
 
   -- No number but 1 to 11 is given.
   pub refused_small : (n k : ℕ) → listing_answer b w l ≡ Refused n k → n ≤ 11

@@ -23,21 +23,25 @@ module _ (b w chart : List ℕ) where
   by_grammar (here e) small = e
   by_grammar (there a (here e)) small = absurd (omega (arith, (text_long w e).0))
   by_grammar (there a (there c (here e))) small = absurd (omega (arith, (chart_short (needed b (length w)) chart e).0))
+  by_grammar (there a (there c (there _ e))) small = elim e [ ]
 
   by_ten : {n k : ℕ} → FirstIn lines n k → n ≡ 10 → (checked b ≡ Accepted) × (text_limit < length w) × (k ≡ length w)
   by_ten (here e) ten = absurd (omega (arith, checked_number b e))
   by_ten (there a (here e)) ten = let h = text_long w e in (a, h.1, h.2)
   by_ten (there a (there c (here e))) ten = absurd (omega (arith, (chart_short (needed b (length w)) chart e).0))
+  by_ten (there a (there c (there _ e))) ten = elim e [ ]
 
   by_twenty : {n k : ℕ} → FirstIn lines n k → n ≡ 20 → (checked b ≡ Accepted) × (length w ≤ text_limit) × (k ≡ needed b (length w)) × (length chart < k)
   by_twenty (here e) twenty = absurd (omega (arith, checked_number b e))
   by_twenty (there a (here e)) twenty = absurd (omega (arith, (text_long w e).0))
   by_twenty (there a (there c (here e))) twenty = let h = chart_short (needed b (length w)) chart e in (a, text_short w c, h.1, h.2)
+  by_twenty (there a (there c (there _ e))) twenty = elim e [ ]
 
   by_number : {n k : ℕ} → FirstIn lines n k → n ≤ 20
   by_number (here e) = omega (arith, checked_number b e)
   by_number (there a (here e)) = omega (arith, (text_long w e).0)
   by_number (there a (there c (here e))) = omega (arith, (chart_short (needed b (length w)) chart e).0)
+  by_number (there a (there c (there _ e))) = elim e [ ]
 
   first_line : {n k : ℕ} → refusal b w chart ≡ Refused n k → FirstIn lines n k
   unfolding refusal
@@ -69,6 +73,7 @@ module _ (b w chart : List ℕ) where
   by_text (here e) a = refused_not_accepted _ _ (sym e ∙ a)
   by_text (there a (here e)) _ = inl (text_long w e).0
   by_text (there a (there c (here e))) _ = inr (chart_short (needed b (length w)) chart e).0
+  by_text (there a (there c (there _ e))) _ = elim e [ ]
 
   -- Where the grammar is accepted, 10 and 20 are left.
   pub refusal_text : {n k : ℕ} → checked b ≡ Accepted → refusal b w chart ≡ Refused n k → (n ≡ 10) ⊎ (n ≡ 20)

@@ -8,7 +8,7 @@ use Rattle.priority.specs.declared.Declaration.{Declaration}
 unfoldable pub is_sort : List ℕ → ℕ → Bool
 is_sort b x = ltb x (sorts b)
 
--- Argument i of production p is a sort, and it is q's result_sort: there q may stand, conflicts let through.
+-- Argument i of production p is a sort, and it is q's result: there q may stand, conflicts let through.
 unfoldable pub fits : List ℕ → ℕ → ℕ → ℕ → Bool
 fits b p i q = is_sort b (argument b p i) && eqb (argument b p i) (result_sort b q)
 

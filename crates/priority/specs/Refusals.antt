@@ -18,7 +18,7 @@ pub data LargeCount (b : List ℕ) : ℕ → Type 0 where
   many_arguments : (p : ℕ) → p < productions b → argument_limit < argument_count b p → LargeCount b (argument_count_at b p)
   many_ranges : (k : ℕ) → k < classes b → range_limit < range_count b k → LargeCount b (range_count_at b k)
 
--- Byte k is a result_sort or argument byte that names nothing.
+-- Byte k is a result or argument byte that names nothing.
 pub data NamesNothing (b : List ℕ) : ℕ → Type 0 where
   no_result : (p : ℕ) → p < productions b → sorts b ≤ result_sort b p → NamesNothing b (production_at b p)
   no_argument : (p i : ℕ) → p < productions b → i < argument_count b p → names_argument b (argument b p i) ≡ false → NamesNothing b (argument_at b p i)

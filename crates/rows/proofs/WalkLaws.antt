@@ -69,7 +69,7 @@ module _ (b : List ℕ) (p : ℕ) where
   arguments_size (f ▷ t) (suc d) h = omega (arith, arguments_size f d h.0)
 
   -- the tree behind them stands as its argument
-  built_next : {f g : Forest} {t : Tree} → Front (f ▷ t) g → (d : ℕ) → Arguments b p g d → Built b (argument b p (size f)) t
+  built_next : {f : Forest} {t : Tree} {g : Forest} → Front (f ▷ t) g → (d : ℕ) → Arguments b p g d → Built b (argument b p (size f)) t
   unfolding Built
   built_next all zero h = absurd h
   built_next {f} {t = t} all (suc d) h = subst (λ (k : ℕ). Built b (argument b p k) t) (sym (arguments_size f d h.0)) h.1

@@ -111,14 +111,17 @@ module _ (b s : List ℕ) where
   step_by_grammar : {n k : ℕ} → FirstIn step_lines n k → n ≤ 9 → checked b ≡ Refused n k
   step_by_grammar (here e) small = e
   step_by_grammar (there a (here e)) small = absurd (omega (arith, (sheet_long s e).0))
+  step_by_grammar (there a (there _ e)) small = elim e [ ]
 
   step_by_long : {n k : ℕ} → FirstIn step_lines n k → n ≡ 25 → (checked b ≡ Accepted) × (sheet_limit < length s) × (k ≡ length s)
   step_by_long (here e) is = absurd (omega (arith, checked_number b e))
   step_by_long (there a (here e)) is = let h = sheet_long s e in (a, h.1, h.2)
+  step_by_long (there a (there _ e)) is = elim e [ ]
 
   step_by_number : {n k : ℕ} → FirstIn step_lines n k → (n ≤ 9) ⊎ (n ≡ 25)
   step_by_number (here e) = inl (checked_number b e)
   step_by_number (there a (here e)) = inr (sheet_long s e).0
+  step_by_number (there a (there _ e)) = elim e [ ]
 
   -- 1 to 9: the grammar's.
   pub refusal_grammar : (n k : ℕ) → n ≤ 9 → (step_refusal b s ≡ Refused n k) ↔ (checked b ≡ Refused n k)

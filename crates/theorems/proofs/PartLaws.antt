@@ -1,4 +1,4 @@
--- Two trees of one text (02, [5]): if they differ, their listings first part at two productions of one result_sort.
+-- Two trees of one text (02, [5]): if they differ, their listings first part at two productions of one result.
 use Prim.Native.Nat.{ℕ, zero, suc, ◌<◌}
 use mathlib.Core.Path.{◌≡◌, refl, sym, ◌∙◌, ap, subst}
 use mathlib.Core.Bool.{false, true}
@@ -79,7 +79,7 @@ module _ (b : List ℕ) (w : WellFormed b) where
       (λ e. e)
       (true_or_false (same_production b p q)))
 
-  -- a class is no result_sort
+  -- a class is no result
   no_class_lem : (x q : ℕ) → is_class b x ≡ true → q < productions b → result_sort b q ≡ x → ⊥
   no_class_lem x q c l e = not_both (is_class b x) c (sort_no_class b w x (omega (arith, w.result_named q l)))
 

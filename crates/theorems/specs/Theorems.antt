@@ -186,7 +186,7 @@ FlatIsVisser = (b : List ℕ) → Bytes b → checked b ≡ Accepted → (flat_g
 abbrev pub FlatIsCompleted : Type 0
 FlatIsCompleted = (b : List ℕ) → Bytes b → checked b ≡ Accepted → flat_grammar b ≡ completed_grammar b
 
--- The trees of the flat grammar, in any class, are those built at their root's result_sort without a conflict; in the class of an argument, also without one there.
+-- The trees of the flat grammar, in any class, are those built at their root's result without a conflict; in the class of an argument, also without one there.
 abbrev pub FlatTrees : Type 0
 FlatTrees =
     (b : List ℕ) → Bytes b → checked b ≡ Accepted → (cc : Class) (p : ℕ) (f : Forest)
@@ -506,14 +506,14 @@ WalkersGoDown =
     → (rs : List Step) (next : ℕ) (chart' : List ℕ) → Steps b s 0 chart₀ rs next chart' → WalksDown b s chart₀ (take n m) chart rs chart'
 
 -- ---- Request 5. "In the source a grammar is a set of rules, so two rules are equal when results are equal and each argument is the same sort or the same set of
--- characters. A user who gets 'several' then has truly different readings: the listings of any two of them first part at two rules of one result_sort that are not equal."
+-- characters. A user who gets 'several' then has truly different readings: the listings of any two of them first part at two rules of one result that are not equal."
 
--- Productions are equal by the test of refusal 8 exactly if they are one production (grammar/specs/Equal): one result_sort, as many arguments, and each argument is the same byte,
+-- Productions are equal by the test of refusal 8 exactly if they are one production (grammar/specs/Equal): one result, as many arguments, and each argument is the same byte,
 -- or both are classes with the same characters, classes with no character too.
 abbrev pub EqualExactly : Type 0
 EqualExactly = (b : List ℕ) (p q : ℕ) → (same_production b p q ≡ true) ↔ OneProduction b p q
 
--- Listings l and m are the same up to an index, where `same` ends. There l has production p and m has production q, of one result_sort and not equal.
+-- Listings l and m are the same up to an index, where `same` ends. There l has production p and m has production q, of one result and not equal.
 pub record PartAt (b l m same : List ℕ) (p q : ℕ) : Type 0 where
   pub own : (rest : List ℕ) × (l ≡ same ++ production_number p ∷ rest)
   pub other : (rest : List ℕ) × (m ≡ same ++ production_number q ∷ rest)
@@ -588,7 +588,7 @@ pub record NumeralsSay (n : ℕ) : Type 0 where
   pub only : (ds : List ℕ) → Plain ds → value_of ds ≡ n → ds ≡ numeral n
 
 -- The numerals that stand in a text are its longest runs of digits (`numerals_in`, beside `Plain`). Those of a flat book's text are the numerals of the numbers that it names
--- (`grammar_numbers`, ccg/specs/Named): the ends of each range of each class, argument by argument, and the result_sort, line by line. Whatever the grammar.
+-- (`grammar_numbers`, ccg/specs/Named): the ends of each range of each class, argument by argument, and the result, line by line. Whatever the grammar.
 abbrev pub FlatNumerals : Type 0
 FlatNumerals = (g : List Line) → numerals_in (grammar_text g) ≡ map numeral (grammar_numbers g)
 

@@ -1,5 +1,5 @@
 -- `ranges_set` meets its contract: the set holds the characters of the ranges passed.
-use Prim.Native.Nat.{ℕ, ◌+◌, ◌-◌, ◌*◌}
+use Prim.Native.Nat.{ℕ, ◌+◌, ◌*◌}
 use mathlib.Core.Path.{◌≡◌, sym, ◌∙◌, ap, ap₂}
 use mathlib.Core.Bool.{◌||◌}
 use mathlib.Core.List.{List}

@@ -13,7 +13,7 @@ use Rattle.layout.specs.Layout.{productions, production_at, result_sort}
 use Rattle.layout.specs.Limits.{sort_limit, production_limit}
 use Rattle.flatten.proofs.by_result.Goals as goal
 
--- the byte at a production's place is its result_sort, which is a sort
+-- the byte at a production's place is its result, which is a sort
 result_read : (b : List ℕ) → WellFormed b → (q at x : ℕ) → q < productions b → at ≡ production_at b q → x ≡ get_or b at 0 → (x ≡ result_sort b q) × (x < sort_limit) × (q < production_limit)
 unfolding result_sort
 result_read b w q at x l e f =

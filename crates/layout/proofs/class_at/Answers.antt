@@ -1,5 +1,5 @@
 -- `class_at` meets its contract: before class j is where class j stands.
-use Prim.Native.Nat.{ℕ, ◌-◌, ◌<◌}
+use Prim.Native.Nat.{ℕ, ◌<◌}
 use mathlib.Core.Path.{◌≡◌, sym, ◌∙◌, ap, subst}
 use native.Mathlib.Omega.{arith}
 use Rattle.common.specs.Bytes.{byte_values}

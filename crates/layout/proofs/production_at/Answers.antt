@@ -1,5 +1,5 @@
 -- `production_at` meets its contract: before production q is where production q stands.
-use Prim.Native.Nat.{ℕ, ◌-◌, ◌<◌}
+use Prim.Native.Nat.{ℕ, ◌<◌}
 use mathlib.Core.Path.{◌≡◌, sym, ◌∙◌, subst}
 use native.Mathlib.Omega.{arith}
 use Rattle.common.specs.Bytes.{byte_values}

@@ -1,4 +1,4 @@
--- `result_sort` meets its contract: the byte lies within the bytes.
+-- `result` meets its contract: the byte lies within the bytes.
 use Prim.Native.Nat.{ℕ}
 use mathlib.Core.Path.{◌∙◌, ap}
 use native.Mathlib.Omega.{arith}

@@ -4,7 +4,6 @@ use mathlib.Core.Bool.{Bool, ◌||◌}
 use mathlib.Core.List.{List}
 use mathlib.Core.Path.{◌≡◌}
 use Rattle.common.specs.Lists.{tabulate}
-use Rattle.layout.specs.Layout.{declarations}
 use Rattle.layout.specs.Limits.{production_limit}
 use Rattle.relation.specs.Table.{entry, Square}
 use Rattle.priority.specs.Priorities.{Kind, kind_number, declared_in, declaration_of}

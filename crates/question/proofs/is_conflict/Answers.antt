@@ -13,7 +13,7 @@ use Rattle.priority.specs.Conflict.{right_or_nonassoc, left_or_nonassoc, barred,
 use Rattle.priority.specs.Priorities.{left, right, nonassoc, kind_number, declarations_of}
 use Rattle.question.proofs.is_conflict.Goals as goal
 
--- an argument byte and a result_sort, as code reads them
+-- an argument byte and a result, as code reads them
 module _ (b : List ℕ) (w : WellFormed b) (p i q a r : ℕ) (l : q < productions b) (ea : a ≡ argument b p i) (er : r ≡ result_sort b q) where
   unfit : (a ≡ r → ⊥) → false ≡ conflicts b p i q
   unfit h = sym (not_fitting b p i q (fits_result b w p i q l ∙ ne_eqb (argument b p i) (result_sort b q) (λ e. h (ea ∙ e ∙ sym er))))

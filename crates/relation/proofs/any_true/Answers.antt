@@ -1,5 +1,5 @@
 -- `any_true` meets its contract: an entry passed is true exactly if one was found.
-use Prim.Native.Nat.{ℕ, ◌-◌}
+use Prim.Native.Nat.{ℕ}
 use mathlib.Core.Bool.{Bool, false, ◌||◌}
 use mathlib.Core.Logic.{by_cases}
 use mathlib.Core.Path.{◌≡◌, sym, ◌∙◌, ap, subst}
@@ -28,6 +28,9 @@ unfolding at
 returns c = let row = c.args.row in
     let n : length row ≡ production_limit = search rules in
     let e : c.loop-y.y ≡ production_limit = omega arith in
-    let any = subst (λ (y : ℕ). c.loop-y.found ≡ any_below y (at row)) e c.loop-y.invariant.1 in record { value = any; false_value = λ none y. by_cases (dec_lt y production_limit)
+    let any = subst (λ (y : ℕ). c.loop-y.found ≡ any_below y (at row)) e c.loop-y.invariant.1 in record {
+      value = any;
+      false_value = λ none y. by_cases (dec_lt y production_limit)
           (λ l. any_never (at row) production_limit (sym any ∙ none) y l)
-          (λ l. get_or-eq_default row false (omega arith)) }
+          (λ l. get_or-eq_default row false (omega arith));
+    }

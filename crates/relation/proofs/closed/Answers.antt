@@ -1,5 +1,5 @@
 -- `closed` meets its contract: after the turn for a middle, entries are chains through all middles so far.
-use Prim.Native.Nat.{ℕ, ◌-◌}
+use Prim.Native.Nat.{ℕ}
 use mathlib.Core.Path.{◌≡◌, refl, sym, ◌∙◌, subst}
 use native.Mathlib.Omega.{arith}
 use Rattle.relation.proofs.ChainLaws.{through_next, through_same, through_chain, chain_through}

@@ -1,5 +1,4 @@
 -- `members` meets its contract: the places from `first` to y are marked, the rest is as it was.
-use Prim.Native.Nat.{◌-◌}
 use mathlib.Core.Bool.{false}
 use mathlib.Core.Logic.{by_cases}
 use mathlib.Core.Path.{sym, ◌∙◌}

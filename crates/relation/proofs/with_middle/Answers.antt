@@ -1,5 +1,5 @@
 -- `with_middle` meets its contract: the rows below x may pass through the middle, the rest is as it was.
-use Prim.Native.Nat.{ℕ, ◌-◌, ◌≤◌}
+use Prim.Native.Nat.{ℕ, ◌≤◌}
 use mathlib.Core.Path.{◌≡◌, refl, sym, ◌∙◌, ap}
 use mathlib.Core.Bool.{Bool, false, true, ◌&&◌, ◌||◌, or-false}
 use mathlib.Core.List.{List, []}

@@ -1,5 +1,5 @@
 -- `put_counts` meets its contract: the counts of the productions passed are written, and the rows up to the next.
-use Prim.Native.Nat.{◌+◌, ℕ, ◌-◌}
+use Prim.Native.Nat.{◌+◌, ℕ}
 use mathlib.Core.Path.{◌≡◌, refl, sym, ◌∙◌, subst}
 use native.Mathlib.Omega.{arith}
 use lib.ListN.{length-set, length, set}
@@ -79,6 +79,9 @@ shape_of-tables c = c.loop-p.invariant.0.long ∙ sym c.requires.0
 pub returns : goal.returns
 returns c = let start = c in
     let b = start.args.counts.now in
-    let e : c.loop-p.p ≡ length b = omega arith in record { counts_put = subst (λ (n : ℕ). CountsPut b n c.loop-p.tables) e c.loop-p.invariant.0; classes_kept = λ k l. c.loop-p.invariant.2 k l
+    let e : c.loop-p.p ≡ length b = omega arith in record {
+      counts_put = subst (λ (n : ℕ). CountsPut b n c.loop-p.tables) e c.loop-p.invariant.0;
+      classes_kept = λ k l. c.loop-p.invariant.2 k l
           ∙ classes_kept (set start.args.tables.now 0 c.word.result) rows_at 0 (omega arith) k l
-          ∙ classes_kept start.args.tables.now 0 c.word.result (omega arith) k l }
+          ∙ classes_kept start.args.tables.now 0 c.word.result (omega arith) k l;
+    }

@@ -1,5 +1,4 @@
 -- `seek` meets its contract: all places passed are not as wanted.
-use Prim.Native.Nat.{◌-◌}
 use mathlib.Core.Path.{sym, ◌∙◌}
 use Rattle.charset.proofs.SeekLaws.{seek_none, seek_more, seek_found, seek_end}
 use Rattle.charset.specs.Set.{characters, has}

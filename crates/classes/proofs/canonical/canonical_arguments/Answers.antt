@@ -1,5 +1,5 @@
 -- `canonical_arguments` meets its contract: each class passed is held and has its lowest.
-use Prim.Native.Nat.{ℕ, ◌-◌}
+use Prim.Native.Nat.{ℕ}
 use mathlib.Core.Path.{◌≡◌, sym, subst}
 use native.Mathlib.Omega.{arith}
 use Rattle.classes.proofs.CanonicalLaws.{class_few, held_none, Filled, filled_none, filled_more, filled_all}

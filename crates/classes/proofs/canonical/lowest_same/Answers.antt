@@ -1,5 +1,4 @@
 -- `lowest_same` meets its contract: no set passed is the same.
-use Prim.Native.Nat.{◌-◌}
 use mathlib.Core.Path.{◌≡◌, sym, ◌∙◌}
 use mathlib.Core.Bool.{true}
 use native.Mathlib.Omega.{arith}

@@ -1,5 +1,4 @@
 -- `check_declarations` meets its contract: no declaration passed is refused.
-use Prim.Native.Nat.{◌-◌}
 use mathlib.Core.Path.{sym, ◌∙◌}
 use native.Mathlib.Omega.{arith}
 use Rattle.grammar.proofs.VerdictLaws.{first_none, first_more, first_found, first_done}

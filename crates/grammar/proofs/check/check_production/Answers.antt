@@ -1,4 +1,4 @@
--- `check_production` meets its contract: the result_sort byte, then the arguments.
+-- `check_production` meets its contract: the result byte, then the arguments.
 use mathlib.Core.Path.{refl}
 use native.Mathlib.Omega.{arith}
 use borrow.Author.Tests.{le-leb, lt-leb}

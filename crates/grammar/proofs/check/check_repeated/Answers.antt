@@ -1,5 +1,4 @@
 -- `check_repeated` meets its contract: no production passed is equal to an earlier one.
-use Prim.Native.Nat.{◌-◌}
 use mathlib.Core.Path.{refl, sym, ◌∙◌}
 use native.Mathlib.Omega.{arith}
 use Rattle.grammar.proofs.VerdictLaws.{first_none, first_more, first_found, first_done}

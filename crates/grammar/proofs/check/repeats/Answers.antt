@@ -1,5 +1,5 @@
 -- `repeats` meets its contract: no earlier production passed is equal.
-use Prim.Native.Nat.{ℕ, ◌-◌}
+use Prim.Native.Nat.{ℕ}
 use mathlib.Core.Path.{◌≡◌, sym, ◌∙◌, subst}
 use mathlib.Core.Bool.{false}
 use native.Mathlib.Omega.{arith}

@@ -1,4 +1,4 @@
--- `same_production` meets its contract: result_sort, argument count, then the arguments.
+-- `same_production` meets its contract: result, argument count, then the arguments.
 use mathlib.Core.Path.{refl}
 use native.Mathlib.Omega.{arith}
 use borrow.Author.Tests.{eq-eqb, ne_eqb}

@@ -1,5 +1,5 @@
 -- `ProductionSet::minus` meets its contract: the words below k have what is left.
-use Prim.Native.Nat.{ℕ, ◌/◌, ◌%◌, ◌-◌}
+use Prim.Native.Nat.{ℕ, ◌/◌, ◌%◌}
 use mathlib.Core.Path.{refl, ◌∙◌, ap}
 use native.Mathlib.Omega.{arith}
 use lib.ListN.{get_or}

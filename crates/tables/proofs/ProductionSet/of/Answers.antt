@@ -1,5 +1,5 @@
 -- `ProductionSet::of` meets its contract: the words below k have the bits of their productions.
-use Prim.Native.Nat.{ℕ, ◌/◌, ◌%◌, ◌-◌}
+use Prim.Native.Nat.{ℕ, ◌/◌, ◌%◌}
 use mathlib.Core.Bool.{false}
 use mathlib.Core.Path.{◌∙◌, ap}
 use native.Mathlib.Omega.{arith}

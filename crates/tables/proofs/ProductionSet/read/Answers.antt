@@ -1,5 +1,5 @@
 -- `ProductionSet::read` meets its contract: the words below k are copied.
-use Prim.Native.Nat.{ℕ, ◌/◌, ◌%◌, ◌-◌}
+use Prim.Native.Nat.{ℕ, ◌/◌, ◌%◌}
 use mathlib.Core.Path.{refl, ap}
 use native.Mathlib.Omega.{arith}
 use Rattle.charset.specs.Set.{bit, has, word_bits}

@@ -1,0 +1,14 @@
+-- `first_root` meets its contract: the productions below p have none, so there is one from p on.
+use Prim.Native.Nat.{◌-◌, ◌<◌}
+use mathlib.Core.Path.{◌≡◌}
+use lib.ListN.{length}
+use Rattle.common.specs.Below.{sum_below}
+use Rattle.engine.specs.Roots.{root_term}
+use Rattle.tables.specs.Layout.{counts_of}
+use Rattle.engine.proofs.first_root.Given as goal
+
+abbrev pub invariant-loop-trees : goal.invariant-loop-trees
+invariant-loop-trees l = (l.trees ≡ root_term l.tables l.text l.chart l.p) × (sum_below l.p (root_term l.tables l.text l.chart) ≡ 0) × (l.p < length (counts_of l.tables))
+
+abbrev pub decreases-loop-trees : goal.decreases-loop-trees
+decreases-loop-trees l = length (counts_of l.tables) - l.p

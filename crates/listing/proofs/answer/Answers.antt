@@ -1,0 +1,36 @@
+-- `answer` meets its contract, part by part.
+use mathlib.Core.Path.{refl, sym}
+use native.Mathlib.Omega.{arith}
+use Rattle.listing.proofs.EndLaws.{numbers_left, text_left, nothing_left}
+use Rattle.numbers.proofs.NumbersLaws.{numbers_length}
+use Rattle.numbers.specs.Numbers.{numbers_of}
+use Rattle.listing.specs.Parts.{after_part}
+use Rattle.listing.proofs.answer.Goals as goal
+
+pub returns-then-next-listing : goal.returns-then-next-listing
+unfolding after_part
+returns-then-next-listing c =
+    let a = c.args in
+    let part = c.whole-in-Complete-1.given in
+    let e = numbers_length a.listing.now in
+    λ g. rw part.1 (sym (numbers_left g (numbers_of a.listing.now) a.text.now part.0.0 part.0.1.0 (omega arith)))
+
+pub returns-then-place-text : goal.returns-then-place-text
+unfolding after_part
+returns-then-place-text c =
+    let a = c.args in
+    let part = c.whole-in-Complete-1.given in
+    let e = numbers_length a.listing.now in
+    λ g. rw part.1 (sym (text_left g (numbers_of a.listing.now) a.text.now part.0.0 part.0.1.0 (omega arith) c.if-place-text.true))
+
+pub returns-in-Fault : goal.returns-in-Fault
+unfolding after_part
+returns-in-Fault c = λ g. rw c.in-Fault.is refl
+
+pub returns-else-place-text : goal.returns-else-place-text
+unfolding after_part
+returns-else-place-text c =
+    let a = c.args in
+    let part = c.whole-in-Complete-1.given in
+    let e = numbers_length a.listing.now in
+    λ g. rw part.1 (sym (nothing_left g (numbers_of a.listing.now) a.text.now part.0.0 part.0.1.0 (omega arith) (omega arith)))
