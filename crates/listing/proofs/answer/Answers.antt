@@ -11,17 +11,17 @@ pub returns-then-next-listing : goal.returns-then-next-listing
 unfolding after_part
 returns-then-next-listing c =
     let a = c.args in
-    let part = c.whole-in-Complete-1.given in
+    let part = c.in-Complete in
     let e = numbers_length a.listing.now in
-    λ g. rw part.1 (sym (numbers_left g (numbers_of a.listing.now) a.text.now part.0.0 part.0.1.0 (omega arith)))
+    λ g. rw part.is (sym (numbers_left g (numbers_of a.listing.now) a.text.now part.next part.place (omega arith)))
 
 pub returns-then-place-text : goal.returns-then-place-text
 unfolding after_part
 returns-then-place-text c =
     let a = c.args in
-    let part = c.whole-in-Complete-1.given in
+    let part = c.in-Complete in
     let e = numbers_length a.listing.now in
-    λ g. rw part.1 (sym (text_left g (numbers_of a.listing.now) a.text.now part.0.0 part.0.1.0 (omega arith) c.if-place-text.true))
+    λ g. rw part.is (sym (text_left g (numbers_of a.listing.now) a.text.now part.next part.place (omega arith) c.if-place-text.true))
 
 pub returns-in-Fault : goal.returns-in-Fault
 unfolding after_part
@@ -31,6 +31,6 @@ pub returns-else-place-text : goal.returns-else-place-text
 unfolding after_part
 returns-else-place-text c =
     let a = c.args in
-    let part = c.whole-in-Complete-1.given in
+    let part = c.in-Complete in
     let e = numbers_length a.listing.now in
-    λ g. rw part.1 (sym (nothing_left g (numbers_of a.listing.now) a.text.now part.0.0 part.0.1.0 (omega arith) (omega arith)))
+    λ g. rw part.is (sym (nothing_left g (numbers_of a.listing.now) a.text.now part.next part.place (omega arith) (omega arith)))
