@@ -22,6 +22,7 @@ use Rattle.order.specs.Order.{counted}
 use Rattle.theory.specs.Tree.{production_number}
 use Rattle.compare.proofs.count_uses.Invariants.{Counting}
 use Rattle.compare.proofs.count_uses.Goals as goal
+use Rattle.compare.proofs.count_uses.Goals.{then-both, else-both}
 
 counting_none : (numbers : List ℕ) → Counting numbers 0 (replicate {A = ℕ} production_limit 0)
 unfolding Counting
@@ -106,16 +107,16 @@ loop-k-preserved c =
     let l = turn.args.listing.now in
     let n = c.number_at-n.result in
     let there : turn.loop-k.k < length (numbers_of l) = omega (arith, numbers_length l) in
-    ⊎_elim
-    (λ w.
-    let there-in = in_range n _ c.both.ensures w.0.taken in
-    (omega arith, rw w.1 (counting_own (numbers_of l) turn.loop-k.k there turn.loop-k.counts turn.loop-k.invariant.1 (n - production_number 0) (omega arith) (omega (arith, c.number_at-n.ensures)))))
-    (λ w. (
-      omega arith,
-      rw w.1 (counting_other (numbers_of l) turn.loop-k.k there turn.loop-k.counts turn.loop-k.invariant.1
-          (λ p h e. out_of_range n _ c.both.ensures w.0.left p h (c.number_at-n.ensures ∙ e))),
-    ))
-    c.if-both.branch
+    elim c.if-both.branch [
+      | then-both w ↦
+        let there-in = in_range n _ c.both.ensures w.if-both.true in
+        (omega arith, rw w.counts-is (counting_own (numbers_of l) turn.loop-k.k there turn.loop-k.counts turn.loop-k.invariant.1 (n - production_number 0) (omega arith) (omega (arith, c.number_at-n.ensures))))
+      | else-both w ↦ (
+        omega arith,
+        rw w.counts-is (counting_other (numbers_of l) turn.loop-k.k there turn.loop-k.counts turn.loop-k.invariant.1
+            (λ p h e. out_of_range n _ c.both.ensures w.if-both.false p h (c.number_at-n.ensures ∙ e))),
+      )
+    ]
 
 pub returns : goal.returns
 unfolding Counting uses

@@ -1,0 +1,16 @@
+-- `listing_reply` meets its contract, answer by answer.
+use mathlib.Core.Path.{refl}
+use Rattle.reply.specs.Answers.{listing_reply}
+use Rattle.reply.proofs.check_listing.listing_reply.Goals as goal
+
+pub returns-in-Right : goal.returns-in-Right
+unfolding listing_reply
+returns-in-Right c = rw (c.answer.ensures, c.in-Right.is) refl
+
+pub returns-in-Wrong : goal.returns-in-Wrong
+unfolding listing_reply
+returns-in-Wrong c = rw (c.answer-in-Wrong.ensures, c.in-Wrong.is) refl
+
+pub returns-in-Refused : goal.returns-in-Refused
+unfolding listing_reply
+returns-in-Refused c = rw (c.refusal.ensures, c.in-Refused.is) refl
