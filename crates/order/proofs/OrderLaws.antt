@@ -1,6 +1,6 @@
 -- Laws of the order: it is transitive, irreflexive and never both ways; equal counts are an equivalence; and an answer is the only one.
 use Prim.Native.Nat.{ℕ, ◌≤◌, ◌<◌}
-use mathlib.Core.Bool.{Bool, false, true, not, ◌&&◌, ◌||◌, false≢true}
+use mathlib.Core.Bool.{Bool, true, not, ◌&&◌, false≢true}
 use mathlib.Core.List.{List}
 use mathlib.Core.Logic.{◌↔◌, ◌⊎◌, inl, inr, ⊎_elim, by_cases}
 use mathlib.Core.Path.{◌≡◌, refl, sym, ◌∙◌, ap, ap₂}
@@ -8,11 +8,11 @@ use native.Mathlib.Decide.{dec_lt}
 use native.Mathlib.Omega.{arith}
 use lib.Dec.{eqb}
 use lib.IntN.{pos, neg_ℤ}
-use borrow.Author.Tests.{eq-eqb, ne_eqb, eqb-true}
+use borrow.Author.Tests.{eq-eqb, eqb-true}
 use Rattle.common.proofs.BoolLaws.{true_or_false}
 use Rattle.grammar.specs.declared.Verdict.TheVariants.{Accepted}
 use Rattle.layout.specs.Layout.{productions}
-use Rattle.order.proofs.HighestLaws.{HighestFrom, highest_from}
+use Rattle.order.proofs.HighestLaws.{highest_from}
 use Rattle.order.specs.Order.{Uses, Lower, EqualCounts, OrderIs, order_number, swapped}
 use Rattle.order.specs.declared.Order.{Order}
 use Rattle.order.specs.declared.Order.TheVariants.{Below, Equal, Above, Neither}

@@ -1,5 +1,4 @@
 -- `put_production_runs` meets its contract: the ranges up to `from` are put.
-use Prim.Native.Nat.{◌-◌}
 use mathlib.Core.Path.{sym, ◌∙◌}
 use native.Mathlib.Omega.{arith}
 use Rattle.ccg.proofs.RunPutLaws.{runs_put_none, runs_put_end, runs_put_past, run_low, run_rises, run_below, run_room, runs_put_more}

@@ -1,5 +1,4 @@
 -- `seek_number` meets its contract: no number passed is as wanted.
-use Prim.Native.Nat.{◌-◌}
 use mathlib.Core.Path.{sym, ◌∙◌}
 use native.Mathlib.Omega.{arith}
 use Rattle.ccg.specs.Tables.{takes_number}

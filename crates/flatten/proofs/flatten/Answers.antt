@@ -1,5 +1,5 @@
 -- `flatten` meets its contract: the classes of the productions passed are written.
-use Prim.Native.Nat.{ℕ, ◌-◌, ◌<◌}
+use Prim.Native.Nat.{ℕ, ◌<◌}
 use mathlib.Core.Path.{◌≡◌, sym, ◌∙◌, subst}
 use native.Mathlib.Omega.{arith}
 use Rattle.flatten.proofs.TableLaws.{barring_rows, barring_sets, written_all}

@@ -1,5 +1,4 @@
 -- `check_class` meets its contract: none of the numbers passed is in the class.
-use Prim.Native.Nat.{◌-◌}
 use mathlib.Core.Path.{sym, ◌∙◌}
 use native.Mathlib.Omega.{arith}
 use Rattle.ccg.specs.Tables.{table_class}

@@ -1,5 +1,4 @@
 -- `read_lines` meets its contract: behind the bytes passed, the tables hold what is complete.
-use Prim.Native.Nat.{◌-◌}
 use mathlib.Core.Path.{sym, ◌∙◌, ap}
 use native.Mathlib.Omega.{arith}
 use Rattle.form.proofs.ReadLaws.{small_told}

@@ -1,5 +1,4 @@
 -- `is_within` meets its contract: of the productions below p each is one of those.
-use Prim.Native.Nat.{◌-◌}
 use mathlib.Core.Bool.{Bool, false, true, not, ◌&&◌, false≢true}
 use mathlib.Core.Logic.{by_cases}
 use mathlib.Core.Path.{◌≡◌, refl, sym, ◌∙◌}

@@ -1,6 +1,5 @@
 -- `used_more` meets its contract: the places below p are marked as the counts there say, the rest is as it was.
-use Prim.Native.Nat.{◌-◌}
-use mathlib.Core.Bool.{false, true, false≢true}
+use mathlib.Core.Bool.{false, false≢true}
 use mathlib.Core.Logic.{by_cases}
 use mathlib.Core.Path.{sym, ◌∙◌}
 use native.Mathlib.Decide.{dec_lt}

@@ -1,7 +1,6 @@
 -- `round` meets its contract.
-use Prim.Native.Nat.{ℕ, ◌+◌, ◌-◌, ◌<◌}
+use Prim.Native.Nat.{ℕ, ◌+◌, ◌<◌}
 use mathlib.Core.Path.{◌≡◌, refl, sym, ◌∙◌, ap, subst}
-use mathlib.Core.Logic.{⊎_elim}
 use native.Mathlib.Omega.{arith}
 use lib.ListN.{length-set}
 use Rattle.layout.specs.Layout.{declarations, first, second}
@@ -69,22 +68,22 @@ loop-d-preserved c =
     ∙ ap (leads_back start.args.k turn.distance) own in
     let k = start.args.k in
     elim c.if-both.branch [
-    | then-both u ↦ let (says, new, at) = test_new b k turn.distance turn.d few (sym on ∙ u.if-both.true) in
-    rw (u.distance-is, u.next-is)
-    (record {
-      distances = length-set turn.distance l.first (k + 1) ∙ turn.invariant.distances;
-      nexts = length-set turn.next l.first turn.d ∙ turn.invariant.nexts;
-      within = omega arith;
-      midway = λ y r. rw same
-          (round_finds b y k turn.distance turn.next turn.d (turn.invariant.midway y r) (first b turn.d) (second b turn.d) says (omega (arith, hf, same)) start.requires.well_formed.2 new at);
-    })
-    | else-both u ↦ rw (u.distance-is, u.next-is)
-    (record {
-      distances = turn.invariant.distances;
-      nexts = turn.invariant.nexts;
-      within = omega arith;
-      midway = λ y r. round_passes b y k turn.distance turn.next turn.d (turn.invariant.midway y r) (test_old b k turn.distance turn.d (sym on ∙ u.if-both.false));
-    })
+      | then-both u ↦ let (says, new, at) = test_new b k turn.distance turn.d few (sym on ∙ u.if-both.true) in
+          rw (u.distance-is, u.next-is)
+          (record {
+            distances = length-set turn.distance l.first (k + 1) ∙ turn.invariant.distances;
+            nexts = length-set turn.next l.first turn.d ∙ turn.invariant.nexts;
+            within = omega arith;
+            midway = λ y r. rw same
+                (round_finds b y k turn.distance turn.next turn.d (turn.invariant.midway y r) (first b turn.d) (second b turn.d) says (omega (arith, hf, same)) start.requires.well_formed.2 new at);
+          })
+      | else-both u ↦ rw (u.distance-is, u.next-is)
+          (record {
+            distances = turn.invariant.distances;
+            nexts = turn.invariant.nexts;
+            within = omega arith;
+            midway = λ y r. round_passes b y k turn.distance turn.next turn.d (turn.invariant.midway y r) (test_old b k turn.distance turn.d (sym on ∙ u.if-both.false));
+          })
     ]
 
 pub shape_of-distance : goal.shape_of-distance

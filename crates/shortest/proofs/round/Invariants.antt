@@ -3,7 +3,6 @@ use Prim.Native.Nat.{ℕ, ◌-◌, ◌≤◌}
 use mathlib.Core.Path.{◌≡◌}
 use mathlib.Core.List.{List}
 use lib.ListN.{length}
-use Rattle.layout.specs.Layout.{declarations, first}
 use Rattle.layout.specs.Limits.{production_limit}
 use Rattle.shortest.proofs.RoundLaws.{Midway}
 use Rattle.shortest.specs.Search.{Rounds}

@@ -1,5 +1,4 @@
 -- `round` meets its contract: the productions before q have been looked at, and q's rows begin at `base`.
-use Prim.Native.Nat.{◌-◌}
 use mathlib.Core.Path.{◌≡◌, refl, ◌∙◌}
 use native.Mathlib.Omega.{arith}
 use lib.ListN.{length}

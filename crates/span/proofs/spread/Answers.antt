@@ -1,5 +1,5 @@
 -- `spread` meets its contract: the rows below r have risen, the rest is as it was; beyond `rows` nothing rises.
-use Prim.Native.Nat.{ℕ, ◌+◌, ◌-◌, ◌*◌}
+use Prim.Native.Nat.{ℕ, ◌+◌, ◌*◌}
 use mathlib.Core.Path.{ap}
 use mathlib.Core.Logic.{by_cases}
 use native.Mathlib.Omega.{arith}

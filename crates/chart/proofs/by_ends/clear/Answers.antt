@@ -1,5 +1,5 @@
 -- `clear` meets its contract: the bytes so far are zeros.
-use Prim.Native.Nat.{ℕ, ◌-◌}
+use Prim.Native.Nat.{ℕ}
 use mathlib.Core.Path.{◌≡◌, refl, subst}
 use native.Mathlib.Omega.{arith}
 use Rattle.common.proofs.RegionLaws.{region_none, region_more}

@@ -1,5 +1,5 @@
 -- `turn_row` meets its contract: the cells that start before i are written, from a copy of the row.
-use Prim.Native.Nat.{ℕ, ◌+◌, ◌-◌, ◌*◌}
+use Prim.Native.Nat.{ℕ, ◌+◌, ◌*◌}
 use mathlib.Core.Path.{◌≡◌, ap, subst, subst₂}
 use native.Mathlib.Omega.{arith}
 use lib.ListN.{get_or}

@@ -1,5 +1,5 @@
 -- `turn_start` meets its contract: the cells that end before j are written.
-use Prim.Native.Nat.{ℕ, ◌+◌, ◌-◌}
+use Prim.Native.Nat.{ℕ, ◌+◌}
 use mathlib.Core.Path.{◌≡◌, subst}
 use native.Mathlib.Omega.{arith}
 use Rattle.chart.proofs.LayoutLaws.{span_few}
