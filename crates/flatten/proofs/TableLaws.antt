@@ -25,7 +25,7 @@ use Rattle.layout.specs.Layout.{productions, start_sort, argument_count, result_
 use Rattle.layout.specs.Limits.{sort_limit, production_limit, argument_limit, class_base, header_length}
 use Rattle.priority.proofs.ConflictLaws.{fits_result}
 use Rattle.priority.proofs.PriorityLaws.{table_higher}
-use Rattle.relation.specs.Table.{entry}
+use Rattle.priority.specs.Chain.{entry}
 use Rattle.priority.specs.Conflict.{fits, is_first, is_last, right_or_nonassoc, left_or_nonassoc, barred, conflicts_in}
 use Rattle.priority.specs.Priorities.{left, right, nonassoc, kind_number, DeclaredPairs, Higher, declarations_of}
 use Rattle.tables.proofs.LayoutLaws.{slot_in}

@@ -18,7 +18,7 @@ use Rattle.marked.proofs.CaseTests.{same, all_bytes, occurrences, grammar_of, de
 use Rattle.marked.proofs.PromisedLaws.{all_promised}
 use Rattle.marked.specs.Cases.{Statement, Promised, case_a, case_b, case_c, case_d, case_e, case_f, case_g, case_h, case_i, case_j, case_k, table}
 use Rattle.parse.specs.Outcome.{needed, refusal}
-use Rattle.relation.specs.Chain.{through}
+use Rattle.priority.specs.Chain.{through}
 use Rattle.priority.specs.Check.{circle, checked}
 use Rattle.priority.specs.Conflict.{is_sort, fits, is_first, is_last, right_or_nonassoc, left_or_nonassoc, barred, conflicts_in}
 use Rattle.priority.specs.Priorities.{kind_number, said_kind, either_way, names_pair, covers, declared_in, declaration_of, declarations_of, is_higher_in}

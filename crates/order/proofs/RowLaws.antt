@@ -19,7 +19,7 @@ use Rattle.order.specs.declared.Order.{Order}
 use Rattle.order.specs.declared.Order.TheVariants.{Below, Equal, Above, Neither}
 use Rattle.priority.proofs.PriorityLaws.{higher_there_lem}
 use Rattle.priority.specs.Priorities.{Higher}
-use Rattle.relation.specs.Table.{entry}
+use Rattle.priority.specs.Chain.{entry}
 
 -- some production is marked
 abbrev pub some : List Bool → Bool

@@ -3,7 +3,7 @@ use Rattle.std.specs.Prelude.{ℕ, ◌<◌, Bool, false, true, List, ◌↔◌, 
 use Rattle.order.specs.Order.{Uses}
 use Rattle.order.specs.declared.Order.{Order}
 use Rattle.order.specs.declared.Order.TheVariants.{Below, Equal, Above, Neither}
-use Rattle.relation.specs.Table.{entry}
+use Rattle.priority.specs.Chain.{entry}
 
 -- The row has the productions, of `count` that there are, that m uses more often than n.
 abbrev pub Marks : ℕ → (m n : Uses) → List Bool → Type 0

@@ -10,8 +10,7 @@ ghost use Rattle.order.specs.Rows.{Marks, OneAbove, Outweighed, Weighs};
 use common::{both, either};
 use layout::limits::PRODUCTION_LIMIT;
 use layout::production_count;
-use priority::priorities;
-use relation::{any_true, merged};
+use priority::{leads_on, merged, priorities};
 
 // How the first of two parses stands to the second.
 #[derive(Clone, Copy)]
@@ -38,7 +37,7 @@ pub fn compare_uses(
     let count = production_count(book);
     let more = used_more(first, second, count);
     let less = used_more(second, first, count);
-    if !either(any_true(more), any_true(less)) {
+    if !either(leads_on(more), leads_on(less)) {
         return Order::Equal;
     }
     weigh(priorities(book), more, less)

@@ -15,8 +15,8 @@ use Rattle.common.proofs.ListLaws.{tabulate_next}
 use Rattle.common.specs.Below.{between}
 use Rattle.common.specs.Lists.{tabulate}
 use Rattle.grammar.specs.Check.{is_group}
-use Rattle.relation.proofs.TableLaws.{square_put, entry_put_or}
-use Rattle.relation.specs.Table.{entry, Square}
+use Rattle.priority.proofs.TableLaws.{square_put, entry_put_or}
+use Rattle.priority.specs.Chain.{entry, Square}
 use Rattle.priority.specs.Priorities.{Kind, higher, left, right, nonassoc, kind_number, said_kind, either_way, names_pair, covers, declared_in}
 use Rattle.priority.specs.declared.Declaration.{Declaration}
 

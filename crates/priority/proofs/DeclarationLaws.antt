@@ -4,7 +4,7 @@ use mathlib.Core.Path.{◌≡◌, refl, sym, ◌∙◌}
 use mathlib.Core.Bool.{true}
 use mathlib.Core.List.{List}
 use Rattle.grammar.specs.declared.Verdict.TheVariants.{Accepted}
-use Rattle.relation.proofs.ChainLaws.{chain_append}
+use Rattle.priority.proofs.ChainLaws.{chain_append}
 use Rattle.priority.proofs.CheckLaws.{accepted_formed}
 use Rattle.priority.proofs.CoverLaws.{declared_turned}
 use Rattle.priority.proofs.PriorityLaws.{declared_there_lem, higher_there_lem}

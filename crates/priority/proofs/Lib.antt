@@ -1,4 +1,6 @@
 -- Laws of the priorities.
+pub mod ChainLaws
+pub mod TableLaws
 pub mod CoverLaws
 pub mod PriorityLaws
 pub mod CheckLaws

@@ -15,10 +15,10 @@ use Rattle.grammar.specs.Check.{is_group}
 use Rattle.grammar.specs.Formed.{WellFormed}
 use Rattle.grammar.specs.Verdict.{refuse_if}
 use Rattle.layout.specs.Layout.{productions, declarations, declaration_at, kind, first, second}
-use Rattle.relation.proofs.ChainLaws.{through_chain, chain_through}
+use Rattle.priority.proofs.ChainLaws.{through_chain, chain_through}
 use Rattle.priority.proofs.CoverLaws.{declared_found}
-use Rattle.relation.specs.Chain.{link, more}
-use Rattle.relation.specs.Table.{entry}
+use Rattle.priority.specs.Chain.{link, more}
+use Rattle.priority.specs.Chain.{entry}
 use Rattle.priority.specs.Check.{circle, on_diagonal}
 use Rattle.priority.specs.Priorities.{Kind, higher, kind_number, said_kind, either_way, names_pair, covers, declaration_of, declarations_of, declared, Higher, is_higher_in, is_higher}
 

@@ -19,9 +19,9 @@ use Rattle.grammar.proofs.VerdictLaws.{first_same}
 use Rattle.grammar.specs.Check.{is_group}
 use Rattle.layout.specs.Layout.{productions}
 use Rattle.layout.specs.Limits.{kind_limit, pair_kind_limit, group_step}
-use Rattle.relation.proofs.ChainLaws.{chain_map}
+use Rattle.priority.proofs.ChainLaws.{chain_map}
 use Rattle.priority.proofs.CoverLaws.{declared_append, declared_one, declared_found, declared_made, declared_none}
-use Rattle.relation.specs.Chain.{through}
+use Rattle.priority.specs.Chain.{through}
 use Rattle.priority.specs.Check.{circle, circles_in}
 use Rattle.priority.specs.Conflict.{right_or_nonassoc, left_or_nonassoc, ConflictIn, anywhere, at_first, at_last, barred, conflicts_in}
 use Rattle.priority.specs.Priorities.{Kind, higher, left, right, nonassoc, kind_number, said_kind, either_way, names_pair, covers, declared_in, HigherIn, is_higher_in}

@@ -4,7 +4,7 @@ use Rattle.grammar.specs.Check.{short_header, bad_header, short_contents, bad_ar
 use Rattle.grammar.specs.Verdict.{refuse_if, first_refusal, in_order}
 use Rattle.grammar.specs.declared.Verdict.{Verdict}
 use Rattle.layout.specs.Layout.{productions}
-use Rattle.relation.specs.Table.{entry}
+use Rattle.priority.specs.Chain.{entry}
 use Rattle.priority.specs.Priorities.{is_higher_in, declarations_of}
 use Rattle.priority.specs.declared.Declaration.{Declaration}
 

@@ -1,4 +1,5 @@
 -- What the contracts of the priorities and of the whole check cite.
+pub mod Chain
 pub mod Priorities
 pub mod Spelled
 pub mod Check

@@ -5,8 +5,8 @@ use Rattle.common.specs.Lists.{tabulate}
 use Rattle.grammar.specs.Check.{is_group}
 use Rattle.layout.specs.Layout.{productions, declarations, kind, first, second}
 use Rattle.layout.specs.Limits.{group_step}
-use Rattle.relation.specs.Chain.{Chain, through}
-use Rattle.relation.specs.Table.{entry}
+use Rattle.priority.specs.Chain.{Chain, through}
+use Rattle.priority.specs.Chain.{entry}
 use Rattle.priority.specs.declared.Declaration.{Declaration}
 
 -- The four kinds; `nonassoc` is 01's "not together".
@@ -71,6 +71,10 @@ declared b = declared_in (declarations_of b)
 abbrev pub DeclaredPairs : List ℕ → ℕ → ℕ → List (List Bool) → Type 0
 DeclaredPairs b kind also table =
     (k k' : Kind) → kind ≡ kind_number k → also ≡ kind_number k' → (x y : ℕ) → entry table x y ≡ (declared b k x y || declared b k' x y)
+
+-- A table with the pairs of a group.
+abbrev pub WithGroup : (first second : ℕ) → (table wider : List (List Bool)) → Type 0
+WithGroup first second table wider = (x y : ℕ) → entry wider x y ≡ (entry table x y || between first second x && between first second y)
 
 -- x is higher than y.
 abbrev pub Higher : List ℕ → ℕ → ℕ → Type 0

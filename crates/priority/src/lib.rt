@@ -1,4 +1,4 @@
-// Priorities: the pairs that declarations cover, "higher" closed under transitivity, and the whole check of a grammar.
+// Priorities: "higher" closed under transitivity in a table of yes-or-no entries, and the whole check of a grammar.
 #![tactic(auto)]
 
 ghost use Rattle.std.specs.Prelude.{◌≡◌, true, false, ◌&&◌, ◌||◌, ◌↔◌, ℕ, ◌<◌, ◌≤◌, get_or};
@@ -7,8 +7,8 @@ ghost use Rattle.grammar.specs.Formed.{WellFormed};
 ghost use Rattle.grammar.specs.Verdict.{first_refusal};
 ghost use Rattle.layout.specs.Layout.{declarations, declaration_at};
 ghost use Rattle.layout.specs.Limits.{production_limit};
-ghost use Rattle.relation.specs.Table.{entry};
-ghost use Rattle.priority.specs.Priorities.{said_kind, declaration_of, DeclaredPairs, Higher};
+ghost use Rattle.priority.specs.Chain.{Chain, entry, Square};
+ghost use Rattle.priority.specs.Priorities.{said_kind, declaration_of, DeclaredPairs, WithGroup, Higher};
 ghost use Rattle.priority.specs.Check.{checked, on_diagonal};
 
 use common::{both, either};
@@ -16,7 +16,6 @@ use grammar::Verdict;
 use grammar::check::{check_bodies, check_frame, is_group};
 use layout::limits::{DECLARATION_LENGTH, GROUP_STEP, PRODUCTION_LIMIT};
 use layout::{byte_at, declaration_at, declaration_count, production_count};
-use relation::{closed, no_pairs, with_group};
 
 // 01's numbers of the kinds of declaration.
 pub const HIGHER: usize = 1;
@@ -127,4 +126,115 @@ pub fn said_kind(own: usize) -> usize
         return own - GROUP_STEP;
     }
     own
+}
+
+fn no_pairs() -> [[bool; PRODUCTION_LIMIT]; PRODUCTION_LIMIT]
+    ensures square { Square production_limit result }
+    ensures by_index { (x y : ℕ) → entry result x y ≡ false }
+{
+    [[false; PRODUCTION_LIMIT]; PRODUCTION_LIMIT]
+}
+
+// The pairs of a group, from `first` to `second`, with those of the table: a row at a time.
+fn with_group(
+    table: [[bool; PRODUCTION_LIMIT]; PRODUCTION_LIMIT],
+    first: usize,
+    second: usize,
+) -> [[bool; PRODUCTION_LIMIT]; PRODUCTION_LIMIT]
+    requires { (second < production_limit) × Square production_limit table }
+    ensures square { Square production_limit result }
+    ensures with_group { WithGroup first second table result }
+{
+    let mut wider = table;
+    let group = members(first, second);
+    let mut x = first;
+    while x <= second {
+        wider[x] = merged(wider[x], group);
+        x += 1;
+    }
+    wider
+}
+
+// The row whose true entries are those from `first` to `second`.
+fn members(first: usize, second: usize) -> [bool; PRODUCTION_LIMIT]
+    requires { second < production_limit }
+    ensures { (y : ℕ) → get_or result y false ≡ between first second y }
+{
+    let mut row = [false; PRODUCTION_LIMIT];
+    let mut y = first;
+    while y <= second {
+        row[y] = true;
+        y += 1;
+    }
+    row
+}
+
+// The closure of a table whose true entries stand in its first `count` rows: an entry is true exactly if a chain of true entries leads there.
+pub fn closed(
+    table: [[bool; PRODUCTION_LIMIT]; PRODUCTION_LIMIT],
+    count: usize,
+) -> [[bool; PRODUCTION_LIMIT]; PRODUCTION_LIMIT]
+    requires { (count ≤ production_limit) × ((x y : ℕ) → entry table x y ≡ true → x < count) }
+    ensures { (x y : ℕ) → (entry result x y ≡ true) ↔ Chain (entry table) x y }
+{
+    let mut closure = table;
+    let mut middle = 0;
+    while middle < count {
+        if leads_on(closure[middle]) {
+            let wider = with_middle(closure, middle);
+            closure = wider;
+        }
+        middle += 1;
+    }
+    closure
+}
+
+// Whether a row has a true entry: if not, no chain goes on from there.
+pub fn leads_on(row: [bool; PRODUCTION_LIMIT]) -> bool
+    ensures value { result ≡ any_below production_limit (λ y. get_or row y false) }
+    ensures false_value { result ≡ false → (y : ℕ) → get_or row y false ≡ false }
+{
+    let mut found = false;
+    let mut y = 0;
+    while y < PRODUCTION_LIMIT {
+        found = either(found, row[y]);
+        y += 1;
+    }
+    found
+}
+
+// Chains that may also pass through `middle`: a row that leads there gets the row beyond it too.
+fn with_middle(
+    table: [[bool; PRODUCTION_LIMIT]; PRODUCTION_LIMIT],
+    middle: usize,
+) -> [[bool; PRODUCTION_LIMIT]; PRODUCTION_LIMIT]
+    requires { middle < production_limit }
+    ensures { (x y : ℕ) → entry result x y ≡ (entry table x y || entry table x middle && entry table middle y) }
+{
+    let mut wider = table;
+    let beyond = wider[middle];
+    let mut x = 0;
+    while x < PRODUCTION_LIMIT {
+        if wider[x][middle] {
+            wider[x] = merged(wider[x], beyond);
+        }
+        x += 1;
+    }
+    wider
+}
+
+// A row with another row.
+pub fn merged(
+    row: [bool; PRODUCTION_LIMIT],
+    other: [bool; PRODUCTION_LIMIT],
+) -> [bool; PRODUCTION_LIMIT]
+    ensures { (y : ℕ) → get_or result y false ≡ (get_or row y false || get_or other y false) }
+{
+    let mut out = row;
+    let mut y = 0;
+    while y < PRODUCTION_LIMIT {
+        out[y] = either(row[y], other[y]);
+        y += 1;
+    }
+    out
 }

@@ -4,7 +4,7 @@
 ghost use Rattle.std.specs.Prelude.{◌≡◌, true, cond, ◌↔◌, ℕ, ◌<◌};
 ghost use Rattle.grammar.specs.Formed.{WellFormed};
 ghost use Rattle.layout.specs.Limits.{production_limit};
-ghost use Rattle.relation.specs.Table.{entry};
+ghost use Rattle.priority.specs.Chain.{entry};
 ghost use Rattle.priority.specs.Priorities.{Higher, is_higher};
 ghost use Rattle.priority.specs.Conflict.{conflicts};
 ghost use Rattle.question.specs.Answer.{There, is_there, yes_or_no, conflict_answer};
@@ -13,7 +13,6 @@ use grammar::Verdict;
 use layout::limits::PRODUCTION_LIMIT;
 use layout::{argument, argument_count, production_count, result};
 use priority::{LEFT, NONASSOC, RIGHT, check_grammar, declared_pairs, priorities};
-use relation::entry_at;
 
 // What the conflict question answers.
 #[derive(Clone, Copy)]
@@ -111,4 +110,12 @@ fn is_conflict(above: bool, book: &[u8], p: usize, i: usize, q: usize) -> bool
         return entry_at(declared_pairs(book, LEFT, NONASSOC), p, q);
     }
     false
+}
+
+// One entry of a table.
+pub fn entry_at(pairs: [[bool; PRODUCTION_LIMIT]; PRODUCTION_LIMIT], p: usize, q: usize) -> bool
+    requires { (p < production_limit) × (q < production_limit) }
+    ensures { result ≡ entry pairs p q }
+{
+    pairs[p][q]
 }

@@ -14,8 +14,7 @@ use common::{both, either};
 use grammar::check::is_group;
 use layout::declaration_at;
 use priority::{Declaration, LEFT, NONASSOC, RIGHT, priorities, read_declaration, said_kind};
-use question::{ConflictAnswer, conflict};
-use relation::entry_at;
+use question::{ConflictAnswer, conflict, entry_at};
 use shortest::write_chain;
 
 // What the question for the reason answers. The lines are those of 01, "Ranks and clashes"; declarations are counted from 0.

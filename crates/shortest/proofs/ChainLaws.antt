@@ -16,10 +16,10 @@ use Rattle.grammar.specs.Check.{is_group}
 use Rattle.grammar.specs.declared.Verdict.TheVariants.{Accepted}
 use Rattle.layout.specs.Layout.{productions, declarations, kind, first, second}
 use Rattle.layout.specs.Limits.{kind_limit, pair_kind_limit}
-use Rattle.relation.proofs.ChainLaws.{chain_append}
+use Rattle.priority.proofs.ChainLaws.{chain_append}
 use Rattle.priority.proofs.CoverLaws.{declared_found, declared_made}
 use Rattle.priority.proofs.DeclarationLaws.{accepted_declares}
-use Rattle.relation.specs.Chain.{link, more}
+use Rattle.priority.specs.Chain.{link, more}
 use Rattle.priority.specs.Check.{checked}
 use Rattle.priority.specs.Priorities.{higher, kind_number, said_kind, either_way, names_pair, covers, declaration_of, declarations_of, declared, Higher, PriorityDeclaration}
 use Rattle.shortest.specs.Chain.{SaysHigher, Leads, one, onward}

@@ -14,8 +14,8 @@ returns-then-not-either c =
     let count = rows.production_count-count in
     let more = rows.used_more-more in
     let less = rows.used_more-less in
-    let first = c.any_true in
-    let second = c.any_true-2 in
+    let first = c.leads_on in
+    let second = c.leads_on-2 in
     let none : (first.result || second.result) ≡ false = sym c.either.ensures ∙ c.if-not-either.true in
     none_equal a.book.now count.result count.ensures (counted a.first) (counted a.second) more.result less.result more.ensures less.ensures
     (first.ensures.false_value (or_first_false first.result second.result none))
@@ -31,6 +31,6 @@ returns c =
     let more = rows.used_more-more in
     let less = rows.used_more-less in
     let higher = c.priorities in
-    let some = sym (ap₂ ◌||◌ test.any_true.ensures.value test.any_true-2.ensures.value) ∙ sym test.either.ensures ∙ test.if-not-either.false in
+    let some = sym (ap₂ ◌||◌ test.leads_on.ensures.value test.leads_on-2.ensures.value) ∙ sym test.either.ensures ∙ test.if-not-either.false in
     weighs_says a.book.now start.requires count.result count.ensures (counted a.first) (counted a.second) more.result less.result more.ensures less.ensures
     higher.result higher.ensures some _ c.weigh.ensures

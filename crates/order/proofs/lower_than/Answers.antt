@@ -11,7 +11,7 @@ use borrow.Author.Rules.{rules}
 use Rattle.common.proofs.BoolLaws.{or_cases, or_first, or_second}
 use Rattle.common.proofs.ListLaws.{get_d_all}
 use Rattle.layout.specs.Limits.{production_limit}
-use Rattle.relation.specs.Table.{entry}
+use Rattle.priority.specs.Chain.{entry}
 use Rattle.order.proofs.lower_than.Invariants.{OneOf}
 use Rattle.order.proofs.lower_than.Goals as goal
 use Rattle.order.proofs.lower_than.Goals.{then-these-q, else-these-q}

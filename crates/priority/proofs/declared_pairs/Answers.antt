@@ -14,8 +14,8 @@ use Rattle.layout.proofs.FramedLaws.{bodies_in}
 use Rattle.layout.specs.Layout.{declarations}
 use Rattle.layout.specs.Limits.{production_limit}
 use Rattle.priority.proofs.CoverLaws.{declared_none, pairs_more}
-use Rattle.relation.proofs.TableLaws.{square_put}
-use Rattle.relation.specs.Table.{entry, Square}
+use Rattle.priority.proofs.TableLaws.{square_put}
+use Rattle.priority.specs.Chain.{entry, Square}
 use Rattle.priority.specs.Priorities.{higher, kind_number, said_kind, declared_in, declaration_of, declarations_of}
 use Rattle.priority.specs.declared.Declaration.{Declaration}
 use Rattle.priority.proofs.declared_pairs.Invariants.{Taken}

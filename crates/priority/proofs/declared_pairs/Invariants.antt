@@ -5,7 +5,7 @@ use mathlib.Core.List.{List}
 use mathlib.Core.Path.{◌≡◌}
 use Rattle.common.specs.Lists.{tabulate}
 use Rattle.layout.specs.Limits.{production_limit}
-use Rattle.relation.specs.Table.{entry, Square}
+use Rattle.priority.specs.Chain.{entry, Square}
 use Rattle.priority.specs.Priorities.{Kind, kind_number, declared_in, declaration_of}
 use Rattle.priority.proofs.declared_pairs.Given as goal
 

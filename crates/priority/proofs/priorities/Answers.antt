@@ -4,9 +4,9 @@ use mathlib.Core.Path.{◌≡◌, refl, sym, ◌∙◌}
 use mathlib.Core.Bool.{Bool, or_self}
 use mathlib.Core.List.{List}
 use native.Mathlib.Omega.{arith}
-use Rattle.relation.proofs.ChainLaws.{chain_map}
+use Rattle.priority.proofs.ChainLaws.{chain_map}
 use Rattle.priority.proofs.PriorityLaws.{declared_there_lem}
-use Rattle.relation.specs.Table.{entry}
+use Rattle.priority.specs.Chain.{entry}
 use Rattle.priority.specs.Priorities.{higher, kind_number, declared, DeclaredPairs}
 use Rattle.priority.proofs.priorities.Goals as goal
 

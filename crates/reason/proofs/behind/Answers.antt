@@ -5,7 +5,7 @@ use mathlib.Core.Bool.{Bool, false, true}
 use mathlib.Core.List.{List}
 use mathlib.Core.Logic.{◌↔◌}
 use Rattle.common.proofs.BoolLaws.{not_both}
-use Rattle.relation.specs.Table.{entry}
+use Rattle.priority.specs.Chain.{entry}
 use Rattle.priority.specs.Priorities.{left, right, kind_number, either_way, Higher}
 use Rattle.reason.proofs.ReasonLaws.{yes_accepted, yes_formed, yes_there, reasoned_higher, first_covered, reasoned_first, last_covered, reasoned_last}
 use Rattle.reason.proofs.behind.Goals as goal

@@ -6,7 +6,7 @@ use lib.ListN.{replicate}
 use Rattle.common.proofs.FillLaws.{Filled}
 use Rattle.common.specs.Below.{between}
 use Rattle.layout.specs.Limits.{production_limit}
-use Rattle.relation.proofs.members.Given as goal
+use Rattle.priority.proofs.members.Given as goal
 
 -- what stands at place k of the row
 unfoldable pub Member : ℕ → ℕ → ℕ → Bool → Type 0

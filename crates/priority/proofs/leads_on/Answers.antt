@@ -1,4 +1,4 @@
--- `any_true` meets its contract: an entry passed is true exactly if one was found.
+-- `leads_on` meets its contract: an entry passed is true exactly if one was found.
 use Prim.Native.Nat.{ℕ}
 use mathlib.Core.Bool.{Bool, false, ◌||◌}
 use mathlib.Core.Logic.{by_cases}
@@ -10,8 +10,8 @@ use borrow.Author.Rules.{rules}
 use Rattle.common.proofs.BelowLaws.{any_none, any_next, any_never}
 use Rattle.common.specs.Below.{any_below}
 use Rattle.layout.specs.Limits.{production_limit}
-use Rattle.relation.proofs.any_true.Invariants.{at}
-use Rattle.relation.proofs.any_true.Goals as goal
+use Rattle.priority.proofs.leads_on.Invariants.{at}
+use Rattle.priority.proofs.leads_on.Goals as goal
 
 pub loop-y-init : goal.loop-y-init
 loop-y-init c = (omega arith, sym (any_none (at c.args.row)))

@@ -6,7 +6,7 @@ use mathlib.Core.List.{List}
 use lib.ListN.{get_or}
 use Rattle.common.proofs.FillLaws.{Filled}
 use Rattle.layout.specs.Limits.{production_limit}
-use Rattle.relation.proofs.merged.Given as goal
+use Rattle.priority.proofs.merged.Given as goal
 
 -- what stands at place k of the merged row
 unfoldable pub Joined : List Bool → List Bool → ℕ → Bool → Type 0

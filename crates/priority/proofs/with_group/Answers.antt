@@ -12,9 +12,9 @@ use Rattle.common.proofs.BelowLaws.{between_below, between_above, between_in}
 use Rattle.common.proofs.FillLaws.{filled_from, filled_more}
 use Rattle.common.specs.Below.{between}
 use Rattle.layout.specs.Limits.{production_limit}
-use Rattle.relation.specs.Table.{entry, Square}
-use Rattle.relation.proofs.with_group.Invariants.{Grouped}
-use Rattle.relation.proofs.with_group.Goals as goal
+use Rattle.priority.specs.Chain.{entry, Square}
+use Rattle.priority.proofs.with_group.Invariants.{Grouped}
+use Rattle.priority.proofs.with_group.Goals as goal
 
 module _ (t : List (List Bool)) (first second x : ℕ) where
   grouped_in : (row group : List Bool) → length row ≡ production_limit → first ≤ x → x ≤ second → ((y : ℕ) → get_or group y false ≡ between first second y)

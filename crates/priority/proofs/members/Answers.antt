@@ -9,8 +9,8 @@ use Rattle.common.proofs.BelowLaws.{between_below, between_above, between_in}
 use Rattle.common.proofs.FillLaws.{filled_from, filled_more}
 use Rattle.common.proofs.ListLaws.{get_d_all}
 use Rattle.layout.specs.Limits.{production_limit}
-use Rattle.relation.proofs.members.Invariants.{Member}
-use Rattle.relation.proofs.members.Goals as goal
+use Rattle.priority.proofs.members.Invariants.{Member}
+use Rattle.priority.proofs.members.Goals as goal
 
 pub loop-y-init : goal.loop-y-init
 unfolding Member

@@ -7,8 +7,8 @@ use lib.ListN.{length, get_or}
 use Rattle.common.proofs.FillLaws.{Filled}
 use Rattle.common.specs.Below.{between}
 use Rattle.layout.specs.Limits.{production_limit}
-use Rattle.relation.specs.Table.{entry}
-use Rattle.relation.proofs.with_group.Given as goal
+use Rattle.priority.specs.Chain.{entry}
+use Rattle.priority.proofs.with_group.Given as goal
 
 -- what row x of the wider table holds
 pub record Grouped (table : List (List Bool)) (first second x : ℕ) (row : List Bool) : Type 0 where

@@ -7,7 +7,7 @@ use native.Mathlib.Omega.{arith}
 use native.Mathlib.Decide.{dec_lt}
 use native.Mathlib.Numerals.{add-one}
 use Rattle.common.proofs.BoolLaws.{or_cases, or_first, or_second, and_both, and_first_true, and_second_true}
-use Rattle.relation.specs.Chain.{Chain, link, more, through}
+use Rattle.priority.specs.Chain.{Chain, link, more, through}
 
 pub chain_append : {r : ℕ → ℕ → Bool} {x y z : ℕ} → Chain r x y → Chain r y z → Chain r x z
 chain_append c (link e) = more c e

@@ -2,11 +2,11 @@
 use Prim.Native.Nat.{ℕ}
 use mathlib.Core.Path.{◌≡◌, refl, sym, ◌∙◌, subst}
 use native.Mathlib.Omega.{arith}
-use Rattle.relation.proofs.ChainLaws.{through_next, through_same, through_chain, chain_through}
-use Rattle.relation.specs.Chain.{through}
-use Rattle.relation.specs.Table.{entry}
-use Rattle.relation.proofs.closed.Goals as goal
-use Rattle.relation.proofs.closed.Goals.{then-any_true, else-any_true}
+use Rattle.priority.proofs.ChainLaws.{through_next, through_same, through_chain, chain_through}
+use Rattle.priority.specs.Chain.{through}
+use Rattle.priority.specs.Chain.{entry}
+use Rattle.priority.proofs.closed.Goals as goal
+use Rattle.priority.proofs.closed.Goals.{then-leads_on, else-leads_on}
 
 pub loop-middle-init : goal.loop-middle-init
 unfolding through
@@ -19,9 +19,9 @@ loop-middle-preserved c =
     let t = l.args.table in
     let m = l.loop-middle.middle in
     let i = l.loop-middle.invariant.0 in
-    elim c.if-any_true.branch [
-      | then-any_true w ↦ ((λ x y. rw w.closure-is (w.with_middle-wider.ensures x y ∙ rw (i x y, i x m, i m y) (sym (through_next (entry t) m x y)))), omega arith)
-      | else-any_true w ↦ ((λ x y. rw w.closure-is (i x y ∙ sym (through_same (entry t) m x y (sym (i m y) ∙ c.any_true.ensures.false_value w.if-any_true.false y)))), omega arith)
+    elim c.if-leads_on.branch [
+      | then-leads_on w ↦ ((λ x y. rw w.closure-is (w.with_middle-wider.ensures x y ∙ rw (i x y, i x m, i m y) (sym (through_next (entry t) m x y)))), omega arith)
+      | else-leads_on w ↦ ((λ x y. rw w.closure-is (i x y ∙ sym (through_same (entry t) m x y (sym (i m y) ∙ c.leads_on.ensures.false_value w.if-leads_on.false y)))), omega arith)
     ]
 
 pub returns : goal.returns

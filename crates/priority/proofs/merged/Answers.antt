@@ -10,8 +10,8 @@ use lib.ListN.{length, get_or, get_or-eq_default}
 use borrow.Author.Rules.{rules}
 use Rattle.common.proofs.FillLaws.{filled_none, filled_more}
 use Rattle.layout.specs.Limits.{production_limit}
-use Rattle.relation.proofs.merged.Invariants.{Joined}
-use Rattle.relation.proofs.merged.Goals as goal
+use Rattle.priority.proofs.merged.Invariants.{Joined}
+use Rattle.priority.proofs.merged.Goals as goal
 
 beyond_all : (row other : List Bool) (y : ℕ) → length row ≡ production_limit → length other ≡ production_limit → production_limit ≤ y
     → get_or row y false ≡ (get_or row y false || get_or other y false)

@@ -11,7 +11,7 @@ use lib.ListN.{length, get_or, set, length-set, replicate, length-replicate, get
 use lib.Seq.{get_or-set_same, get_or-set_other}
 use borrow.Author.Tests.{eq-eqb, ne_eqb}
 use Rattle.common.proofs.ListLaws.{get_d_all}
-use Rattle.relation.specs.Table.{entry, Square}
+use Rattle.priority.specs.Chain.{entry, Square}
 
 pub entry_out : (t : List (List Bool)) (x y : ℕ) → length t ≤ x → entry t x y ≡ false
 unfolding entry

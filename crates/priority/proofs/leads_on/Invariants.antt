@@ -1,4 +1,4 @@
--- `any_true` meets its contract: an entry passed is true exactly if one was found.
+-- `leads_on` meets its contract: an entry passed is true exactly if one was found.
 use Prim.Native.Nat.{ℕ, ◌-◌, ◌≤◌}
 use mathlib.Core.Bool.{Bool, false}
 use mathlib.Core.List.{List}
@@ -6,7 +6,7 @@ use mathlib.Core.Path.{◌≡◌}
 use lib.ListN.{get_or}
 use Rattle.common.specs.Below.{any_below}
 use Rattle.layout.specs.Limits.{production_limit}
-use Rattle.relation.proofs.any_true.Given as goal
+use Rattle.priority.proofs.leads_on.Given as goal
 
 -- the entry at y
 unfoldable pub at : List Bool → ℕ → Bool

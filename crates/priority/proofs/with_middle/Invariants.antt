@@ -6,8 +6,8 @@ use mathlib.Core.List.{List, []}
 use lib.ListN.{get_or}
 use Rattle.common.proofs.FillLaws.{Filled}
 use Rattle.layout.specs.Limits.{production_limit}
-use Rattle.relation.specs.Table.{entry}
-use Rattle.relation.proofs.with_middle.Given as goal
+use Rattle.priority.specs.Chain.{entry}
+use Rattle.priority.proofs.with_middle.Given as goal
 
 -- what row x of the wider table holds
 unfoldable pub Passes : List (List Bool) → ℕ → ℕ → List Bool → Type 0

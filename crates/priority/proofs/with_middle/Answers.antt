@@ -10,11 +10,11 @@ use lib.ListN.{length, get_or}
 use borrow.Author.Rules.{rules}
 use Rattle.common.proofs.FillLaws.{filled_none, filled_more, filled_kept}
 use Rattle.layout.specs.Limits.{production_limit}
-use Rattle.relation.proofs.TableLaws.{entry_out}
-use Rattle.relation.specs.Table.{entry}
-use Rattle.relation.proofs.with_middle.Invariants.{Passes}
-use Rattle.relation.proofs.with_middle.Goals as goal
-use Rattle.relation.proofs.with_middle.Goals.{then-wider-x, else-wider-x}
+use Rattle.priority.proofs.TableLaws.{entry_out}
+use Rattle.priority.specs.Chain.{entry}
+use Rattle.priority.proofs.with_middle.Invariants.{Passes}
+use Rattle.priority.proofs.with_middle.Goals as goal
+use Rattle.priority.proofs.with_middle.Goals.{then-wider-x, else-wider-x}
 
 module _ (t : List (List Bool)) (m x : ℕ) where
   passes_on : (row : List Bool) → entry t x m ≡ true → ((y : ℕ) → get_or row y false ≡ (entry t x y || entry t m y)) → Passes t m x row

@@ -1,3 +1,0 @@
--- Laws that the crates above cite.
-pub mod ChainLaws
-pub mod TableLaws
