@@ -17,12 +17,22 @@ fn main(rt: HostRuntime) -> io::Result<()> {
     let text = read_input(rt.alloc(), rt.stdin())?;
     let mut chart = large_buffer(rt.alloc())?;
     let mut listing = large_buffer(rt.alloc())?;
-    let mut out = rt.stdout();
-    match parse(&book, &text, &mut chart, &mut listing) {
-        Answer::None => print_word(&mut out, b"none\n"),
-        Answer::One(count) => print_listing(&mut out, &listing, count),
-        Answer::Several => print_word(&mut out, b"several\n"),
-        Answer::Refused(number, place) => print_refusal(&mut out, number, place),
+    print_answer(&mut rt.stdout(), &book, &text, &mut chart, &mut listing)
+}
+
+// Reads the text by the grammar, in the buffers, and prints the answer.
+fn print_answer<W: Write>(
+    out: &mut W,
+    book: &[u8],
+    text: &[u8],
+    chart: &mut [u8],
+    listing: &mut [u8],
+) -> io::Result<()> {
+    match parse(book, text, chart, listing) {
+        Answer::None => print_word(out, b"none\n"),
+        Answer::One(count) => print_listing(out, listing, count),
+        Answer::Several => print_word(out, b"several\n"),
+        Answer::Refused(number, place) => print_refusal(out, number, place),
     }
 }
 
