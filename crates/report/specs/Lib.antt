@@ -1,2 +1,2 @@
 -- What the contracts of the printing cite.
-pub mod Quoted
+pub mod Lines

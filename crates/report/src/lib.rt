@@ -4,7 +4,7 @@
 
 ghost use Rattle.std.specs.Prelude.{◌≡◌, ◌++◌, ◌≤◌, ◌<◌, ◌∷◌, [], length, take, replicate, codes, decimal, IfOk, OnOk, IfSome, vec_len};
 ghost use Rattle.std.specs.Io.KnownBytes.{Appends, Keeps};
-ghost use Rattle.report.specs.Quoted.{quoted_byte, quoted};
+ghost use Rattle.report.specs.Lines.{refusal_line, quoted_byte, quoted_line};
 
 use std::alloc::{AllocError, Global};
 use std::io;
@@ -49,7 +49,7 @@ pub fn print_start<W: Write>(out: &mut W, buffer: &[u8], count: usize) -> io::Re
 
 // 01's line for a refusal.
 pub fn print_refusal<W: Write>(out: &mut W, number: usize, place: usize) -> io::Result<()>
-    ensures { OnOk result (Appends (W.contents out.old) (W.contents out.new) (codes "refused " ++ (decimal number ++ (codes " " ++ (decimal place ++ codes "\n"))))) }
+    ensures { OnOk result (Appends (W.contents out.old) (W.contents out.new) (refusal_line number place)) }
 {
     writeln!(out, "refused {number} {place}")
 }
@@ -64,7 +64,7 @@ pub fn print_line<W: Write>(out: &mut W, bytes: &[u8]) -> io::Result<()>
 
 // Bytes in quotes, and a line feed; a byte outside 32 to 126 as `\` and its number.
 pub fn print_quoted<W: Write>(out: &mut W, bytes: &[u8]) -> io::Result<()>
-    ensures { OnOk result (Appends (W.contents out.old) (W.contents out.new) (codes "\"" ++ (quoted bytes.now ++ codes "\"\n"))) }
+    ensures { OnOk result (Appends (W.contents out.old) (W.contents out.new) (quoted_line bytes.now)) }
 {
     out.write_all(b"\"")?;
     for byte in bytes {
