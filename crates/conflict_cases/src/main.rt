@@ -2,60 +2,58 @@
 // A case is two fields: the grammar, and three bytes for production p, argument i and production q.
 #![tactic(auto)]
 
-ghost use Rattle.std.specs.Prelude.{◌≤◌, length};
+ghost use Rattle.std.specs.Prelude.{◌≤◌, length, IfOk};
 
 use common::wide;
-use libc::{STDIN_FILENO, STDOUT_FILENO};
 use question::{ConflictAnswer, conflict};
 use records::field_at;
-use report::print_refusal;
+use report::{print_refusal, read_input};
+use std::io;
+use std::io::Write;
 
-fn main() {
-    let mut input = io::large_buffer();
-    let n = io::read_full(STDIN_FILENO, &mut input);
-    ask_all(&input[..n]);
+fn main(rt: HostRuntime) -> io::Result<()> {
+    let input = read_input(rt.alloc(), rt.stdin())?;
+    ask_all(&mut rt.stdout(), &input)
 }
 
-fn ask_all(input: &[u8]) {
+fn ask_all<W: Write>(out: &mut W, input: &[u8]) -> io::Result<()> {
     let mut at = 0;
     while at < input.len() {
         let book = field_at(input, at);
         let start = book.start;
         let end = book.end;
-        at = ask(input, start, end);
+        at = ask(out, input, start, end)?;
     }
+    Ok(())
 }
 
 // One case; the place behind it comes back.
-fn ask(input: &[u8], start: usize, end: usize) -> usize
+fn ask<W: Write>(out: &mut W, input: &[u8], start: usize, end: usize) -> io::Result<usize>
     requires { (start ≤ end) × (end ≤ length input.now) }
-    ensures { (end ≤ result) × (result ≤ length input.now) }
+    ensures { IfOk result (λ next. (end ≤ next) × (next ≤ length input.now)) }
 {
     if end == input.len() {
-        return end;
+        return Ok(end);
     }
     let question = field_at(input, end);
     let from = question.start;
     let to = question.end;
     if to - from == 3 {
-        print(conflict(
+        let answer = conflict(
             &input[start..end],
             wide(input[from]),
             wide(input[from + 1]),
             wide(input[from + 2]),
-        ));
+        );
+        print(out, answer)?;
     }
-    to
+    Ok(to)
 }
 
-fn print(answer: ConflictAnswer) {
+fn print<W: Write>(out: &mut W, answer: ConflictAnswer) -> io::Result<()> {
     match answer {
-        ConflictAnswer::Yes => {
-            io::write_all(STDOUT_FILENO, b"yes\n");
-        }
-        ConflictAnswer::No => {
-            io::write_all(STDOUT_FILENO, b"no\n");
-        }
-        ConflictAnswer::Refused(number, place) => print_refusal(number, place),
+        ConflictAnswer::Yes => out.write_all(b"yes\n"),
+        ConflictAnswer::No => out.write_all(b"no\n"),
+        ConflictAnswer::Refused(number, place) => print_refusal(out, number, place),
     }
 }

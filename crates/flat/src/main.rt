@@ -2,16 +2,16 @@
 #![tactic(auto)]
 
 use flatten::write_flat;
-use libc::STDIN_FILENO;
-use report::{print_refusal, print_start};
+use report::{large_buffer, print_refusal, print_start, read_input};
+use std::io;
 use writing::WriteAnswer;
 
-fn main() {
-    let mut input = io::large_buffer();
-    let n = io::read_full(STDIN_FILENO, &mut input);
-    let mut out = io::large_buffer();
-    match write_flat(&input[..n], &mut out) {
-        WriteAnswer::Written(length) => print_start(&out, length),
-        WriteAnswer::Refused(number, place) => print_refusal(number, place),
+fn main(rt: HostRuntime) -> io::Result<()> {
+    let input = read_input(rt.alloc(), rt.stdin())?;
+    let mut out = large_buffer(rt.alloc())?;
+    let mut printer = rt.stdout();
+    match write_flat(&input, &mut out) {
+        WriteAnswer::Written(length) => print_start(&mut printer, &out, length),
+        WriteAnswer::Refused(number, place) => print_refusal(&mut printer, number, place),
     }
 }

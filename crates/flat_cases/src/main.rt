@@ -2,53 +2,66 @@
 // A case is two fields: the grammar, and two bytes with the length of the buffer, low byte first.
 #![tactic(auto)]
 
-ghost use Rattle.std.specs.Prelude.{◌≤◌, length};
+ghost use Rattle.std.specs.Prelude.{◌≤◌, length, IfOk};
 
 use common::two_bytes;
 use flatten::write_flat;
-use libc::STDIN_FILENO;
 use records::field_at;
-use report::{print_refusal, print_start};
+use report::{large_buffer, print_refusal, print_start, read_input};
+use std::alloc::Global;
+use std::io;
+use std::io::Write;
 use writing::WriteAnswer;
 
-fn main() {
-    let mut input = io::large_buffer();
-    let n = io::read_full(STDIN_FILENO, &mut input);
-    write_cases(&input[..n]);
+fn main(rt: HostRuntime) -> io::Result<()> {
+    let input = read_input(rt.alloc(), rt.stdin())?;
+    write_cases(rt.alloc(), &mut rt.stdout(), &input)
 }
 
-fn write_cases(input: &[u8]) {
+fn write_cases<W: Write>(alloc: Global, printer: &mut W, input: &[u8]) -> io::Result<()> {
     let mut at = 0;
     while at < input.len() {
         let book = field_at(input, at);
         let start = book.start;
         let end = book.end;
-        at = write_case(input, start, end);
+        at = write_case(alloc, printer, input, start, end)?;
     }
+    Ok(())
 }
 
 // One case; the place behind it comes back.
-fn write_case(input: &[u8], start: usize, end: usize) -> usize
+fn write_case<W: Write>(
+    alloc: Global,
+    printer: &mut W,
+    input: &[u8],
+    start: usize,
+    end: usize,
+) -> io::Result<usize>
     requires { (start ≤ end) × (end ≤ length input.now) }
-    ensures { (end ≤ result) × (result ≤ length input.now) }
+    ensures { IfOk result (λ next. (end ≤ next) × (next ≤ length input.now)) }
 {
     if end == input.len() {
-        return end;
+        return Ok(end);
     }
     let room = field_at(input, end);
     let from = room.start;
     let to = room.end;
     if to - from == 2 {
-        print_flat(&input[start..end], two_bytes(input, from));
+        print_flat(alloc, printer, &input[start..end], two_bytes(input, from))?;
     }
-    to
+    Ok(to)
 }
 
-fn print_flat(book: &[u8], room: usize) {
-    let mut out = io::large_buffer();
+fn print_flat<W: Write>(
+    alloc: Global,
+    printer: &mut W,
+    book: &[u8],
+    room: usize,
+) -> io::Result<()> {
+    let mut out = large_buffer(alloc)?;
     match write_within(book, &mut out, room) {
-        WriteAnswer::Written(length) => print_start(&out, length),
-        WriteAnswer::Refused(number, place) => print_refusal(number, place),
+        WriteAnswer::Written(length) => print_start(printer, &out, length),
+        WriteAnswer::Refused(number, place) => print_refusal(printer, number, place),
     }
 }
 

@@ -2,70 +2,77 @@
 // A case is three fields: the grammar, the text and the listing.
 #![tactic(auto)]
 
-ghost use Rattle.std.specs.Prelude.{◌≤◌, length};
+ghost use Rattle.std.specs.Prelude.{◌≤◌, length, IfOk};
 
-use libc::{STDIN_FILENO, STDOUT_FILENO};
 use listing::{ListingAnswer, check_listing};
 use records::field_at;
-use report::print_refusal;
+use report::{print_refusal, read_input};
+use std::io;
+use std::io::Write;
 
-fn main() {
-    let mut input = io::large_buffer();
-    let n = io::read_full(STDIN_FILENO, &mut input);
-    check_all(&input[..n]);
+fn main(rt: HostRuntime) -> io::Result<()> {
+    let input = read_input(rt.alloc(), rt.stdin())?;
+    check_all(&mut rt.stdout(), &input)
 }
 
-fn check_all(input: &[u8]) {
+fn check_all<W: Write>(out: &mut W, input: &[u8]) -> io::Result<()> {
     let mut at = 0;
     while at < input.len() {
         let book = field_at(input, at);
         let start = book.start;
         let end = book.end;
-        at = check_text(input, start, end);
+        at = check_text(out, input, start, end)?;
     }
+    Ok(())
 }
 
 // One case, whose grammar stands from start to end; the place behind the case comes back.
-fn check_text(input: &[u8], start: usize, end: usize) -> usize
+fn check_text<W: Write>(out: &mut W, input: &[u8], start: usize, end: usize) -> io::Result<usize>
     requires { (start ≤ end) × (end ≤ length input.now) }
-    ensures { (end ≤ result) × (result ≤ length input.now) }
+    ensures { IfOk result (λ next. (end ≤ next) × (next ≤ length input.now)) }
 {
     if end == input.len() {
-        return end;
+        return Ok(end);
     }
     let text = field_at(input, end);
     let from = text.start;
     let to = text.end;
-    check_case(input, start, end, from, to)
+    check_case(out, input, start, end, from, to)
 }
 
 // The same, its text from `from` to `to`.
-fn check_case(input: &[u8], start: usize, end: usize, from: usize, to: usize) -> usize
+fn check_case<W: Write>(
+    out: &mut W,
+    input: &[u8],
+    start: usize,
+    end: usize,
+    from: usize,
+    to: usize,
+) -> io::Result<usize>
     requires { (start ≤ end) × (end ≤ to) × (from ≤ to) × (to ≤ length input.now) }
-    ensures { (to ≤ result) × (result ≤ length input.now) }
+    ensures { IfOk result (λ next. (to ≤ next) × (next ≤ length input.now)) }
 {
     if to == input.len() {
-        return to;
+        return Ok(to);
     }
     let listing = field_at(input, to);
     let first = listing.start;
     let last = listing.end;
-    print(check_listing(&input[start..end], &input[from..to], &input[first..last]));
-    last
+    print(
+        out,
+        check_listing(&input[start..end], &input[from..to], &input[first..last]),
+    )?;
+    Ok(last)
 }
 
-fn print(answer: ListingAnswer) {
+fn print<W: Write>(out: &mut W, answer: ListingAnswer) -> io::Result<()> {
     match answer {
-        ListingAnswer::Right => {
-            io::write_all(STDOUT_FILENO, b"right\n");
-        }
-        ListingAnswer::Wrong(index) => print_index(index),
-        ListingAnswer::Refused(number, place) => print_refusal(number, place),
+        ListingAnswer::Right => out.write_all(b"right\n"),
+        ListingAnswer::Wrong(index) => print_index(out, index),
+        ListingAnswer::Refused(number, place) => print_refusal(out, number, place),
     }
 }
 
-fn print_index(index: usize) {
-    io::write_all(STDOUT_FILENO, b"wrong ");
-    io::print_decimal(STDOUT_FILENO, index as u64);
-    io::write_all(STDOUT_FILENO, b"\n");
+fn print_index<W: Write>(out: &mut W, index: usize) -> io::Result<()> {
+    writeln!(out, "wrong {index}")
 }

@@ -4,13 +4,14 @@
 // has beyond it, behind a refusal one with all that it has. Of a text, a byte outside 32 to 126 is printed as `\` and its number.
 #![tactic(auto)]
 
-ghost use Rattle.std.specs.Prelude.{◌<◌, ◌≤◌, length};
+ghost use Rattle.std.specs.Prelude.{◌<◌, ◌≤◌, length, IfOk};
 
-use libc::{STDIN_FILENO, STDOUT_FILENO};
 use lines::LINE_LENGTH;
 use page::{text_under, write_page};
 use records::{bytes_of, field_at, field_from, number_of};
-use report::{print_line, print_quoted, print_refusal, print_start};
+use report::{print_line, print_quoted, print_refusal, print_start, read_input};
+use std::io;
+use std::io::Write;
 use writing::WriteAnswer;
 
 // Enough for the longest page, of 4,096 lines.
@@ -19,30 +20,31 @@ const LARGEST_BUFFER: usize = 300000;
 // How long a page is that is printed whole.
 const SHORT_PAGE: usize = 20 * LINE_LENGTH;
 
-fn main() {
-    let mut input = io::large_buffer();
-    let n = io::read_full(STDIN_FILENO, &mut input);
-    run_cases(&input[..n]);
+fn main(rt: HostRuntime) -> io::Result<()> {
+    let input = read_input(rt.alloc(), rt.stdin())?;
+    run_cases(&mut rt.stdout(), &input)
 }
 
 // ---- the input
 
-fn run_cases(input: &[u8]) {
+fn run_cases<W: Write>(out: &mut W, input: &[u8]) -> io::Result<()> {
     let mut at = 0;
     while at < input.len() {
-        at = run_case(input, at);
+        at = run_case(out, input, at)?;
     }
+    Ok(())
 }
 
 // One case; the place behind it comes back.
-fn run_case(input: &[u8], at: usize) -> usize
+fn run_case<W: Write>(out: &mut W, input: &[u8], at: usize) -> io::Result<usize>
     requires { at < length input.now }
-    ensures { (at < result) × (result ≤ length input.now) }
+    ensures { IfOk result (λ next. (at < next) × (next ≤ length input.now)) }
 {
     let book = field_at(input, at);
     let text = field_from(input, book.end);
     let listing = field_from(input, text.end);
     run_rest(
+        out,
         input,
         listing.end,
         bytes_of(input, book),
@@ -52,70 +54,101 @@ fn run_case(input: &[u8], at: usize) -> usize
 }
 
 // The same, with its first three fields found; the others stand at `at`.
-fn run_rest(input: &[u8], at: usize, book: &[u8], text: &[u8], listing: &[u8]) -> usize
+fn run_rest<W: Write>(
+    out: &mut W,
+    input: &[u8],
+    at: usize,
+    book: &[u8],
+    text: &[u8],
+    listing: &[u8],
+) -> io::Result<usize>
     requires { at ≤ length input.now }
-    ensures { (at ≤ result) × (result ≤ length input.now) }
+    ensures { IfOk result (λ next. (at ≤ next) × (next ≤ length input.now)) }
 {
     let room = field_from(input, at);
     let index = field_from(input, room.end);
-    print_page(book, text, listing, number_of(input, room));
-    print_texts(book, text, listing, number_of(input, index));
-    index.end
+    print_page(out, book, text, listing, number_of(input, room))?;
+    print_texts(out, book, text, listing, number_of(input, index))?;
+    Ok(index.end)
 }
 
 // ---- the page
 
-fn print_page(book: &[u8], text: &[u8], listing: &[u8], room: usize) {
+fn print_page<W: Write>(
+    out: &mut W,
+    book: &[u8],
+    text: &[u8],
+    listing: &[u8],
+    room: usize,
+) -> io::Result<()> {
     let mut buffer = [b'#'; LARGEST_BUFFER];
-    print_page_in(book, text, listing, &mut buffer, room);
+    print_page_in(out, book, text, listing, &mut buffer, room)
 }
 
 // Uses only the first `room` bytes of the buffer, or all of it.
-fn print_page_in(book: &[u8], text: &[u8], listing: &[u8], buffer: &mut [u8], room: usize) {
+fn print_page_in<W: Write>(
+    out: &mut W,
+    book: &[u8],
+    text: &[u8],
+    listing: &[u8],
+    buffer: &mut [u8],
+    room: usize,
+) -> io::Result<()> {
     if room < buffer.len() {
-        return print_answer(book, text, listing, &mut buffer[..room]);
+        return print_answer(out, book, text, listing, &mut buffer[..room]);
     }
-    print_answer(book, text, listing, buffer);
+    print_answer(out, book, text, listing, buffer)
 }
 
-fn print_answer(book: &[u8], text: &[u8], listing: &[u8], page: &mut [u8]) {
+fn print_answer<W: Write>(
+    out: &mut W,
+    book: &[u8],
+    text: &[u8],
+    listing: &[u8],
+    page: &mut [u8],
+) -> io::Result<()> {
     match write_page(book, text, listing, page) {
-        WriteAnswer::Written(length) => print_written(page, length),
+        WriteAnswer::Written(length) => print_written(out, page, length),
         WriteAnswer::Refused(number, place) => {
-            print_refusal(number, place);
-            print_line(page);
+            print_refusal(out, number, place)?;
+            print_line(out, page)
         }
     }
 }
 
-fn print_written(page: &[u8], length: usize) {
-    io::write_all(STDOUT_FILENO, b"written ");
-    io::print_decimal(STDOUT_FILENO, length as u64);
-    io::write_all(STDOUT_FILENO, b"\n");
+fn print_written<W: Write>(out: &mut W, page: &[u8], length: usize) -> io::Result<()> {
+    writeln!(out, "written {length}")?;
     if length <= page.len() {
-        print_lines(page, length);
-        print_line(&page[length..]);
+        print_lines(out, page, length)?;
+        print_line(out, &page[length..])?;
     }
+    Ok(())
 }
 
 // The page in the first n bytes.
-fn print_lines(page: &[u8], n: usize)
+fn print_lines<W: Write>(out: &mut W, page: &[u8], n: usize) -> io::Result<()>
     requires { n ≤ length page.now }
 {
     if n <= SHORT_PAGE {
-        return print_start(page, n);
+        return print_start(out, page, n);
     }
     let last = n - 2 * LINE_LENGTH;
-    print_start(page, LINE_LENGTH);
-    io::write_all(STDOUT_FILENO, &page[last..n]);
+    print_start(out, page, LINE_LENGTH)?;
+    out.write_all(&page[last..n])
 }
 
 // ---- the text under a number
 
 // Both parts of the text are held before either is printed.
-fn print_texts(book: &[u8], text: &[u8], listing: &[u8], index: usize) {
+fn print_texts<W: Write>(
+    out: &mut W,
+    book: &[u8],
+    text: &[u8],
+    listing: &[u8],
+    index: usize,
+) -> io::Result<()> {
     let first = text_under(book, text, listing, 0);
     let other = text_under(book, text, listing, index);
-    print_quoted(first);
-    print_quoted(other);
+    print_quoted(out, first)?;
+    print_quoted(out, other)
 }

@@ -1,8 +1,8 @@
 // The input of the programs that run stored cases: fields, each two bytes with its length, low byte first, and then its bytes.
 #![tactic(auto)]
 
-ghost use Rattle.std.specs.Prelude.{◌≡◌, ◌<◌, ◌≤◌, length};
-ghost use Rattle.records.specs.Fields.{field_start, field_end};
+ghost use Rattle.std.specs.Prelude.{◌≡◌, ◌<◌, ◌≤◌, length, slice_range, get_or};
+ghost use Rattle.records.specs.Fields.{field_start, field_end, number_in};
 
 use common::{BYTE_VALUES, two_bytes, wide};
 
@@ -14,6 +14,7 @@ pub struct Field {
 }
 
 // The field at `at`; where the input ends first, what is left of it.
+#[tactic(auto, unfolding(crate::specs::Fields::field_start, crate::specs::Fields::field_end))]
 pub fn field_at(input: &[u8], at: usize) -> Field
     requires { at < length input.now }
     ensures start_value { (result.start ≡ field_start input.now at) × (result.end ≡ field_end input.now at) }
@@ -42,7 +43,9 @@ pub fn field_at(input: &[u8], at: usize) -> Field
 // The field at `at`; an empty one where the input ends.
 pub fn field_from(input: &[u8], at: usize) -> Field
     requires { at ≤ length input.now }
-    ensures { (at ≤ result.end) × (result.start ≤ result.end) × (result.end ≤ length input.now) }
+    ensures within { (at ≤ result.end) × (result.start ≤ result.end) × (result.end ≤ length input.now) }
+    ensures value { at < length input.now → (result.start ≡ field_start input.now at) × (result.end ≡ field_end input.now at) }
+    ensures empty { at ≡ length input.now → (result.start ≡ at) × (result.end ≡ at) }
 {
     if at == input.len() {
         return Field { start: at, end: at };
@@ -53,6 +56,7 @@ pub fn field_from(input: &[u8], at: usize) -> Field
 // The bytes of a field.
 pub fn bytes_of<'a>(input: &'a [u8], field: Field) -> &'a [u8]
     requires { (field.start ≤ field.end) × (field.end ≤ length input.now) }
+    ensures { result.now ≡ slice_range input.now field.start field.end }
 {
     let start = field.start;
     let end = field.end;
@@ -62,6 +66,7 @@ pub fn bytes_of<'a>(input: &'a [u8], field: Field) -> &'a [u8]
 // The number that a field has: up to three bytes, low byte first.
 pub fn number_of(input: &[u8], field: Field) -> usize
     requires { (field.start ≤ field.end) × (field.end ≤ length input.now) }
+    ensures { result ≡ number_in (slice_range input.now field.start field.end) }
 {
     let bytes = bytes_of(input, field);
     wide(byte_at(bytes, 0))
@@ -69,7 +74,9 @@ pub fn number_of(input: &[u8], field: Field) -> usize
 }
 
 // The byte at `at`; 0 behind the last one.
-fn byte_at(bytes: &[u8], at: usize) -> u8 {
+fn byte_at(bytes: &[u8], at: usize) -> u8
+    ensures { result ≡ get_or bytes.now at 0 }
+{
     if at < bytes.len() {
         return bytes[at];
     }

@@ -3,12 +3,13 @@
 // Chart and summary are filled with `#` before. Of each the first 12 bytes are printed, a byte outside 32 to 126 as `\` and its number.
 #![tactic(auto)]
 
-ghost use Rattle.std.specs.Prelude.{◌<◌, ◌≤◌, length};
+ghost use Rattle.std.specs.Prelude.{◌<◌, ◌≤◌, length, IfOk};
 
-use libc::{STDIN_FILENO, STDOUT_FILENO};
 use records::{bytes_of, field_at, field_from, number_of};
-use report::{print_quoted, print_refusal};
+use report::{print_quoted, print_refusal, read_input};
 use sheet::{Step, read_sheet, walk_once};
+use std::io;
+use std::io::Write;
 use writing::WriteAnswer;
 
 // Enough for a line of 200 characters by a grammar of ten rows, and for the summary of the longest sheet.
@@ -17,29 +18,30 @@ const LARGEST_BUFFER: usize = 210000;
 // How many bytes of a buffer are printed.
 const SHOWN: usize = 12;
 
-fn main() {
-    let mut input = io::large_buffer();
-    let n = io::read_full(STDIN_FILENO, &mut input);
-    run_cases(&input[..n]);
+fn main(rt: HostRuntime) -> io::Result<()> {
+    let input = read_input(rt.alloc(), rt.stdin())?;
+    run_cases(&mut rt.stdout(), &input)
 }
 
 // ---- the input
 
-fn run_cases(input: &[u8]) {
+fn run_cases<W: Write>(out: &mut W, input: &[u8]) -> io::Result<()> {
     let mut at = 0;
     while at < input.len() {
-        at = run_case(input, at);
+        at = run_case(out, input, at)?;
     }
+    Ok(())
 }
 
 // One case; the place behind it comes back.
-fn run_case(input: &[u8], at: usize) -> usize
+fn run_case<W: Write>(out: &mut W, input: &[u8], at: usize) -> io::Result<usize>
     requires { at < length input.now }
-    ensures { (at < result) × (result ≤ length input.now) }
+    ensures { IfOk result (λ next. (at < next) × (next ≤ length input.now)) }
 {
     let book = field_at(input, at);
     let sheet = field_from(input, book.end);
     run_rest(
+        out,
         input,
         sheet.end,
         bytes_of(input, book),
@@ -48,53 +50,68 @@ fn run_case(input: &[u8], at: usize) -> usize
 }
 
 // The same, with its first two fields found; the others stand at `at`.
-fn run_rest(input: &[u8], at: usize, book: &[u8], sheet: &[u8]) -> usize
+fn run_rest<W: Write>(
+    out: &mut W,
+    input: &[u8],
+    at: usize,
+    book: &[u8],
+    sheet: &[u8],
+) -> io::Result<usize>
     requires { at ≤ length input.now }
-    ensures { (at ≤ result) × (result ≤ length input.now) }
+    ensures { IfOk result (λ next. (at ≤ next) × (next ≤ length input.now)) }
 {
     let chart = field_from(input, at);
     let summary = field_from(input, chart.end);
     let start = field_from(input, summary.end);
     let room = number_of(input, chart);
-    print_sheet(book, sheet, room, number_of(input, summary));
-    print_step(book, sheet, number_of(input, start), room);
-    start.end
+    print_sheet(out, book, sheet, room, number_of(input, summary))?;
+    print_step(out, book, sheet, number_of(input, start), room)?;
+    Ok(start.end)
 }
 
 // ---- the sheet
 
-fn print_sheet(book: &[u8], sheet: &[u8], chart_room: usize, summary_room: usize) {
+fn print_sheet<W: Write>(
+    out: &mut W,
+    book: &[u8],
+    sheet: &[u8],
+    chart_room: usize,
+    summary_room: usize,
+) -> io::Result<()> {
     let mut chart = [b'#'; LARGEST_BUFFER];
     let mut summary = [b'#'; LARGEST_BUFFER];
     print_sheet_in(
+        out,
         book,
         sheet,
         &mut chart,
         &mut summary,
         chart_room,
         summary_room,
-    );
+    )
 }
 
 // Uses only the first bytes of the buffers, or all of them.
-fn print_sheet_in(
+fn print_sheet_in<W: Write>(
+    out: &mut W,
     book: &[u8],
     sheet: &[u8],
     chart: &mut [u8],
     summary: &mut [u8],
     chart_room: usize,
     summary_room: usize,
-) {
+) -> io::Result<()> {
     let chart_length = lesser(chart_room, chart.len());
     let summary_length = lesser(summary_room, summary.len());
     print_answer(
+        out,
         book,
         sheet,
         &mut chart[..chart_length],
         &mut summary[..summary_length],
-    );
-    print_shown(summary);
-    print_shown(chart);
+    )?;
+    print_shown(out, summary)?;
+    print_shown(out, chart)
 }
 
 fn lesser(m: usize, n: usize) -> usize
@@ -106,50 +123,67 @@ fn lesser(m: usize, n: usize) -> usize
     n
 }
 
-fn print_answer(book: &[u8], sheet: &[u8], chart: &mut [u8], summary: &mut [u8]) {
+fn print_answer<W: Write>(
+    out: &mut W,
+    book: &[u8],
+    sheet: &[u8],
+    chart: &mut [u8],
+    summary: &mut [u8],
+) -> io::Result<()> {
     match read_sheet(book, sheet, chart, summary) {
-        WriteAnswer::Written(count) => print_number(b"lines ", count),
-        WriteAnswer::Refused(number, place) => print_refusal(number, place),
+        WriteAnswer::Written(count) => print_number(out, b"lines ", count),
+        WriteAnswer::Refused(number, place) => print_refusal(out, number, place),
     }
 }
 
 // ---- a step
 
-fn print_step(book: &[u8], sheet: &[u8], start: usize, room: usize) {
+fn print_step<W: Write>(
+    out: &mut W,
+    book: &[u8],
+    sheet: &[u8],
+    start: usize,
+    room: usize,
+) -> io::Result<()> {
     let mut chart = [b'#'; LARGEST_BUFFER];
-    print_step_in(book, sheet, start, &mut chart, room);
+    print_step_in(out, book, sheet, start, &mut chart, room)
 }
 
-fn print_step_in(book: &[u8], sheet: &[u8], start: usize, chart: &mut [u8], room: usize) {
+fn print_step_in<W: Write>(
+    out: &mut W,
+    book: &[u8],
+    sheet: &[u8],
+    start: usize,
+    chart: &mut [u8],
+    room: usize,
+) -> io::Result<()> {
     let length = lesser(room, chart.len());
     let stepped = walk_once(book, sheet, start, &mut chart[..length]);
     let step = stepped.step;
     let next = stepped.next;
-    print_came(step);
-    print_number(b"next ", next);
-    print_shown(chart);
+    print_came(out, step)?;
+    print_number(out, b"next ", next)?;
+    print_shown(out, chart)
 }
 
-fn print_came(step: Step) {
+fn print_came<W: Write>(out: &mut W, step: Step) -> io::Result<()> {
     match step {
-        Step::End => {
-            io::write_all(STDOUT_FILENO, b"end\n");
-        }
-        Step::Line(byte) => print_number(b"line ", byte as usize),
-        Step::Refused(number, place) => print_refusal(number, place),
+        Step::End => out.write_all(b"end\n"),
+        Step::Line(byte) => print_number(out, b"line ", byte as usize),
+        Step::Refused(number, place) => print_refusal(out, number, place),
     }
 }
 
 // ---- printing
 
-fn print_number(word: &[u8], n: usize) {
-    io::write_all(STDOUT_FILENO, word);
-    io::print_decimal(STDOUT_FILENO, n as u64);
-    io::write_all(STDOUT_FILENO, b"\n");
+fn print_number<W: Write>(out: &mut W, word: &[u8], n: usize) -> io::Result<()> {
+    out.write_all(word)?;
+    writeln!(out, "{n}")
 }
 
-fn print_shown(buffer: &[u8]) {
+fn print_shown<W: Write>(out: &mut W, buffer: &[u8]) -> io::Result<()> {
     if SHOWN <= buffer.len() {
-        print_quoted(&buffer[..SHOWN]);
+        print_quoted(out, &buffer[..SHOWN])?;
     }
+    Ok(())
 }

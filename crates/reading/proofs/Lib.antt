@@ -1,0 +1,2 @@
+-- Lemmas of reading.
+pub mod Lines

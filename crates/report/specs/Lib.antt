@@ -1,0 +1,2 @@
+-- What the contracts of the printing cite.
+pub mod Lines
