@@ -75,6 +75,7 @@ use Rattle.grammar.proofs.FormedLaws.{pair_judged}
 use Rattle.grammar.proofs.RisenLaws.{risen_turned, risen_rises, risen_small}
 use Rattle.grammar.proofs.EqualLaws.{equal_exactly}
 use Rattle.grammar.proofs.TurnedLaws.{turned_back, rising_characters, rising_passed}
+use Rattle.priority.specs.Check.{checked}
 use Rattle.priority.specs.Priorities.{Kind, left, right, nonassoc, kind_number, either_way, declaration_of, declarations_of}
 use Rattle.priority.specs.declared.Declaration.{Declaration}
 use Rattle.priority.specs.Spelled.{spelled_out}
