@@ -1,10 +1,12 @@
 # make test runs everything that the gate runs; its last line is that of rt ci.
-# rt ci removes target/ and leaves there what it proved: what needs the library comes behind it, so that nothing is proved twice.
+# rt ci keeps what it proved for its next run; what a crate's own check proves stays in that crate's out/, and a later check begins with it.
 
 BUILD := build
-LIBRARY := target/staticlib/libmeadowsink.a
+OUT := crates/meadowsink/out
+LIBRARY := $(OUT)/libmeadowsink.a
 RUSTC := rustc --edition 2021 -O
-LINK := -L target/staticlib -l static=meadowsink
+LINK := -L $(OUT) -l static=meadowsink
+PROGRAMS := flat reading
 CASE_CRATES := grammar_cases conflict_cases flat_cases listing_cases page_cases sheet_cases
 # how many random cases the second parser compares
 CASES := 100000
@@ -15,25 +17,25 @@ MANY_CASES := 1000000
 # the line 8/4*2 read by book T
 run:
 	@mkdir -p $(BUILD)
-	@rt check reading > $(BUILD)/run.log 2>&1 || { cat $(BUILD)/run.log; exit 1; }
-	@cd crates/reading/data && ../../../target/bin/reading < ../stdin
+	@cd crates/reading && rt run < /dev/null > ../../$(BUILD)/run.log 2>&1 || { cat ../../$(BUILD)/run.log; exit 1; }
+	@cd crates/reading/data && ../out/reading < ../stdin
 
 # the library for C
 lib:
-	rt staticlib meadowsink
+	cd crates/meadowsink && rt lib
 
 test:
-	rt fmt --check
-	$(MAKE) cases check-books unused
 	sh tests/ci.sh $(BUILD)
+	$(MAKE) cases check-books unused
 	$(MAKE) lib
 	$(MAKE) -j2 viewer check-examples constants second stack programs
 	@cat $(BUILD)/ci.last
 
 # the programs flat and reading, run
 programs:
-	rt check flat reading
-	sh tests/programs.sh target/bin
+	mkdir -p $(BUILD)/programs
+	for p in $(PROGRAMS); do (cd crates/$$p && rt run < /dev/null > /dev/null) && cp crates/$$p/out/$$p $(BUILD)/programs || exit 1; done
+	sh tests/programs.sh $(BUILD)/programs
 
 # the C program that uses every call
 viewer: $(LIBRARY)
@@ -158,7 +160,7 @@ $(BUILD)/cases: tools/cases.rs
 	$(RUSTC) -o $@ $<
 
 check:
-	rt check
+	rt all check
 
 clean:
-	rm -rf target $(BUILD)
+	rm -rf crates/*/out $(BUILD)

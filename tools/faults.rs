@@ -52,10 +52,10 @@ fn refused(log: &str) -> Option<&str> {
 
 // The library of the changed code against the second parser.
 fn caught(copy: &str) -> Option<String> {
-    if !run(copy, "rt", &["staticlib", "meadowsink"]).status.success() {
+    if !run(&format!("{copy}/crates/meadowsink"), "rt", &["lib"]).status.success() {
         return Some("refused in a crate above".to_string());
     }
-    let build = ["--edition", "2021", "-O", "-o", "second", "tests/second/main.rs", "-L", "target/staticlib", "-l", "static=meadowsink"];
+    let build = ["--edition", "2021", "-O", "-o", "second", "tests/second/main.rs", "-L", "crates/meadowsink/out", "-l", "static=meadowsink"];
     if !run(copy, "rustc", &build).status.success() {
         fail("the second parser can't be built");
     }
@@ -70,7 +70,7 @@ fn attempt(copy: &str, fault: &Fault) -> Option<String> {
         fail(&format!("{}: not once: {}", fault.file, fault.old));
     }
     fs::write(&path, source.replace(&fault.old, &fault.new)).unwrap_or_else(|_| fail(&fault.file));
-    let log = said(&run(copy, "rt", &["dev", &fault.name]));
+    let log = said(&run(&format!("{copy}/crates/{}", fault.name), "rt", &["check"]));
     let end = if log.contains("logic=not-proved") { Some(format!("refused: `{}`", refused(&log).unwrap_or("the crate"))) } else { caught(copy) };
     fs::write(&path, source).unwrap_or_else(|_| fail(&fault.file));
     end

@@ -32,7 +32,7 @@ struct Word {
 struct Import {
     name: String,
     line: usize,
-    // the module that it is from, as `Rattle·layout.specs.Layout`, and what it is called there
+    // the module that it is from, as `Rattle.layout.specs.Layout`, and what it is called there
     from: String,
     original: String,
     // a whole module, used as `name.`
@@ -46,7 +46,7 @@ struct Import {
 fn in_word(c: char, notation: Notation) -> bool {
     match notation {
         Notation::Code => c.is_alphanumeric() || c == '_',
-        Notation::Ghost => !c.is_whitespace() && !"(){}[],;.⌜⌝\"".contains(c),
+        Notation::Ghost => !c.is_whitespace() && !"(){}[],;.\"".contains(c),
     }
 }
 
@@ -254,8 +254,7 @@ fn uses<'a>(words: &'a [Word], notation: Notation, functions: &HashSet<&str>) ->
 
 // Whether a name is a function or a law of the project: its declaration starts a line.
 fn is_function(root: &Path, import: &Import) -> bool {
-    let Some((owner, module)) = import.from.strip_prefix("Rattle·").and_then(|path| path.split_once('.')) else { return false };
-    let owner = owner.split('·').next().unwrap_or(owner);
+    let Some((owner, module)) = import.from.strip_prefix("Rattle.").and_then(|path| path.split_once('.')) else { return false };
     let path = root.join("crates").join(owner).join(module.replace('.', "/") + ".antt");
     let declares = |row: &str| !row.starts_with(' ') && row.split_once(" : ").is_some_and(|(left, _)| left.split(' ').next_back() == Some(&import.original));
     path.is_file() && read(&path).lines().any(declares)
@@ -266,8 +265,8 @@ fn is_used(import: &Import, words: &[Word], used: &HashSet<&str>) -> bool {
     if import.module {
         return (1..words.len()).any(|at| words[at].text == "." && words[at].joined && words[at - 1].text == import.name);
     }
-    let mut parts = import.name.split('_').filter(|part| !part.is_empty());
-    used.contains(import.name.as_str()) || import.name.contains('_') && parts.all(|part| used.contains(part))
+    let mut parts = import.name.split('◌').filter(|part| !part.is_empty());
+    used.contains(import.name.as_str()) || import.name.contains('◌') && parts.all(|part| used.contains(part))
 }
 
 fn check_text(root: &Path, path: &Path, text: &str, notation: Notation) -> Vec<String> {
@@ -296,7 +295,7 @@ fn referred(text: &str, notation: Notation) -> HashSet<String> {
     let path = |at: usize| text_at(&words, Some(at + 1)) == ":" && text_at(&words, Some(at + 2)) == ":" && !is_field(&words, at, notation);
     match notation {
         Notation::Code => (0..words.len()).filter(|&at| path(at)).map(|at| words[at].text.clone()).collect(),
-        Notation::Ghost => words.iter().filter_map(|w| w.text.strip_prefix("Rattle·")).map(str::to_string).collect(),
+        Notation::Ghost => (0..words.len()).filter(|&at| words[at].text == "Rattle").map(|at| text_at(&words, Some(at + 2)).to_string()).collect(),
     }
 }
 
@@ -319,7 +318,8 @@ fn check_file(root: &Path, path: &Path, crates: &mut HashSet<String>) -> Vec<Str
 fn check_list(list: &Path, referred: &HashMap<String, HashSet<String>>) -> Vec<String> {
     let mut found = Vec::new();
     for (at, row) in read(list).lines().enumerate() {
-        let Some((name, listed)) = without_comment(row, "#").split_once(':') else { continue };
+        let Some((head, listed)) = without_comment(row, "#").split_once(':') else { continue };
+        let name = head.split(' ').next().unwrap_or(head);
         let unused = listed.split_whitespace().filter(|&other| !referred.get(name).is_some_and(|crates| crates.contains(other)));
         found.extend(unused.map(|other| format!("{}:{}: no file of crate `{}` refers to crate `{}`", list.display(), at + 1, name, other)));
     }
@@ -343,7 +343,8 @@ fn entries(directory: &Path) -> Vec<PathBuf> {
 }
 
 fn files(directory: &Path) -> Vec<PathBuf> {
-    let inner = entries(directory).into_iter().flat_map(|path| if path.is_dir() { files(&path) } else { vec![path] });
+    let made = |path: &PathBuf| path.file_name().is_some_and(|name| name == "out");
+    let inner = entries(directory).into_iter().filter(|path| !made(path)).flat_map(|path| if path.is_dir() { files(&path) } else { vec![path] });
     inner.filter(|path| path.extension().is_some_and(|e| e == "antt" || e == "rt")).collect()
 }
 

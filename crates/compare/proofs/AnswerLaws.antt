@@ -2,15 +2,13 @@
 use Prim.Native.Nat.{ℕ}
 use mathlib.Core.Bool.{Bool, false, true, not}
 use mathlib.Core.List.{List, [], ◌∷◌}
-use mathlib.Core.Path.{◌≡◌, refl, sym, ◌∙◌, ap, subst}
+use mathlib.Core.Path.{◌≡◌, refl, ap}
 use Rattle.compare.specs.Answer.{found_right, not_right, compare_lines, ComparedIf, Compared}
 use Rattle.compare.specs.Uses.{uses}
-use Rattle.compare.specs.declared.CompareAnswer.{CompareAnswer}
 use Rattle.compare.specs.declared.CompareAnswer.TheVariants.{Ordered, Refused}
 use Rattle.engine.specs.Refusals.{too_long}
 use Rattle.grammar.proofs.VerdictLaws.{and_first, and_assoc}
 use Rattle.grammar.specs.Verdict.{refuse_if, and_then, in_order}
-use Rattle.grammar.specs.declared.Verdict.{Verdict}
 use Rattle.grammar.specs.declared.Verdict.TheVariants.{Accepted, Refused as Rejected}
 use Rattle.listing.specs.Answer.{bad_listing, judged}
 use Rattle.order.specs.Order.{OrderIs}

@@ -13,11 +13,10 @@ use Rattle.charset.specs.Set.{characters}
 use Rattle.classes.proofs.ClassesLaws.{class_character}
 use Rattle.common.proofs.BelowLaws.{bit_small}
 use Rattle.common.specs.Below.{bit_of}
-use Rattle.compare.specs.Uses.{occurrences, uses, tree_uses, forest_uses}
+use Rattle.compare.specs.Uses.{occurrences, tree_uses, forest_uses}
 use Rattle.flatten.specs.Trees.{Built, Arguments}
 use Rattle.layout.specs.Layout.{argument_count}
 use Rattle.layout.specs.Limits.{class_base}
-use Rattle.numbers.specs.Numbers.{numbers_of}
 use Rattle.theory.specs.Tree.{Tree, leaf, node, Forest, none, ◌▷◌, production_number, listing, listings}
 
 -- ---- occurrences

@@ -29,7 +29,7 @@ use Rattle.listing.specs.declared.Part.{Part}
 use Rattle.listing.specs.declared.Part.TheVariants.{Complete, Fault}
 use Rattle.numbers.specs.Numbers.{numbers_of}
 use Rattle.tables.proofs.LayoutLaws.{counts_few}
-use Rattle.tables.specs.Layout.{slot, root_slot, counts_of, arity_in, takes_char, takes_production, ParserTables}
+use Rattle.tables.specs.Layout.{slot, counts_of, arity_in, takes_char, takes_production, ParserTables}
 use Rattle.theory.specs.Tree.{production_number}
 
 -- ---- the next byte of a text

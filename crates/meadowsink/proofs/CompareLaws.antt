@@ -1,7 +1,7 @@
 -- The calls for comparing two parses: each reply fits, and what is lent determines the number.
 use Prim.Native.Nat.{ℕ}
 use mathlib.Core.List.{List}
-use mathlib.Core.Path.{◌≡◌, refl, sym, ◌∙◌, ap}
+use mathlib.Core.Path.{◌≡◌, sym, ◌∙◌, ap}
 use native.Mathlib.Omega.{arith}
 use Rattle.compare.proofs.OneLaws.{compared_one, compared_number}
 use Rattle.compare.specs.Answer.{Compared}

@@ -2,7 +2,7 @@
 // or why it is refused.
 #![tactic(auto)]
 
-ghost use Rattle.std.specs.Prelude.{◌+◌, ◌*◌, ◌++◌, ◌≤◌, ◌<◌, List, ℕ, length, codes, IfOk, OnOk, vec_len};
+ghost use Rattle.std.specs.Prelude.{◌+◌, ◌*◌, ◌++◌, ◌≤◌, ◌<◌, length, codes, IfOk, OnOk, vec_len};
 ghost use Rattle.std.specs.Io.KnownBytes.{Appends};
 ghost use Rattle.engine.specs.declared.Answer.{Answer};
 ghost use Rattle.parse.specs.Outcome.{Outcome};

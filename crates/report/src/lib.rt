@@ -2,7 +2,7 @@
 // A contract names the bytes where the reader or the writer says which it has; standard input and output don't.
 #![tactic(auto)]
 
-ghost use Rattle.std.specs.Prelude.{◌≡◌, ◌++◌, ◌≤◌, ◌<◌, ◌∷◌, [], length, take, replicate, codes, decimal, IfOk, OnOk, IfSome, vec_len};
+ghost use Rattle.std.specs.Prelude.{◌≡◌, ◌++◌, ◌≤◌, ◌<◌, length, take, replicate, codes, decimal, IfOk, OnOk, IfSome, vec_len};
 ghost use Rattle.std.specs.Io.KnownBytes.{Appends, Keeps};
 ghost use Rattle.report.specs.Lines.{refusal_line, quoted_byte, quoted_line};
 

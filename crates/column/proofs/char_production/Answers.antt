@@ -1,5 +1,5 @@
 -- `char_production` meets its contract: the arguments below d are written.
-use Prim.Native.Nat.{ℕ, ◌-◌}
+use Prim.Native.Nat.{ℕ}
 use mathlib.Core.Path.{◌≡◌, ap, subst}
 use native.Mathlib.Omega.{arith}
 use Rattle.common.proofs.RegionLaws.{region_none, region_more}

@@ -1,5 +1,5 @@
 -- `char_row` meets its contract: the rows of the productions below p are written.
-use Prim.Native.Nat.{ℕ, ◌+◌, ◌-◌}
+use Prim.Native.Nat.{ℕ, ◌+◌}
 use mathlib.Core.Path.{◌≡◌, refl, sym, ◌∙◌, subst, subst₂}
 use native.Mathlib.Omega.{arith}
 use lib.ListN.{length}

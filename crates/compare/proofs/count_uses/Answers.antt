@@ -2,7 +2,6 @@
 use Prim.Native.Nat.{ℕ, ◌+◌, ◌-◌, ◌≤◌, ◌<◌}
 use mathlib.Core.Bool.{Bool, false, true, ◌&&◌, false≢true}
 use mathlib.Core.List.{List}
-use mathlib.Core.Logic.{⊎_elim}
 use mathlib.Core.Path.{◌≡◌, sym, ◌∙◌, ap}
 use native.Mathlib.Decide.{ℕ_discrete}
 use native.Mathlib.Omega.{arith}
@@ -109,8 +108,8 @@ loop-k-preserved c =
     let there : turn.loop-k.k < length (numbers_of l) = omega (arith, numbers_length l) in
     elim c.if-both.branch [
       | then-both w ↦
-        let there-in = in_range n _ c.both.ensures w.if-both.true in
-        (omega arith, rw w.counts-is (counting_own (numbers_of l) turn.loop-k.k there turn.loop-k.counts turn.loop-k.invariant.1 (n - production_number 0) (omega arith) (omega (arith, c.number_at-n.ensures))))
+          let there-in = in_range n _ c.both.ensures w.if-both.true in
+          (omega arith, rw w.counts-is (counting_own (numbers_of l) turn.loop-k.k there turn.loop-k.counts turn.loop-k.invariant.1 (n - production_number 0) (omega arith) (omega (arith, c.number_at-n.ensures))))
       | else-both w ↦ (
         omega arith,
         rw w.counts-is (counting_other (numbers_of l) turn.loop-k.k there turn.loop-k.counts turn.loop-k.invariant.1

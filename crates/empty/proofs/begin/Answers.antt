@@ -1,5 +1,4 @@
 -- `begin` meets its contract: the productions below p have their 1, and p's rows begin at `base`.
-use Prim.Native.Nat.{◌-◌}
 use mathlib.Core.Path.{◌≡◌, sym, ◌∙◌}
 use native.Mathlib.Omega.{arith}
 use native.Mathlib.Nat.{le_refl}

@@ -1,5 +1,5 @@
 -- `first_root` meets its contract: the productions below p have none, so there is one from p on.
-use Prim.Native.Nat.{◌+◌, ◌-◌}
+use Prim.Native.Nat.{◌+◌}
 use native.Mathlib.Omega.{arith}
 use lib.ListN.{length}
 use Rattle.common.proofs.BelowLaws.{sum_none}

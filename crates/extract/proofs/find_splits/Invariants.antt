@@ -1,5 +1,4 @@
 -- `find_splits` meets its contract: from the right, the places from d on are found.
-use Prim.Native.Nat.{◌-◌}
 use Rattle.extract.proofs.SplitLaws.{SplitsLeft}
 use Rattle.extract.proofs.find_splits.Given as goal
 

@@ -1,5 +1,4 @@
 -- `first_child` meets its contract: no production before q fits.
-use Prim.Native.Nat.{◌-◌}
 use mathlib.Core.Path.{sym, ◌∙◌}
 use native.Mathlib.Omega.{arith}
 use borrow.Author.Count.{below_more}

@@ -1,5 +1,4 @@
 -- `write_levels` meets its contract: each step leaves less to do, until no level is open or no room is left.
-use Prim.Native.Nat.{◌-◌}
 use mathlib.Core.Path.{refl, ◌∙◌}
 use native.Mathlib.Omega.{arith}
 use Rattle.extract.proofs.StepLaws.{midway_still, out_of_room, all_closed}

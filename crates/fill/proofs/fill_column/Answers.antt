@@ -50,10 +50,14 @@ fill_spans-requires c = let start = c in
     let clear2 = c.clear-2 in
     let w = start.args.text.now in
     let cleared = subst (λ (n : ℕ). ColumnCleared (length w) n start.args.j start.args.chart.now clear-column.new.chart) row_count.ensures clear-column.ensures in
-    let zeros = sums_zero row_count.result start.args.j start.args.sums.now clear.new.bytes (omega (arith, start.requires.ready.fits.short, start.requires.j_in_bounds)) clear.ensures in record { ready = ready_kept clear-column.new.chart clear.new.bytes clear2.new.bytes clear-column.auto.chart clear.auto.bytes clear2.auto.bytes start.requires.ready; j_in_bounds = start.requires.j_in_bounds; small = record {
-          cells = small_cleared (length w) (rows_of start.args.tables.now) start.args.j start.requires.j_in_bounds start.args.chart.now clear-column.new.chart cleared start.requires.small_cells;
-          little = subst (λ (n : ℕ). SmallSums n start.args.j clear.new.bytes) row_count.ensures (small_zero row_count.result start.args.j clear.new.bytes zeros);
-        } }
+    let zeros = sums_zero row_count.result start.args.j start.args.sums.now clear.new.bytes (omega (arith, start.requires.ready.fits.short, start.requires.j_in_bounds)) clear.ensures in record {
+      ready = ready_kept clear-column.new.chart clear.new.bytes clear2.new.bytes clear-column.auto.chart clear.auto.bytes clear2.auto.bytes start.requires.ready;
+      j_in_bounds = start.requires.j_in_bounds;
+      small = record {
+        cells = small_cleared (length w) (rows_of start.args.tables.now) start.args.j start.requires.j_in_bounds start.args.chart.now clear-column.new.chart cleared start.requires.small_cells;
+        little = subst (λ (n : ℕ). SmallSums n start.args.j clear.new.bytes) row_count.ensures (small_zero row_count.result start.args.j clear.new.bytes zeros);
+      };
+    }
 
 pub slice_bounds-store_cells-end : goal.slice_bounds-store_cells-end
 slice_bounds-store_cells-end c = omega (arith, c.requires.ready.prepared.linked.long)

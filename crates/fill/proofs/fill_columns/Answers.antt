@@ -1,5 +1,4 @@
 -- `fill_columns` meets its contract: the columns before j are filled.
-use Prim.Native.Nat.{◌-◌}
 use native.Mathlib.Omega.{arith}
 use Rattle.fill.proofs.FurtherLaws.{columns_none, columns_more, columns_all, ready_kept}
 use Rattle.fill.proofs.fill_columns.Goals as goal

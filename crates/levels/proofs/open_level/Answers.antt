@@ -1,5 +1,5 @@
 -- `open_level` meets its contract: the first b bytes of the level are written.
-use Prim.Native.Nat.{ℕ, ◌-◌, ◌*◌}
+use Prim.Native.Nat.{ℕ, ◌*◌}
 use mathlib.Core.Path.{◌≡◌, subst}
 use native.Mathlib.Omega.{arith}
 use Rattle.common.proofs.RegionLaws.{region_none, region_more}

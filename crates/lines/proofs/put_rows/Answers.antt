@@ -1,5 +1,5 @@
 -- `put_rows` meets its contract: the lines of the numbers passed are put.
-use Prim.Native.Nat.{ℕ, ◌-◌}
+use Prim.Native.Nat.{ℕ}
 use mathlib.Core.Path.{◌≡◌, refl, sym, ap, subst}
 use native.Mathlib.Omega.{arith}
 use lib.ListN.{length, get_or}

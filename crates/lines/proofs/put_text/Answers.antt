@@ -1,5 +1,5 @@
 -- `put_text` meets its contract: the columns passed are put.
-use Prim.Native.Nat.{ℕ, ◌-◌}
+use Prim.Native.Nat.{ℕ}
 use mathlib.Core.Path.{◌≡◌, sym, ap}
 use native.Mathlib.Omega.{arith}
 use Rattle.common.proofs.ListLaws.{length_tabulate, tabulate_next}

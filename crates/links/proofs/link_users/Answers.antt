@@ -1,5 +1,5 @@
 -- `link_users` meets its contract: the productions of the octets below k are linked.
-use Prim.Native.Nat.{ℕ, ◌+◌, ◌-◌, ◌*◌, min, ◌≤◌}
+use Prim.Native.Nat.{ℕ, ◌+◌, ◌*◌, min, ◌≤◌}
 use mathlib.Core.Path.{◌≡◌, sym, ◌∙◌, subst, subst⁻¹}
 use native.Mathlib.Nat.{mul-le-mul_right}
 use native.Mathlib.Omega.{arith}

@@ -1,5 +1,5 @@
 -- `used_octet` meets its contract: the arguments below d are joined.
-use Prim.Native.Nat.{ℕ, ◌+◌, ◌-◌}
+use Prim.Native.Nat.{ℕ, ◌+◌}
 use mathlib.Core.Path.{◌≡◌, sym, ap, subst}
 use native.Mathlib.Omega.{arith}
 use lib.Bits.{bit_or}

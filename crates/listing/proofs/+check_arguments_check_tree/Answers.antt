@@ -1,4 +1,4 @@
-use Prim.Native.Nat.{◌+◌, ◌-◌, ◌<◌, ℕ}
+use Prim.Native.Nat.{◌+◌, ◌<◌, ℕ}
 use native.Mathlib.Omega.{arith}
 use Rattle.tables.proofs.LayoutLaws.{counts_few}
 use Rattle.tables.specs.Layout.{slot, counts_of, arity_in}

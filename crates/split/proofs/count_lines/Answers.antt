@@ -1,5 +1,4 @@
 -- `count_lines` meets its contract: a line from each start to the next.
-use Prim.Native.Nat.{◌-◌}
 use native.Mathlib.Omega.{arith}
 use Rattle.split.proofs.LinesLaws.{next_behind, next_later, counting_first, counting_more, counting_last}
 use Rattle.split.proofs.count_lines.Goals as goal

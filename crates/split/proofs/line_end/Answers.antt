@@ -1,5 +1,4 @@
 -- `line_end` meets its contract: it goes on as the line does.
-use Prim.Native.Nat.{◌-◌}
 use mathlib.Core.Path.{sym, ◌∙◌}
 use native.Mathlib.Omega.{arith}
 use Rattle.split.proofs.LinesLaws.{goes_on_more, ending_first, ending_more, ending_last}
