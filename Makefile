@@ -20,9 +20,9 @@ run:
 	@cd crates/reading && rt run < /dev/null > ../../$(BUILD)/run.log 2>&1 || { cat ../../$(BUILD)/run.log; exit 1; }
 	@cd crates/reading/data && ../out/reading < ../stdin
 
-# the library for C
+# the library for C, in code that runs on every processor of x86-64
 lib:
-	cd crates/meadowsink && rt lib
+	cd crates/meadowsink && rt lib --cpu x86-64
 
 test:
 	sh tests/ci.sh $(BUILD)

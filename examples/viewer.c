@@ -678,8 +678,7 @@ static int option(const char *name, int count, char **words, int *at) {
 
 static _Noreturn void misused(void) {
     fail("usage: viewer [--page] [--names NAMES] BOOK [LINE]  or  viewer --sheet SHEET BOOK  or  viewer --flat BOOK"
-         "  or  viewer --from-flat FLAT --top NUMBERS [LINE]  or  viewer --why [--names NAMES] BOOK P I Q"
-         "  or  viewer --compare FIRST SECOND [--names NAMES] BOOK [LINE]");
+         "  or  viewer --from-flat FLAT --top NUMBERS [LINE]  or  viewer --why [--names NAMES] BOOK P I Q");
 }
 
 static int view_by_flat(int count, char **words, int at) {

@@ -5,7 +5,7 @@ dir=$(mktemp -d) || exit 1
 trap 'rm -rf "$dir"' EXIT
 failures=0
 
-# A library of the C text on standard input, in sections of their own, as rt staticlib makes them.
+# A library of the C text on standard input, in sections of their own, as rt lib makes them.
 library() { # NAME
     gcc -std=gnu11 -Wall -Wextra -Werror -O2 -ffunction-sections -fdata-sections -fno-asynchronous-unwind-tables -c -x c -o "$dir/$1.o" - &&
         ar rc "$dir/lib$1.a" "$dir/$1.o" || exit 1

@@ -52,7 +52,7 @@ fn refused(log: &str) -> Option<&str> {
 
 // The library of the changed code against the second parser.
 fn caught(copy: &str) -> Option<String> {
-    if !run(&format!("{copy}/crates/meadowsink"), "rt", &["lib"]).status.success() {
+    if !run(&format!("{copy}/crates/meadowsink"), "rt", &["lib", "--cpu", "x86-64"]).status.success() {
         return Some("refused in a crate above".to_string());
     }
     let build = ["--edition", "2021", "-O", "-o", "second", "tests/second/main.rs", "-L", "crates/meadowsink/out", "-l", "static=meadowsink"];

@@ -1,4 +1,4 @@
-// The library's calls for safe Rust: copy this file into a program and link it with target/staticlib/libmeadowsink.a.
+// The library's calls for safe Rust: copy this file into a program and link it with crates/meadowsink/out/libmeadowsink.a.
 //
 // The functions are safe for whatever the slices hold. The library wants areas that don't overlap, and pointers that are not null: shared and exclusive
 // slices don't overlap, and the pointer of an empty slice is not null. Refusals have the numbers and places of include/meadowsink.h.

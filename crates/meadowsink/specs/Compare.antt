@@ -5,7 +5,7 @@ use Rattle.compare.specs.declared.CompareAnswer.{CompareAnswer}
 use Rattle.reply.specs.Answers.{compare_reply}
 use Rattle.reply.specs.declared.Reply.{Reply}
 
--- What a call gives that makes a number of the reply: numberOf, or placeOf.
+-- What a call gives that makes a number of the reply: number_of, or place_of.
 pub record CompareCall (number : Reply → ℕ) (b w first second : List ℕ) (r : ℕ) : Type 0 where
   pub answer : CompareAnswer
   pub compared : Compared b w first second answer

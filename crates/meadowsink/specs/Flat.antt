@@ -13,7 +13,7 @@ use Rattle.reply.specs.declared.Reply.{Reply}
 unfoldable pub root_entries : List ℕ → List Bool
 root_entries bytes = tabulate production_limit (λ r. not (eqb (get_or bytes r 0) 0))
 
--- What a call gives that makes a number of the reply for reading: numberOf, or placeOf.
+-- What a call gives that makes a number of the reply for reading: number_of, or place_of.
 abbrev pub FlatCall : (number : Reply → ℕ) (flat roots w c₀ l₀ : List ℕ) (r : ℕ) (c l : List ℕ) → Type 0
 FlatCall number flat roots w = CallOutcome number (FlatOutcome flat (root_entries roots) w)
 

@@ -5,7 +5,7 @@ use Rattle.reply.specs.Answers.{write_reply}
 use Rattle.reply.specs.declared.Reply.{Reply}
 use Rattle.writing.specs.declared.WriteAnswer.{WriteAnswer}
 
--- What a call gives that makes a number of the reply for the page's answer: numberOf, or placeOf.
+-- What a call gives that makes a number of the reply for the page's answer: number_of, or place_of.
 pub record PageCall (number : Reply → ℕ) (b w l page₀ : List ℕ) (r : ℕ) (page : List ℕ) : Type 0 where
   pub answer : WriteAnswer
   pub outcome : PageOutcome b w l page₀ answer page

@@ -5,7 +5,7 @@ use Rattle.reason.specs.declared.ReasonAnswer.{ReasonAnswer}
 use Rattle.reply.specs.Answers.{reason_reply}
 use Rattle.reply.specs.declared.Reply.{Reply}
 
--- What a call gives that makes a number of the reply: numberOf, or placeOf.
+-- What a call gives that makes a number of the reply: number_of, or place_of.
 pub record ReasonCall (number : Reply → ℕ) (b : List ℕ) (p i q : ℕ) (c₀ : List ℕ) (r : ℕ) (c : List ℕ) : Type 0 where
   pub answer : ReasonAnswer
   pub outcome : Reasoned b p i q c₀ answer c

@@ -6,7 +6,7 @@ use Rattle.sheet.specs.Outcome.{SheetOutcome, StepOutcome}
 use Rattle.sheet.specs.declared.Step.{Step}
 use Rattle.writing.specs.declared.WriteAnswer.{WriteAnswer}
 
--- What a call gives that makes a number of the reply for the sheet's answer: numberOf, or placeOf.
+-- What a call gives that makes a number of the reply for the sheet's answer: number_of, or place_of.
 pub record SheetCall (number : Reply → ℕ) (b s c₀ m₀ : List ℕ) (r : ℕ) (c m : List ℕ) : Type 0 where
   pub answer : WriteAnswer
   pub outcome : SheetOutcome b s c₀ m₀ answer c m
