@@ -29,7 +29,7 @@ use Rattle.listing.specs.declared.Part.{Part}
 use Rattle.listing.specs.declared.Part.TheVariants.{Complete, Fault}
 use Rattle.numbers.specs.Numbers.{numbers_of}
 use Rattle.tables.proofs.LayoutLaws.{counts_few}
-use Rattle.tables.specs.Layout.{slot, counts_of, arity_in, takes_char, takes_production, ParserTables}
+use Rattle.tables.specs.Layout.{slot, counts_of, arity_in, takes_char, takes_production, ParserTables, root_slot}
 use Rattle.theory.specs.Tree.{production_number}
 
 -- ---- the next byte of a text
@@ -219,3 +219,9 @@ module _ (b : List ℕ) (formed : WellFormed b) (bytes : (k : ℕ) → get_or b 
   tables_judged w l =
       ap₂ (λ (lines : List Line) (roots : Class). judge lines (numbers_of l) (roots ∷ []) w 0)
       (table_grammar_lem b t formed bytes tables) (fun_ext (table_root b formed bytes t tables))
+
+  -- so is what the walk over all of it gives
+  pub walk_judged : (w l : List ℕ) (r : Part) → Walked (table_grammar t) (numbers_of l) w (table_class t root_slot ∷ []) 0 0 r
+      → after_part (table_grammar t) (numbers_of l) [] w r ≡ judged b w l
+  unfolding judged_by
+  walk_judged w l r walked = sym (walked.decides []) ∙ tables_judged w l
