@@ -20,9 +20,9 @@ use Rattle.engine.specs.declared.Answer.{Answer}
 use Rattle.engine.specs.declared.Answer.TheVariants.{Refused}
 use Rattle.form.proofs.FormLaws.{longest_unique, says_unique}
 use Rattle.form.specs.Form.{Says, NotInForm}
-use Rattle.grammar.proofs.VerdictLaws.{refuse_case, refuse_accepted, first_of, FirstIn, here, there, order_first}
-use Rattle.grammar.specs.declared.Verdict.{Verdict}
-use Rattle.grammar.specs.declared.Verdict.TheVariants.{Accepted, Refused as Rejected}
+use Rattle.refusal.proofs.VerdictLaws.{refuse_case, refuse_accepted, first_of, FirstIn, here, there, order_first}
+use Rattle.refusal.specs.Verdict.{Verdict}
+use Rattle.grammar.specs.declared.Verdict.TheVariants.{accepted, Refused as Rejected}
 use Rattle.layout.specs.Limits.{production_limit}
 use Rattle.load.proofs.AbsentLaws.{class_number, names_number}
 use Rattle.load.proofs.NamesLaws.{class_names, class_accepted, names_first, names_accepted}
@@ -35,10 +35,10 @@ module _ (g : List Line) (roots : List Bool) where
   abbrev root_verdict : Verdict
   root_verdict = absent_in (length g) (root_class roots)
 
-  entries_there : root_verdict ≡ Accepted → (q : ℕ) → length g ≤ q → q < production_limit → get_or roots q false ≡ false
+  entries_there : root_verdict ≡ accepted → (q : ℕ) → length g ≤ q → q < production_limit → get_or roots q false ≡ false
   entries_there e q l h = sym (root_number_lem roots q) ∙ class_names (length g) (root_class roots) e q l h
 
-  there_entries : ((q : ℕ) → length g ≤ q → q < production_limit → get_or roots q false ≡ false) → root_verdict ≡ Accepted
+  there_entries : ((q : ℕ) → length g ≤ q → q < production_limit → get_or roots q false ≡ false) → root_verdict ≡ accepted
   there_entries none = class_accepted (length g) (root_class roots) (λ q l h. root_number_lem roots q ∙ none q l h)
 
   refused_lowest : (k : ℕ) → root_verdict ≡ Rejected 28 k → LowestRoot g roots k
@@ -68,7 +68,7 @@ module _ (g : List Line) (roots : List Bool) where
       (λ o. omega (arith, a.is_place, b.is_place)))
 
   lowest_refused : (v : Verdict) → root_verdict ≡ v → (k : ℕ) → LowestRoot g roots k → v ≡ Rejected 28 k
-  lowest_refused Accepted e k f = absurd (true≢false (sym f.allowed ∙ entries_there e f.q f.absent f.number))
+  lowest_refused accepted e k f = absurd (true≢false (sym f.allowed ∙ entries_there e f.q f.absent f.number))
   lowest_refused (Rejected n j) e k f =
       let is = class_number (length g) (root_class roots) n j e in
       ap (λ (m : ℕ). Rejected m j) is ∙ ap (Rejected 28) (lowest_unique j k (refused_lowest j (e ∙ ap (λ (m : ℕ). Rejected m j) is)) f)
@@ -82,14 +82,14 @@ module _ (g : List Line) (roots : List Bool) (w c₀ : List ℕ) where
   abbrev refusals : List Verdict
   refusals = absent_names g ∷ absent_in (length g) (root_class roots) ∷ too_long w ∷ chart_too_short need c₀ ∷ []
 
-  all_there : absent_names g ≡ Accepted → absent_in (length g) (root_class roots) ≡ Accepted → AllThere g roots
+  all_there : absent_names g ≡ accepted → absent_in (length g) (root_class roots) ≡ accepted → AllThere g roots
   all_there a b = record { classes = (names_accepted g).0 a; entries = entries_there g roots b }
 
-  there_all : AllThere g roots → (absent_names g ≡ Accepted) × (absent_in (length g) (root_class roots) ≡ Accepted)
+  there_all : AllThere g roots → (absent_names g ≡ accepted) × (absent_in (length g) (root_class roots) ≡ accepted)
   there_all h = ((names_accepted g).1 h.classes, there_entries g roots h.entries)
 
   abbrev Named : ℕ → Type 0
-  Named k = FirstNamed g k ⊎ ((absent_names g ≡ Accepted) × LowestRoot g roots k)
+  Named k = FirstNamed g k ⊎ ((absent_names g ≡ accepted) × LowestRoot g roots k)
 
   by_name : (n k : ℕ) → FirstIn refusals n k → n ≡ 28 → Named k
   by_name n k (here e) is = inl ((names_first g k).0 (subst (λ (m : ℕ). absent_names g ≡ Rejected m k) is e))
@@ -138,7 +138,7 @@ module _ (g : List Line) (roots : List Bool) (w c₀ : List ℕ) where
     (λ (h, short, place, less). let (a, b) = there_all h in rw (a, b, short_text w short, short_chart need c₀ (omega arith)) (ap (Rejected 20) (sym place))),
   )
 
-  pub refusal_none : AllThere g roots → length w ≤ text_limit → need ≤ length c₀ → verdict ≡ Accepted
+  pub refusal_none : AllThere g roots → length w ≤ text_limit → need ≤ length c₀ → verdict ≡ accepted
   unfolding flat_refusal
   refusal_none h short enough = let (a, b) = there_all h in rw (a, b, short_text w short, long_chart need c₀ enough) refl
 
@@ -160,7 +160,7 @@ module _ (flat : List ℕ) (roots : List Bool) (w c₀ l₀ : List ℕ) (r : Ans
   -- a refusal other than 22 is the verdict's, and nothing is changed
   by_verdict : (s : Parsing) (v : Verdict) → UnlessRefused v s c₀ l₀ r c l → (n k : ℕ) → (n ≡ 22 → ⊥) → r ≡ Refused n k → (v ≡ Rejected n k) × (c ≡ c₀) × (l ≡ l₀)
   unfolding UnlessRefused
-  by_verdict s Accepted u n k other e = absurd (other (refused_is_long s.parse l₀ r l u.answer n k e))
+  by_verdict s accepted u n k other e = absurd (other (refused_is_long s.parse l₀ r l u.answer n k e))
   by_verdict s (Rejected m j) (is, chart, listing) n k other e = (answer_rejected m j n k (sym is ∙ e), chart, listing)
 
   verdict_answer : (s : Parsing) (v : Verdict) → UnlessRefused v s c₀ l₀ r c l → (n k : ℕ) → v ≡ Rejected n k → r ≡ Refused n k

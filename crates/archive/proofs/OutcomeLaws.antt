@@ -21,10 +21,10 @@ use Rattle.engine.specs.Roots.{parsing_by, TablesOutcome}
 use Rattle.engine.specs.declared.Answer.{Answer}
 use Rattle.engine.specs.declared.Answer.TheVariants.{Refused}
 use Rattle.form.specs.Form.{Says}
-use Rattle.grammar.proofs.VerdictLaws.{first_same}
-use Rattle.grammar.specs.Verdict.{refuse_if, unless_refused}
-use Rattle.grammar.specs.declared.Verdict.{Verdict}
-use Rattle.grammar.specs.declared.Verdict.TheVariants.{Accepted, Refused as Rejected}
+use Rattle.refusal.proofs.VerdictLaws.{first_same}
+use Rattle.refusal.specs.Verdict.{refuse_if, unless_refused}
+use Rattle.refusal.specs.Verdict.{Verdict}
+use Rattle.grammar.specs.declared.Verdict.TheVariants.{accepted, Refused as Rejected}
 use Rattle.layout.specs.Limits.{production_limit}
 use Rattle.load.specs.Absent.{absent_at, absent_in, absent_names}
 use Rattle.load.specs.Check.{lines_answer, Loaded}
@@ -68,13 +68,13 @@ module _ (t₀ t : List ℕ) (roots : List Bool) (chars subs : ℕ → Bool) (pu
       (λ q l. let back : production_number q - production_number 0 ≡ q = omega arith in
       table_of_production t root_slot (production_number q) (omega arith) (omega arith) ∙ ap (takes_production t root_slot) back ∙ rooted q l ∙ sym (root_number_lem roots q))
 
-  module _ (named : absent_names g ≡ Accepted) (w c₀ l₀ : List ℕ) where
+  module _ (named : absent_names g ≡ accepted) (w c₀ l₀ : List ℕ) where
     pub root_refused : (number place : ℕ) → absent_in (length g) (root_class roots) ≡ Rejected number place
         → GrammarOutcome g roots w c₀ l₀ (Refused number place) c₀ l₀
     unfolding UnlessRefused flat_refusal
     root_refused number place e = rw (named, e) (refl, refl, refl)
 
-    module _ (many : length roots ≡ production_limit) (text : (k : ℕ) → get_or w k 0 < characters) (accepted : absent_in (length g) (root_class roots) ≡ Accepted) where
+    module _ (many : length roots ≡ production_limit) (text : (k : ℕ) → get_or w k 0 < characters) (accepted : absent_in (length g) (root_class roots) ≡ accepted) where
       -- the refusals that are left are those of the tables
       same_refusal : text_refusal t w c₀ ≡ flat_refusal g roots w c₀
       unfolding text_refusal flat_refusal
@@ -87,8 +87,8 @@ module _ (t₀ t : List ℕ) (roots : List Bool) (chars subs : ℕ → Bool) (pu
       pub root_carried : (r : Answer) (c l : List ℕ) → TablesOutcome t w c₀ l₀ r c l → GrammarOutcome g roots w c₀ l₀ r c l
       unfolding TablesOutcome
       root_carried r c l o =
-          let named' : absent_names (table_grammar t) ≡ Accepted = ap absent_names same ∙ named in
-          let accepted' : absent_in (length (table_grammar t)) (root_class roots) ≡ Accepted = ap (λ (x : List Line). absent_in (length x) (root_class roots)) same ∙ accepted in
+          let named' : absent_names (table_grammar t) ≡ accepted = ap absent_names same ∙ named in
+          let accepted' : absent_in (length (table_grammar t)) (root_class roots) ≡ accepted = ap (λ (x : List Line). absent_in (length x) (root_class roots)) same ∙ accepted in
           let trees = trees_same t tables_root named' w text roots many rooted accepted' in
           subst (λ (v : Verdict). UnlessRefused v (trees_of g roots w) c₀ l₀ r c l) same_refusal
           (subst (λ (x : List Line). UnlessRefused (text_refusal t w c₀) (trees_of x roots w) c₀ l₀ r c l) same
@@ -97,7 +97,7 @@ module _ (t₀ t : List ℕ) (roots : List Bool) (chars subs : ℕ → Bool) (pu
 -- ---- the flat text
 
 -- a loaded text with lines names no line that isn't there
-pub loaded_named : (flat : List ℕ) (r : FlatAnswer) (n : ℕ) (t : List ℕ) → Loaded flat r t → r ≡ Lines n → ParserTables t × (absent_names (table_grammar t) ≡ Accepted) × Says flat (table_grammar t)
+pub loaded_named : (flat : List ℕ) (r : FlatAnswer) (n : ℕ) (t : List ℕ) → Loaded flat r t → r ≡ Lines n → ParserTables t × (absent_names (table_grammar t) ≡ accepted) × Says flat (table_grammar t)
 unfolding Loaded lines_answer
 loaded_named flat r n t h e =
     ⊎_elim
@@ -108,8 +108,8 @@ loaded_named flat r n t h e =
     refused_not_lines : {A : Type 0} {number place n : ℕ} → NotLoaded number place ≡ Lines n → A
     refused_not_lines e = let z : ◌≡◌ {A = ℕ} 0 1 = cc in absurd (omega arith)
 
-    lines_accepted : (v : Verdict) (k n : ℕ) → unless_refused NotLoaded v (Lines k) ≡ Lines n → v ≡ Accepted
-    lines_accepted Accepted k n e = refl
+    lines_accepted : (v : Verdict) (k n : ℕ) → unless_refused NotLoaded v (Lines k) ≡ Lines n → v ≡ accepted
+    lines_accepted accepted k n e = refl
     lines_accepted (Rejected number place) k n e = refused_not_lines e
 
 -- a refusal of the flat text is that of the outcome
@@ -126,7 +126,7 @@ flat_refused flat roots w c₀ l₀ r number place t h e =
     answer_is e = cc
 
     names_refused : (v : Verdict) (k : ℕ) → unless_refused NotLoaded v (Lines k) ≡ NotLoaded number place → v ≡ Rejected number place
-    names_refused Accepted k e = lines_not_refused e
+    names_refused accepted k e = lines_not_refused e
       where
         lines_not_refused : {A : Type 0} {k number place : ℕ} → Lines k ≡ NotLoaded number place → A
         lines_not_refused e = let z : ◌≡◌ {A = ℕ} 0 1 = cc in absurd (omega arith)

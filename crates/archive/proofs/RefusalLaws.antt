@@ -10,9 +10,9 @@ use Rattle.archive.specs.Outcome.{root_class, line_arity, flat_refusal}
 use Rattle.ccg.specs.Ccg.{Line}
 use Rattle.chart.specs.Layout.{text_limit, chart_bytes}
 use Rattle.engine.specs.Refusals.{too_long, chart_too_short}
-use Rattle.grammar.proofs.VerdictLaws.{refuse_case, FirstIn, here, there, order_first}
-use Rattle.grammar.specs.declared.Verdict.{Verdict}
-use Rattle.grammar.specs.declared.Verdict.TheVariants.{Refused}
+use Rattle.refusal.proofs.VerdictLaws.{refuse_case, FirstIn, here, there, order_first}
+use Rattle.refusal.specs.Verdict.{Verdict}
+use Rattle.std.specs.Prelude.{Err}
 use Rattle.load.proofs.AbsentLaws.{class_number, names_number}
 use Rattle.load.specs.Absent.{absent_in, absent_names}
 

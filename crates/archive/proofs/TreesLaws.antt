@@ -21,8 +21,8 @@ use Rattle.common.proofs.BoolLaws.{and_first_true, and_second_true}
 use Rattle.common.proofs.ListLaws.{length_tabulate, get_d_tabulate}
 use Rattle.engine.proofs.SameParsingLaws.{SameParsing}
 use Rattle.engine.specs.Roots.{ParseBy, parsing_by}
-use Rattle.grammar.proofs.VerdictLaws.{first_all}
-use Rattle.grammar.specs.declared.Verdict.TheVariants.{Accepted}
+use Rattle.refusal.proofs.VerdictLaws.{first_all}
+use Rattle.refusal.specs.Verdict.{accepted}
 use Rattle.layout.specs.Limits.{production_limit}
 use Rattle.load.proofs.NamesLaws.{class_names}
 use Rattle.load.specs.Absent.{absent_in, absent_in_argument, absent_in_line, absent_in_line_at, absent_names}
@@ -35,7 +35,7 @@ use Rattle.theory.specs.Tree.{Tree, leaf, node, Forest, none, ◌▷◌, product
 
 -- ---- names of lines that are there
 
-argument_names : (g : List Line) → absent_names g ≡ Accepted → (p i : ℕ) → p < length g → i < length (get_or g p no_line).arguments → absent_in (length g) (get_or (get_or g p no_line).arguments i no_class) ≡ Accepted
+argument_names : (g : List Line) → absent_names g ≡ accepted → (p i : ℕ) → p < length g → i < length (get_or g p no_line).arguments → absent_in (length g) (get_or (get_or g p no_line).arguments i no_class) ≡ accepted
 unfolding absent_names absent_in_line_at absent_in_line absent_in_argument
 argument_names g e p i lp li =
     let l = get_or g p no_line in
@@ -78,7 +78,7 @@ module _ (t : List ℕ) (h : ParserTables t) where
   char_terminal : (c : ℕ) → c < characters → is_terminal g c ≡ true
   char_terminal c l = table_terminal t c (λ a b. omega arith)
 
-  module _ (named : absent_names g ≡ Accepted) where
+  module _ (named : absent_names g ≡ accepted) where
     -- a terminal of a class is a character
     terminal_char : (p i c : ℕ) → p < count → i < arity_in (counts_of t) p → table_class t (slot p i) c ≡ true → is_terminal g c ≡ true → takes_char t (slot p i) c ≡ true
     unfolding line_arity
@@ -159,7 +159,7 @@ module _ (t : List ℕ) (h : ParserTables t) where
       -- ---- the parses
 
       module _ (roots : List Bool) (many : length roots ≡ production_limit) (rooted : (q : ℕ) → q < production_limit → takes_production t root_slot q ≡ get_or roots q false)
-          (root_named : absent_in (length g) (root_class roots) ≡ Accepted) where
+          (root_named : absent_in (length g) (root_class roots) ≡ accepted) where
         -- a character is none: the root has numbers of lines only, and only of such that are there
         leaf_none : (c : ℕ) → Generated g (root_class roots) (leaf c) → ⊥
         unfolding Generated root_class

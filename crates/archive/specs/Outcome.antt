@@ -8,8 +8,8 @@ use Rattle.engine.specs.Refusals.{too_long, chart_too_short}
 use Rattle.engine.specs.declared.Answer.{Answer}
 use Rattle.engine.specs.declared.Answer.TheVariants.{Refused}
 use Rattle.form.specs.Form.{Says, NotInForm}
-use Rattle.grammar.specs.Verdict.{in_order}
-use Rattle.grammar.specs.declared.Verdict.{Verdict}
+use Rattle.refusal.specs.Verdict.{in_order}
+use Rattle.refusal.specs.Verdict.{Verdict}
 use Rattle.layout.specs.Limits.{production_limit}
 use Rattle.load.specs.Absent.{absent_in, absent_names, Names}
 use Rattle.theory.specs.Tree.{Tree, Forest, production_number, yield, yields}

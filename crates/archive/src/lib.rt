@@ -3,7 +3,7 @@
 
 ghost use Rattle.std.specs.Prelude.{◌≡◌};
 ghost use Rattle.ccg.specs.Tables.{table_grammar};
-ghost use Rattle.grammar.specs.declared.Verdict.TheVariants.{Accepted};
+ghost use Rattle.refusal.specs.Verdict.{accepted};
 ghost use Rattle.load.specs.Absent.{absent_names};
 ghost use Rattle.tables.specs.Layout.{ParserTables};
 ghost use Rattle.archive.specs.Outcome.{GrammarOutcome, FlatOutcome};
@@ -41,7 +41,7 @@ fn parse_loaded(
     chart: &mut [u8],
     listing: &mut [u8],
 ) -> Answer
-    requires { ParserTables tables.old × (absent_names (table_grammar tables.old) ≡ Accepted) }
+    requires { ParserTables tables.old × (absent_names (table_grammar tables.old) ≡ accepted) }
     ensures { GrammarOutcome (table_grammar tables.old) roots text.now chart.old listing.old result chart.new listing.new }
 {
     put_class(

@@ -7,9 +7,9 @@ use Rattle.compare.specs.Answer.{found_right, not_right, compare_lines, Compared
 use Rattle.compare.specs.Uses.{uses}
 use Rattle.compare.specs.declared.CompareAnswer.TheVariants.{Ordered, Refused}
 use Rattle.engine.specs.Refusals.{too_long}
-use Rattle.grammar.proofs.VerdictLaws.{and_first, and_assoc}
-use Rattle.grammar.specs.Verdict.{refuse_if, and_then, in_order}
-use Rattle.grammar.specs.declared.Verdict.TheVariants.{Accepted, Refused as Rejected}
+use Rattle.refusal.proofs.VerdictLaws.{and_first, and_assoc}
+use Rattle.refusal.specs.Verdict.{refuse_if, and_then, in_order}
+use Rattle.grammar.specs.declared.Verdict.TheVariants.{accepted, Refused as Rejected}
 use Rattle.listing.specs.Answer.{bad_listing, judged}
 use Rattle.order.specs.Order.{OrderIs}
 use Rattle.order.specs.declared.Order.{Order}
@@ -24,7 +24,7 @@ module _ (b w first second : List ℕ) where
   lines_parts =
       ap (and_then (checked b)) (and_assoc (too_long w) (bad_listing first) (and_then (bad_listing second) (in_order (not_right b w first 0 ∷ not_right b w second 1 ∷ []))))
 
-  pub lines_checked : in_order (compare_lines b w first second) ≡ Accepted → checked b ≡ Accepted
+  pub lines_checked : in_order (compare_lines b w first second) ≡ accepted → checked b ≡ accepted
   lines_checked e = and_first (checked b) (in_order (too_long w ∷ bad_listing first ∷ bad_listing second ∷ not_right b w first 0 ∷ not_right b w second 1 ∷ [])) e
 
   -- ---- the answer
@@ -33,12 +33,12 @@ module _ (b w first second : List ℕ) where
   unfolding Compared ComparedIf
   compared_refused number place e = rw e refl
 
-  pub compared_ordered : (o : Order) → in_order (compare_lines b w first second) ≡ Accepted → OrderIs b (uses first) (uses second) o → Compared b w first second (Ordered o)
+  pub compared_ordered : (o : Order) → in_order (compare_lines b w first second) ≡ accepted → OrderIs b (uses first) (uses second) o → Compared b w first second (Ordered o)
   unfolding Compared ComparedIf
   compared_ordered o e says = rw e (o, refl, says)
 
 module _ (b w l : List ℕ) (which : ℕ) where
-  pub right_passes : found_right (judged b w l) ≡ true → not_right b w l which ≡ Accepted
+  pub right_passes : found_right (judged b w l) ≡ true → not_right b w l which ≡ accepted
   unfolding not_right
   right_passes e = ap (λ (t : Bool). refuse_if (not t) 29 which) e
 

@@ -11,9 +11,9 @@ use Rattle.compare.specs.Refusals.{ComparisonRefused, first, second, first_wrong
 use Rattle.compare.specs.Uses.{uses}
 use Rattle.compare.specs.declared.CompareAnswer.{CompareAnswer}
 use Rattle.compare.specs.declared.CompareAnswer.TheVariants.{Ordered, Refused}
-use Rattle.grammar.specs.Verdict.{in_order}
-use Rattle.grammar.specs.declared.Verdict.{Verdict}
-use Rattle.grammar.specs.declared.Verdict.TheVariants.{Accepted, Refused as Rejected}
+use Rattle.refusal.specs.Verdict.{in_order}
+use Rattle.refusal.specs.Verdict.{Verdict}
+use Rattle.grammar.specs.declared.Verdict.TheVariants.{accepted, Refused as Rejected}
 use Rattle.listing.proofs.RefusedLaws.{refused_small}
 use Rattle.listing.specs.Answer.{listing_answer}
 use Rattle.listing.specs.declared.ListingAnswer.TheVariants.{Right}
@@ -27,19 +27,19 @@ same_order e = cc
 
 module _ (b : List ℕ) (m n : Uses) where
   -- an order is given only if nothing is refused
-  if_ordered : (v : Verdict) (o : Order) → ComparedIf v b m n (Ordered o) → (v ≡ Accepted) × OrderIs b m n o
+  if_ordered : (v : Verdict) (o : Order) → ComparedIf v b m n (Ordered o) → (v ≡ accepted) × OrderIs b m n o
   unfolding ComparedIf
-  if_ordered Accepted o (p, e, says) = (refl, subst (OrderIs b m n) (sym (same_order e)) says)
+  if_ordered accepted o (p, e, says) = (refl, subst (OrderIs b m n) (sym (same_order e)) says)
   if_ordered (Rejected number place) o e = let z : ◌≡◌ {A = ℕ} 0 1 = cc in absurd (omega arith)
 
   if_refused : (v : Verdict) (number place : ℕ) → ComparedIf v b m n (Refused number place) → v ≡ Rejected number place
   unfolding ComparedIf
-  if_refused Accepted number place (p, e, says) = let z : ◌≡◌ {A = ℕ} 0 1 = cc in absurd (omega arith)
+  if_refused accepted number place (p, e, says) = let z : ◌≡◌ {A = ℕ} 0 1 = cc in absurd (omega arith)
   if_refused (Rejected k j) number place e = cc
 
-  if_one : (v : Verdict) (r r' : CompareAnswer) → (v ≡ Accepted → checked b ≡ Accepted) → ComparedIf v b m n r → ComparedIf v b m n r' → r ≡ r'
+  if_one : (v : Verdict) (r r' : CompareAnswer) → (v ≡ accepted → checked b ≡ accepted) → ComparedIf v b m n r → ComparedIf v b m n r' → r ≡ r'
   unfolding ComparedIf
-  if_one Accepted r r' good (o, e, says) (p, f, also) = e ∙ ap Ordered (says_one b (good refl) m n o p says also) ∙ sym f
+  if_one accepted r r' good (o, e, says) (p, f, also) = e ∙ ap Ordered (says_one b (good refl) m n o p says also) ∙ sym f
   if_one (Rejected number place) r r' good e f = e ∙ sym f
 
 module _ (b w l m : List ℕ) where
@@ -59,7 +59,7 @@ module _ (b w l m : List ℕ) where
   )
 
   -- and then the grammar is accepted
-  pub ordered_accepted : (o : Order) → Compared b w l m (Ordered o) → checked b ≡ Accepted
+  pub ordered_accepted : (o : Order) → Compared b w l m (Ordered o) → checked b ≡ accepted
   unfolding Compared
   ordered_accepted o h = lines_checked b w l m (if_ordered b (uses l) (uses m) (in_order (compare_lines b w l m)) o h).0
 

@@ -8,10 +8,10 @@ use native.Mathlib.Omega.{arith}
 use Rattle.compare.specs.Answer.{found_right, not_right, compare_lines}
 use Rattle.compare.specs.Refusals.{Answered, ComparisonRefused, first, second, first_wrong, second_wrong}
 use Rattle.engine.specs.Refusals.{too_long}
-use Rattle.grammar.proofs.VerdictLaws.{same_number, same_place, refused_not_accepted, and_assoc}
-use Rattle.grammar.specs.Verdict.{refuse_if, and_then, in_order, unless_refused}
-use Rattle.grammar.specs.declared.Verdict.{Verdict}
-use Rattle.grammar.specs.declared.Verdict.TheVariants.{Accepted, Refused as Rejected}
+use Rattle.refusal.proofs.VerdictLaws.{same_number, same_place, refused_not_accepted, and_assoc}
+use Rattle.refusal.specs.Verdict.{refuse_if, and_then, in_order, unless_refused}
+use Rattle.refusal.specs.Verdict.{Verdict}
+use Rattle.grammar.specs.declared.Verdict.TheVariants.{accepted, Refused as Rejected}
 use Rattle.listing.proofs.RefusedLaws.{judged_answers}
 use Rattle.listing.specs.Answer.{bad_listing, judged, listing_answer}
 use Rattle.listing.specs.declared.ListingAnswer.{ListingAnswer}
@@ -24,7 +24,7 @@ refusal_of : (a c : ListingAnswer) → Verdict
 refusal_of (Refused n k) c = Rejected n k
 refusal_of Right (Refused n k) = Rejected n k
 refusal_of Right (Wrong j) = Rejected 29 1
-refusal_of Right Right = Accepted
+refusal_of Right Right = accepted
 refusal_of (Wrong i) (Refused n k) = Rejected n k
 refusal_of (Wrong i) (Wrong j) = Rejected 29 0
 refusal_of (Wrong i) Right = Rejected 29 0
@@ -78,15 +78,15 @@ in_turn : (u f s : Verdict) (x y : ListingAnswer) → Answered x → Answered y
     ≡ refusal_of (unless_refused Refused (and_then u f) x) (unless_refused Refused (and_then u s) y)
 unfolding refusal_of found_right
 in_turn (Rejected n k) f s x y h g = refl
-in_turn Accepted (Rejected n k) s x y h g = refl
-in_turn Accepted Accepted (Rejected n k) x y h g = sym (other_refused x n k h)
-in_turn Accepted Accepted Accepted (Refused n k) y h g = absurd (h n k refl)
-in_turn Accepted Accepted Accepted Right (Refused n k) h g = absurd (g n k refl)
-in_turn Accepted Accepted Accepted Right (Wrong j) h g = refl
-in_turn Accepted Accepted Accepted Right Right h g = refl
-in_turn Accepted Accepted Accepted (Wrong i) (Refused n k) h g = absurd (g n k refl)
-in_turn Accepted Accepted Accepted (Wrong i) (Wrong j) h g = refl
-in_turn Accepted Accepted Accepted (Wrong i) Right h g = refl
+in_turn accepted (Rejected n k) s x y h g = refl
+in_turn accepted accepted (Rejected n k) x y h g = sym (other_refused x n k h)
+in_turn accepted accepted accepted (Refused n k) y h g = absurd (h n k refl)
+in_turn accepted accepted accepted Right (Refused n k) h g = absurd (g n k refl)
+in_turn accepted accepted accepted Right (Wrong j) h g = refl
+in_turn accepted accepted accepted Right Right h g = refl
+in_turn accepted accepted accepted (Wrong i) (Refused n k) h g = absurd (g n k refl)
+in_turn accepted accepted accepted (Wrong i) (Wrong j) h g = refl
+in_turn accepted accepted accepted (Wrong i) Right h g = refl
 
 module _ (b w l m : List ℕ) where
   early : Verdict
@@ -110,7 +110,7 @@ module _ (b w l m : List ℕ) where
     (λ h. lines_answers ∙ holds_refusal (listing_answer b w l) (listing_answer b w m) h),
   )
 
-  right_if : (a c : ListingAnswer) → refusal_of a c ≡ Accepted → (a ≡ Right) × (c ≡ Right)
+  right_if : (a c : ListingAnswer) → refusal_of a c ≡ accepted → (a ≡ Right) × (c ≡ Right)
   unfolding refusal_of
   right_if (Refused n k) c e = refused_not_accepted n k e
   right_if Right (Refused n k) e = refused_not_accepted n k e
@@ -120,12 +120,12 @@ module _ (b w l m : List ℕ) where
   right_if (Wrong i) (Wrong j) e = refused_not_accepted 29 0 e
   right_if (Wrong i) Right e = refused_not_accepted 29 0 e
 
-  both_right : (a c : ListingAnswer) → (refusal_of a c ≡ Accepted) ↔ ((a ≡ Right) × (c ≡ Right))
+  both_right : (a c : ListingAnswer) → (refusal_of a c ≡ accepted) ↔ ((a ≡ Right) × (c ≡ Right))
   unfolding refusal_of
   both_right a c = ((λ e. right_if a c e), (λ (e, f). rw (e, f) refl))
 
   -- Nothing is refused exactly if both listings are right.
-  pub accepted_exactly : (in_order (compare_lines b w l m) ≡ Accepted) ↔ ((listing_answer b w l ≡ Right) × (listing_answer b w m ≡ Right))
+  pub accepted_exactly : (in_order (compare_lines b w l m) ≡ accepted) ↔ ((listing_answer b w l ≡ Right) × (listing_answer b w m ≡ Right))
   accepted_exactly =
       let (if, only_if) = both_right (listing_answer b w l) (listing_answer b w m) in
       ((λ e. if (sym lines_answers ∙ e)), (λ h. lines_answers ∙ only_if h))

@@ -4,9 +4,9 @@ use Rattle.compare.specs.Uses.{uses}
 use Rattle.compare.specs.declared.CompareAnswer.{CompareAnswer}
 use Rattle.compare.specs.declared.CompareAnswer.TheVariants.{Ordered, Refused}
 use Rattle.engine.specs.Refusals.{too_long}
-use Rattle.grammar.specs.Verdict.{refuse_if, in_order}
-use Rattle.grammar.specs.declared.Verdict.{Verdict}
-use Rattle.grammar.specs.declared.Verdict.TheVariants.{Accepted, Refused as Rejected}
+use Rattle.refusal.specs.Verdict.{refuse_if, in_order}
+use Rattle.refusal.specs.Verdict.{Verdict}
+use Rattle.grammar.specs.declared.Verdict.TheVariants.{accepted, Refused as Rejected}
 use Rattle.listing.specs.Answer.{bad_listing, judged}
 use Rattle.listing.specs.declared.ListingAnswer.{ListingAnswer}
 use Rattle.listing.specs.declared.ListingAnswer.TheVariants.{Right, Wrong, Refused as NotChecked}
@@ -32,7 +32,7 @@ compare_lines b w first second =
 -- What comparing gives: a refusal, or what the order says of the uses.
 unfoldable pub ComparedIf : Verdict → (b : List ℕ) (m n : Uses) → CompareAnswer → Type 0
 ComparedIf (Rejected number place) b m n r = r ≡ Refused number place
-ComparedIf Accepted b m n r = (o : Order) × (r ≡ Ordered o) × OrderIs b m n o
+ComparedIf accepted b m n r = (o : Order) × (r ≡ Ordered o) × OrderIs b m n o
 
 -- r is the answer for the two parses of w by b that these listings list.
 unfoldable pub Compared : (b w first second : List ℕ) → CompareAnswer → Type 0

@@ -5,7 +5,7 @@ ghost use Rattle.std.specs.Prelude.{◌≡◌, [], ◌∷◌, ℕ, ◌<◌};
 ghost use Rattle.compare.specs.Answer.{found_right, not_right, compare_lines, Compared};
 ghost use Rattle.compare.specs.Uses.{uses};
 ghost use Rattle.grammar.specs.Formed.{WellFormed};
-ghost use Rattle.grammar.specs.Verdict.{in_order};
+ghost use Rattle.refusal.specs.Verdict.{in_order};
 ghost use Rattle.layout.specs.Limits.{production_limit};
 ghost use Rattle.listing.specs.Parts.{judged_by};
 ghost use Rattle.order.specs.Order.{counted};

@@ -8,10 +8,11 @@ use lib.ListN.{length}
 use borrow.Author.Tests.{ltb-true, ltb-false, lt-ltb, le-ltb}
 use Rattle.chart.specs.Layout.{text_limit, chart_need, ChartFits}
 use Rattle.engine.specs.Refusals.{too_long, chart_too_short, text_refusal}
-use Rattle.grammar.proofs.VerdictLaws.{refuse_accepted, refuse_case}
-use Rattle.grammar.specs.Verdict.{and_then}
-use Rattle.grammar.specs.declared.Verdict.{Verdict}
-use Rattle.grammar.specs.declared.Verdict.TheVariants.{Accepted, Refused}
+use Rattle.refusal.proofs.VerdictLaws.{refuse_accepted, refuse_case}
+use Rattle.refusal.specs.Verdict.{and_then}
+use Rattle.refusal.specs.Verdict.{Verdict}
+use Rattle.std.specs.Prelude.{Err}
+use Rattle.refusal.specs.Verdict.{accepted}
 use Rattle.tables.specs.Layout.{ParserTables}
 
 -- ---- 10
@@ -21,11 +22,11 @@ module _ (w : List ℕ) where
   unfolding too_long
   long_text h = rw (lt-ltb text_limit (length w) h) refl
 
-  pub short_text : length w ≤ text_limit → too_long w ≡ Accepted
+  pub short_text : length w ≤ text_limit → too_long w ≡ accepted
   unfolding too_long
   short_text h = rw (le-ltb text_limit (length w) h) refl
 
-  pub text_short : too_long w ≡ Accepted → length w ≤ text_limit
+  pub text_short : too_long w ≡ accepted → length w ≤ text_limit
   unfolding too_long
   text_short e = ltb-false text_limit (length w) (refuse_accepted _ 10 (length w) e)
 
@@ -42,7 +43,7 @@ module _ (need : ℕ) (chart : List ℕ) where
   unfolding chart_too_short
   short_chart h = rw (lt-ltb (length chart) need h) refl
 
-  pub long_chart : need ≤ length chart → chart_too_short need chart ≡ Accepted
+  pub long_chart : need ≤ length chart → chart_too_short need chart ≡ accepted
   unfolding chart_too_short
   long_chart h = rw (le-ltb (length chart) need h) refl
 
@@ -50,7 +51,7 @@ module _ (need : ℕ) (chart : List ℕ) where
   unfolding chart_too_short
   chart_short e = refuse_case (λ n k. (n ≡ 20) × (k ≡ need) × (length chart < k)) (ltb (length chart) need) 20 need e (λ t. (refl, refl, ltb-true (length chart) need t))
 
-  pub chart_enough : chart_too_short need chart ≡ Accepted → need ≤ length chart
+  pub chart_enough : chart_too_short need chart ≡ accepted → need ≤ length chart
   unfolding chart_too_short
   chart_enough e = ltb-false (length chart) need (refuse_accepted _ 20 need e)
 
@@ -61,21 +62,21 @@ module _ (tables w chart : List ℕ) where
   unfolding text_refusal
   refused_text e = rw e refl
 
-  pub refused_chart : (need : ℕ) → need ≡ chart_need tables (length w) → too_long w ≡ Accepted → length chart < need → text_refusal tables w chart ≡ Refused 20 need
+  pub refused_chart : (need : ℕ) → need ≡ chart_need tables (length w) → too_long w ≡ accepted → length chart < need → text_refusal tables w chart ≡ Refused 20 need
   unfolding text_refusal
   refused_chart need e a h = rw a (rw e (short_chart (chart_need tables (length w)) chart (omega arith)))
 
-  pub refused_not : (need : ℕ) → need ≡ chart_need tables (length w) → too_long w ≡ Accepted → need ≤ length chart → text_refusal tables w chart ≡ Accepted
+  pub refused_not : (need : ℕ) → need ≡ chart_need tables (length w) → too_long w ≡ accepted → need ≤ length chart → text_refusal tables w chart ≡ accepted
   unfolding text_refusal
   refused_not need e a h = rw a (long_chart (chart_need tables (length w)) chart (omega arith))
 
   -- without one of them the chart fits
-  pub accepted_fits : ParserTables tables → text_refusal tables w chart ≡ Accepted → ChartFits tables (length w) chart
+  pub accepted_fits : ParserTables tables → text_refusal tables w chart ≡ accepted → ChartFits tables (length w) chart
   unfolding text_refusal
   accepted_fits h e =
       let both = accepted_both (too_long w) (chart_too_short (chart_need tables (length w)) chart) e in
       record { tables = h; short = text_short w both.0; long_enough = chart_enough (chart_need tables (length w)) chart both.1 }
     where
-      accepted_both : (u v : Verdict) → and_then u v ≡ Accepted → (u ≡ Accepted) × (v ≡ Accepted)
-      accepted_both Accepted v e = (refl, e)
+      accepted_both : (u v : Verdict) → and_then u v ≡ accepted → (u ≡ accepted) × (v ≡ accepted)
+      accepted_both accepted v e = (refl, e)
       accepted_both (Refused n k) v e = let z : ◌≡◌ {A = ℕ} 0 1 = cc in absurd (omega arith)

@@ -11,8 +11,8 @@ use Rattle.common.proofs.BelowLaws.{sum_same}
 use Rattle.engine.specs.Outcome.{Parsing, Answered, ChartAfter, Parsed, UnlessRefused}
 use Rattle.engine.specs.declared.Answer.{Answer}
 use Rattle.engine.specs.declared.Answer.TheVariants.{Refused, None, One, Several}
-use Rattle.grammar.specs.declared.Verdict.{Verdict}
-use Rattle.grammar.specs.declared.Verdict.TheVariants.{Accepted, Refused as Rejected}
+use Rattle.refusal.specs.Verdict.{Verdict}
+use Rattle.grammar.specs.declared.Verdict.TheVariants.{accepted, Refused as Rejected}
 use Rattle.tables.specs.Layout.{row_count}
 use Rattle.theory.proofs.CountLaws.{counts_same}
 use Rattle.theory.specs.Counts.{Only, Counts}
@@ -86,5 +86,5 @@ module _ (s u : Parsing) (same : SameParsing s u) where
   -- A refusal, or none, is the same of both.
   pub unless_same : (v : Verdict) (c₀ l₀ : List ℕ) (r : Answer) (c l : List ℕ) → UnlessRefused v s c₀ l₀ r c l → UnlessRefused v u c₀ l₀ r c l
   unfolding UnlessRefused
-  unless_same Accepted c₀ l₀ r c l h = parsed_same c₀ l₀ r c l h
+  unless_same accepted c₀ l₀ r c l h = parsed_same c₀ l₀ r c l h
   unless_same (Rejected number place) c₀ l₀ r c l h = h

@@ -6,8 +6,8 @@ use Rattle.common.specs.Lists.{overwritten}
 use Rattle.engine.specs.declared.Answer.{Answer}
 use Rattle.engine.specs.declared.Answer.TheVariants.{None, One, Several, Refused}
 use Rattle.numbers.specs.Written.{bytes_of, room}
-use Rattle.grammar.specs.declared.Verdict.{Verdict}
-use Rattle.grammar.specs.declared.Verdict.TheVariants.{Accepted, Refused as Rejected}
+use Rattle.refusal.specs.Verdict.{Verdict}
+use Rattle.grammar.specs.declared.Verdict.TheVariants.{accepted, Refused as Rejected}
 use Rattle.theory.specs.Counts.{Only, Two}
 use Rattle.theory.specs.Steps.{everything}
 use Rattle.theory.specs.Tree.{Tree, Forest, listing}
@@ -44,5 +44,5 @@ pub record Parsed (s : Parsing) (c₀ l₀ : List ℕ) (r : Answer) (c l : List 
 
 -- By a refusal nothing is changed. Otherwise chart and listing, which held c₀ and l₀, and the answer are as parsing promises.
 unfoldable pub UnlessRefused : Verdict → Parsing → (c₀ l₀ : List ℕ) → Answer → (c l : List ℕ) → Type 0
-UnlessRefused Accepted s c₀ l₀ r c l = Parsed s c₀ l₀ r c l
+UnlessRefused accepted s c₀ l₀ r c l = Parsed s c₀ l₀ r c l
 UnlessRefused (Rejected number place) s c₀ l₀ r c l = (r ≡ Refused number place) × (c ≡ c₀) × (l ≡ l₀)

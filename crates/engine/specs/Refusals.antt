@@ -1,8 +1,8 @@
 -- The refusals of a text and of a chart (01, "Refused because of the input").
 use Rattle.std.specs.Prelude.{ℕ, List, [], ◌∷◌, ltb, length}
 use Rattle.chart.specs.Layout.{text_limit, chart_need}
-use Rattle.grammar.specs.Verdict.{refuse_if, in_order}
-use Rattle.grammar.specs.declared.Verdict.{Verdict}
+use Rattle.refusal.specs.Verdict.{refuse_if, in_order}
+use Rattle.refusal.specs.Verdict.{Verdict}
 
 -- 10: the text is over its limit; the place is its length
 unfoldable pub too_long : List ℕ → Verdict

@@ -8,8 +8,8 @@ use lib.ListN.{length}
 use Rattle.flatten.specs.Flat.{flat_grammar}
 use Rattle.ccg.specs.Text.{grammar_text}
 use Rattle.flatten.specs.Answer.{flat_answer}
-use Rattle.grammar.proofs.VerdictLaws.{unless_answer, unless_refused_lem}
-use Rattle.grammar.specs.declared.Verdict.TheVariants.{Accepted, Refused as Rejected}
+use Rattle.refusal.proofs.VerdictLaws.{unless_answer, unless_refused_lem}
+use Rattle.grammar.specs.declared.Verdict.TheVariants.{accepted, Refused as Rejected}
 use Rattle.priority.proofs.RefusalLaws.{checked_number}
 use Rattle.priority.specs.Check.{checked}
 use Rattle.writing.proofs.AnswerLaws.{refused_written, written_exactly, refused_exactly}
@@ -24,7 +24,7 @@ module _ (b : List ℕ) (room : ℕ) where
   needed = length (grammar_text (flat_grammar b))
 
   -- Written exactly if the text fits, with its length.
-  pub flat_fits : (n : ℕ) → (flat_answer b room ≡ Written n) ↔ ((checked b ≡ Accepted) × (n ≡ needed) × (n ≤ room))
+  pub flat_fits : (n : ℕ) → (flat_answer b room ≡ Written n) ↔ ((checked b ≡ accepted) × (n ≡ needed) × (n ≤ room))
   unfolding flat_answer
   flat_fits n =
       let answer = unless_answer Refused (checked b) (fitted 21 needed room) (Written n) (refused_written n) in
@@ -34,7 +34,7 @@ module _ (b : List ℕ) (room : ℕ) where
       )
 
   -- A refusal exactly where the grammar has it, or 21 for a text longer than the buffer, with its length.
-  flat_refused : (n k : ℕ) → (flat_answer b room ≡ Refused n k) ↔ ((checked b ≡ Rejected n k) ⊎ ((checked b ≡ Accepted) × (n ≡ 21) × (k ≡ needed) × (room < k)))
+  flat_refused : (n k : ℕ) → (flat_answer b room ≡ Refused n k) ↔ ((checked b ≡ Rejected n k) ⊎ ((checked b ≡ accepted) × (n ≡ 21) × (k ≡ needed) × (room < k)))
   unfolding flat_answer
   flat_refused n k =
       let answer = unless_refused_lem Refused rejected (checked b) (fitted 21 needed room) n k in
@@ -44,7 +44,7 @@ module _ (b : List ℕ) (room : ℕ) where
       )
 
   -- 21 exactly if the text of an accepted grammar is longer than the buffer.
-  pub flat_too_long : (k : ℕ) → (flat_answer b room ≡ Refused 21 k) ↔ ((checked b ≡ Accepted) × (k ≡ needed) × (room < k))
+  pub flat_too_long : (k : ℕ) → (flat_answer b room ≡ Refused 21 k) ↔ ((checked b ≡ accepted) × (k ≡ needed) × (room < k))
   flat_too_long k = (
     (λ a. ⊎_elim (λ x. absurd (omega (arith, checked_number b x))) (λ x. (x.0, x.2, x.3)) ((flat_refused 21 k).0 a)),
     (λ h. (flat_refused 21 k).1 (inr (h.0, refl, h.1, h.2))),

@@ -2,7 +2,7 @@
 use Rattle.std.specs.Prelude.{ℕ, List, length}
 use Rattle.ccg.specs.Text.{grammar_text}
 use Rattle.flatten.specs.Flat.{flat_grammar}
-use Rattle.grammar.specs.Verdict.{unless_refused}
+use Rattle.refusal.specs.Verdict.{unless_refused}
 use Rattle.priority.specs.Check.{checked}
 use Rattle.writing.specs.Answer.{fitted}
 use Rattle.writing.specs.declared.WriteAnswer.{WriteAnswer}

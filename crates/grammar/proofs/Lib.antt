@@ -1,5 +1,4 @@
 -- Laws of the grammar's bytes.
-pub mod VerdictLaws
 pub mod FormedLaws
 pub mod ArgumentLaws
 pub mod EqualLaws

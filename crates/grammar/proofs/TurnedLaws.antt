@@ -12,15 +12,16 @@ use Rattle.charset.specs.Set.{in_range, spans}
 use Rattle.classes.specs.Classes.{class_has}
 use Rattle.common.proofs.BelowLaws.{any_same, any_here, any_found, between_in, between_ends}
 use Rattle.grammar.proofs.SameFrontLaws.{SameFront, front_classes, front_back, same_sorts, same_productions, same_classes, same_start, same_last, same_count, same_range_count, same_production_at, same_class_at, same_declaration_at, same_result, same_argument_lem, same_names, same_sameness}
-use Rattle.grammar.proofs.VerdictLaws.{first_same, first_pass}
+use Rattle.refusal.proofs.VerdictLaws.{first_same, first_pass}
 use Rattle.grammar.specs.Check.{short_header, bad_header, short_contents, bad_argument_count, bad_range_count, bad_argument_counts, bad_range_counts, bad_length, names_argument, bad_argument, bad_arguments, bad_production, bad_productions, bad_declaration, bad_declarations, same_production, repeated_production, repeated_productions, frame_check, bodies_check}
 use Rattle.grammar.specs.Turned.{TurnedRound, RangesRise}
-use Rattle.grammar.specs.Verdict.{refuse_if, first_refusal}
-use Rattle.grammar.specs.declared.Verdict.{Verdict}
-use Rattle.grammar.specs.declared.Verdict.TheVariants.{Accepted}
+use Rattle.refusal.specs.Verdict.{Verdict, accepted, refuse_if, first_refusal}
+use Rattle.refusal.specs.declared.Refusal.{Refusal}
+use Rattle.std.specs.Prelude.{cond, Err}
 use Rattle.layout.proofs.LayoutLaws.{declaration_after_classes, needed_is_end}
 use Rattle.layout.specs.Layout.{byte_at, productions, classes, declarations, argument_count, range_count, argument, range_at, low, high, declaration_at, kind, first, second, needed_length}
 use Rattle.layout.specs.Limits.{argument_limit, range_limit, header_length}
+use Rattle.refusal.specs.declared.Fault.TheVariants.{Count, Name, Repeated}
 
 module _ (b c : List ℕ) (t : TurnedRound b c) where
   -- It differs from the grammar only where the ranges stand.
@@ -43,14 +44,14 @@ module _ (b c : List ℕ) (t : TurnedRound b c) where
   turned_argument_counts =
       ap (λ (n : ℕ). first_refusal n (bad_argument_count c)) (same_productions b c turned_front)
       ∙ first_same (bad_argument_count c) (bad_argument_count b) (productions b)
-      (λ p l. ap (λ (n : ℕ). refuse_if (ltb argument_limit n) 3 (header_length + p)) (same_count b c turned_front p l))
+      (λ p l. ap (λ (n : ℕ). refuse_if (ltb argument_limit n) Count (header_length + p)) (same_count b c turned_front p l))
 
   turned_range_counts : bad_range_counts c ≡ bad_range_counts b
   unfolding bad_range_count
   turned_range_counts =
       ap (λ (n : ℕ). first_refusal n (bad_range_count c)) (same_classes b c turned_front)
       ∙ first_same (bad_range_count c) (bad_range_count b) (classes b)
-      (λ k l. ap₂ (λ (n m : ℕ). refuse_if (ltb range_limit n) 3 (header_length + m + k)) (same_range_count b c turned_front k l) (same_productions b c turned_front))
+      (λ k l. ap₂ (λ (n m : ℕ). refuse_if (ltb range_limit n) Count (header_length + m + k)) (same_range_count b c turned_front k l) (same_productions b c turned_front))
 
   -- Refusals 1 to 4 are the same.
   pub turned_frame : frame_check c ≡ frame_check b
@@ -66,7 +67,7 @@ module _ (b c : List ℕ) (t : TurnedRound b c) where
   turned_arguments p l =
       ap (λ (n : ℕ). first_refusal n (bad_argument c p)) (same_count b c turned_front p l)
       ∙ first_same (bad_argument c p) (bad_argument b p) (argument_count b p)
-      (λ i m. ap₂ (λ (v : Bool) (at : ℕ). refuse_if (not v) 5 (at + 1 + i))
+      (λ i m. ap₂ (λ (v : Bool) (at : ℕ). refuse_if (not v) Name (at + 1 + i))
       (same_names b c turned_front (argument c p i) ∙ ap (names_argument b) (same_argument_lem b c turned_front p i l m))
       (same_production_at b c turned_front p (omega arith)))
 
@@ -108,7 +109,7 @@ module _ (b c : List ℕ) (t : TurnedRound b c) where
   turned_repeated =
       ap (λ (n : ℕ). first_refusal n (repeated_production c)) (same_productions b c turned_front)
       ∙ first_same (repeated_production c) (repeated_production b) (productions b)
-      (λ p l. ap₂ (λ (v : Bool) (at : ℕ). refuse_if v 8 at)
+      (λ p l. ap₂ (λ (v : Bool) (at : ℕ). refuse_if v Repeated at)
       (any_same (same_production c p) (same_production b p) p (λ q m. same_sameness b c turned_front p q l (omega arith)))
       (same_production_at b c turned_front p (omega arith)))
 
@@ -144,13 +145,13 @@ module _ (b : List ℕ) (rise : RangesRise b) where
         (λ (r, m, least, most). any_here test r (range_count b k) m (same r m ∙ between_in (low b k r) (high b k r) c least most)),
       )
 
-  -- what refusal 6 said of range r of class k
-  abbrev six : ℕ → ℕ → Verdict
-  six k r = refuse_if (ltb (high b k r) (low b k r)) 6 (range_at b k r)
+  -- what refusal 6, whichever that was, said of range r of class k
+  abbrev six : (ℕ → Refusal) → ℕ → ℕ → Verdict
+  six refusal k r = cond (ltb (high b k r) (low b k r)) (Err (refusal (range_at b k r))) accepted
 
   -- It would have let the grammar through.
-  pub rising_passed : first_refusal (classes b) (λ k. first_refusal (range_count b k) (six k)) ≡ Accepted
-  rising_passed =
-      first_pass (λ k. first_refusal (range_count b k) (six k)) (classes b)
-      (λ k l. first_pass (six k) (range_count b k)
-      (λ r m. ap (λ (v : Bool). refuse_if v 6 (range_at b k r)) (le-ltb (high b k r) (low b k r) (rise k r l m))))
+  pub rising_passed : (refusal : ℕ → Refusal) → first_refusal (classes b) (λ k. first_refusal (range_count b k) (six refusal k)) ≡ accepted
+  rising_passed refusal =
+      first_pass (λ k. first_refusal (range_count b k) (six refusal k)) (classes b)
+      (λ k l. first_pass (six refusal k) (range_count b k)
+      (λ r m. ap (λ (v : Bool). cond v (Err (refusal (range_at b k r))) accepted) (le-ltb (high b k r) (low b k r) (rise k r l m))))

@@ -1,5 +1,4 @@
 -- What the contracts of the grammar's bytes cite.
-pub mod Verdict
 pub mod Check
 pub mod Equal
 pub mod Formed

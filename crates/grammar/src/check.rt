@@ -8,9 +8,7 @@ ghost use Rattle.layout.specs.Framed.{Framed};
 ghost use Rattle.layout.specs.Layout.{byte_at, sorts, productions, classes, declarations, bodies_at, production_at, declaration_at};
 ghost use Rattle.layout.specs.Limits.{header_length};
 
-use crate::Verdict;
 use classes::canonical::{canonical_arguments, stands_for};
-use common::both;
 use layout::limits::{
     ARGUMENT_LIMIT, CLASS_BASE, CLASS_LIMIT, DECLARATION_LENGTH, HEADER_LENGTH, KIND_LIMIT,
     PAIR_KIND_LIMIT, PRODUCTION_LIMIT, RANGE_LIMIT, SORT_LIMIT,
@@ -19,34 +17,28 @@ use layout::{
     argument_count, bodies_at, byte_at, class_count, declaration_at, declaration_count,
     production_count, range_count, sort_count, start_sort,
 };
+use refusal::{Fault, Refusal};
 
 // Refusals 1 to 4.
-pub fn check_frame(book: &[u8]) -> Verdict
+#[tactic(auto, unfolding(crate::specs::Check::frame_check, crate::specs::Check::short_header, crate::specs::Check::short_contents))]
+pub fn check_frame(book: &[u8]) -> Result<(), Refusal>
     ensures { result ≡ frame_check book.now }
 {
     if book.len() < HEADER_LENGTH {
-        return Verdict::Refused(1, book.len());
+        return Err(Fault::Short.at(book.len()));
     }
-    let header = check_header(book);
-    let Verdict::Accepted = header else {
-        return header;
-    };
+    check_header(book)?;
     if book.len() < bodies_at(book) {
-        return Verdict::Refused(1, book.len());
+        return Err(Fault::Short.at(book.len()));
     }
-    let arguments = check_argument_counts(book);
-    let Verdict::Accepted = arguments else {
-        return arguments;
-    };
-    let ranges = check_range_counts(book);
-    let Verdict::Accepted = ranges else {
-        return ranges;
-    };
+    check_argument_counts(book)?;
+    check_range_counts(book)?;
     check_length(book)
 }
 
 // 2: the lowest header byte outside its range.
-fn check_header(book: &[u8]) -> Verdict
+#[tactic(auto, unfolding(crate::specs::Check::bad_header))]
+fn check_header(book: &[u8]) -> Result<(), Refusal>
     requires { header_length ≤ length book.now }
     ensures { result ≡ bad_header book.now }
 {
@@ -59,186 +51,150 @@ fn check_header(book: &[u8]) -> Verdict
     )
 }
 
+#[tactic(auto, unfolding(crate::specs::Check::header_bytes))]
 fn check_header_bytes(
     sorts: usize,
     productions: usize,
     classes: usize,
     start: usize,
     last: usize,
-) -> Verdict
+) -> Result<(), Refusal>
     ensures { result ≡ header_bytes sorts productions classes start last }
 {
-    if sorts < 1 {
-        return Verdict::Refused(2, 0);
+    if sorts < 1 || SORT_LIMIT < sorts {
+        return Err(Fault::Header.at(0));
     }
-    if SORT_LIMIT < sorts {
-        return Verdict::Refused(2, 0);
-    }
-    if productions < 1 {
-        return Verdict::Refused(2, 1);
-    }
-    if PRODUCTION_LIMIT < productions {
-        return Verdict::Refused(2, 1);
+    if productions < 1 || PRODUCTION_LIMIT < productions {
+        return Err(Fault::Header.at(1));
     }
     if CLASS_LIMIT < classes {
-        return Verdict::Refused(2, 2);
+        return Err(Fault::Header.at(2));
     }
     if sorts <= start {
-        return Verdict::Refused(2, 4);
+        return Err(Fault::Header.at(4));
     }
     if 0 < last {
-        return Verdict::Refused(2, 5);
+        return Err(Fault::Header.at(5));
     }
-    Verdict::Accepted
+    Ok(())
 }
 
 // 3, for the productions.
-fn check_argument_counts(book: &[u8]) -> Verdict
+fn check_argument_counts(book: &[u8]) -> Result<(), Refusal>
     requires { bodies_at book.now ≤ length book.now }
     ensures { result ≡ bad_argument_counts book.now }
 {
-    let count = production_count(book);
-    let mut p = 0;
-    while p < count {
+    for p in 0..production_count(book) {
         if ARGUMENT_LIMIT < argument_count(book, p) {
-            return Verdict::Refused(3, HEADER_LENGTH + p);
+            return Err(Fault::Count.at(HEADER_LENGTH + p));
         }
-        p += 1;
     }
-    Verdict::Accepted
+    Ok(())
 }
 
 // 3, for the classes.
-fn check_range_counts(book: &[u8]) -> Verdict
+fn check_range_counts(book: &[u8]) -> Result<(), Refusal>
     requires { bodies_at book.now ≤ length book.now }
     ensures { result ≡ bad_range_counts book.now }
 {
-    let count = class_count(book);
-    let mut k = 0;
-    while k < count {
+    for k in 0..class_count(book) {
         if RANGE_LIMIT < range_count(book, k) {
-            return Verdict::Refused(3, HEADER_LENGTH + production_count(book) + k);
+            return Err(Fault::Count.at(HEADER_LENGTH + production_count(book) + k));
         }
-        k += 1;
     }
-    Verdict::Accepted
+    Ok(())
 }
 
 // 4: the length is not the one called for.
-fn check_length(book: &[u8]) -> Verdict
+#[tactic(auto, unfolding(crate::specs::Check::bad_length))]
+fn check_length(book: &[u8]) -> Result<(), Refusal>
     requires { bodies_at book.now ≤ length book.now }
     ensures { result ≡ bad_length book.now }
 {
     let needed = declaration_at(book, declaration_count(book));
-    if book.len() < needed {
-        return Verdict::Refused(4, book.len());
+    if book.len() != needed {
+        return Err(Fault::Length.at(book.len().min(needed)));
     }
-    if needed < book.len() {
-        return Verdict::Refused(4, needed);
-    }
-    Verdict::Accepted
+    Ok(())
 }
 
 // Refusals 5 to 8.
-pub fn check_bodies(book: &[u8]) -> Verdict
+#[tactic(auto, unfolding(crate::specs::Check::bodies_check))]
+pub fn check_bodies(book: &[u8]) -> Result<(), Refusal>
     requires { Framed book.now }
     ensures { result ≡ bodies_check book.now }
 {
-    let productions = check_productions(book);
-    let Verdict::Accepted = productions else {
-        return productions;
-    };
-    let declarations = check_declarations(book);
-    let Verdict::Accepted = declarations else {
-        return declarations;
-    };
+    check_productions(book)?;
+    check_declarations(book)?;
     check_repeated(book)
 }
 
 // 5: a byte that names nothing.
-fn check_productions(book: &[u8]) -> Verdict
+fn check_productions(book: &[u8]) -> Result<(), Refusal>
     requires { Framed book.now }
     ensures { result ≡ bad_productions book.now }
 {
-    let count = production_count(book);
     let mut at = bodies_at(book);
-    let mut p = 0;
-    while p < count {
-        let found = check_production(book, p, at);
-        let Verdict::Accepted = found else {
-            return found;
-        };
+    for p in 0..production_count(book) {
+        check_production(book, p, at)?;
         at += 1 + argument_count(book, p);
-        p += 1;
     }
-    Verdict::Accepted
+    Ok(())
 }
 
 // 5 in production p, which stands at `at`.
-fn check_production(book: &[u8], p: usize, at: usize) -> Verdict
+#[tactic(auto, unfolding(crate::specs::Check::bad_production))]
+fn check_production(book: &[u8], p: usize, at: usize) -> Result<(), Refusal>
     requires framed { Framed book.now }
     requires p_bound { p < productions book.now }
     requires at_value { at ≡ production_at book.now p }
     ensures { result ≡ bad_production book.now p }
 {
     if sort_count(book) <= byte_at(book, at) {
-        return Verdict::Refused(5, at);
+        return Err(Fault::Name.at(at));
     }
     check_arguments(book, p, at)
 }
 
-fn check_arguments(book: &[u8], p: usize, at: usize) -> Verdict
+fn check_arguments(book: &[u8], p: usize, at: usize) -> Result<(), Refusal>
     requires framed { Framed book.now }
     requires p_bound { p < productions book.now }
     requires at_value { at ≡ production_at book.now p }
     ensures { result ≡ bad_arguments book.now p }
 {
-    let count = argument_count(book, p);
-    let mut i = 0;
-    while i < count {
+    for i in 0..argument_count(book, p) {
         if !names_argument(book, byte_at(book, at + 1 + i)) {
-            return Verdict::Refused(5, at + 1 + i);
+            return Err(Fault::Name.at(at + 1 + i));
         }
-        i += 1;
     }
-    Verdict::Accepted
+    Ok(())
 }
 
 // Whether an argument byte names a sort or a class.
+#[tactic(auto, unfolding(crate::specs::Check::names_argument))]
 fn names_argument(book: &[u8], x: usize) -> bool
     requires { header_length ≤ length book.now }
     ensures { result ≡ names_argument book.now x }
 {
-    if x < sort_count(book) {
-        return true;
-    }
-    if x < CLASS_BASE {
-        return false;
-    }
-    x < CLASS_BASE + class_count(book)
+    x < sort_count(book) || CLASS_BASE <= x && x < CLASS_BASE + class_count(book)
 }
 
 // 7: a kind or a production that isn't there, or a group whose first production is above its second.
-fn check_declarations(book: &[u8]) -> Verdict
+fn check_declarations(book: &[u8]) -> Result<(), Refusal>
     requires { Framed book.now }
     ensures { result ≡ bad_declarations book.now }
 {
-    let count = declaration_count(book);
     let mut at = declaration_at(book, 0);
-    let mut d = 0;
-    while d < count {
-        let found = check_declaration(book, d, at);
-        let Verdict::Accepted = found else {
-            return found;
-        };
+    for d in 0..declaration_count(book) {
+        check_declaration(book, d, at)?;
         at += DECLARATION_LENGTH;
-        d += 1;
     }
-    Verdict::Accepted
+    Ok(())
 }
 
 // 7 in declaration d, which stands at `at`.
-fn check_declaration(book: &[u8], d: usize, at: usize) -> Verdict
+#[tactic(auto, unfolding(crate::specs::Check::bad_declaration))]
+fn check_declaration(book: &[u8], d: usize, at: usize) -> Result<(), Refusal>
     requires framed { Framed book.now }
     requires d_bound { d < declarations book.now }
     requires at_value { at ≡ declaration_at book.now d }
@@ -254,57 +210,53 @@ fn check_declaration(book: &[u8], d: usize, at: usize) -> Verdict
 }
 
 // Whether a declaration of this kind is of a whole group: the productions from the first that it names to the second.
+#[tactic(auto, unfolding(crate::specs::Check::is_group))]
 pub fn is_group(kind: usize) -> bool
     ensures { result ≡ is_group kind }
 {
-    both(PAIR_KIND_LIMIT < kind, kind <= KIND_LIMIT)
+    PAIR_KIND_LIMIT < kind && kind <= KIND_LIMIT
 }
 
+#[tactic(auto, unfolding(crate::specs::Check::declaration_bytes))]
 fn check_declaration_bytes(
     at: usize,
     productions: usize,
     kind: usize,
     first: usize,
     second: usize,
-) -> Verdict
+) -> Result<(), Refusal>
     requires { at < 1000000 }
     ensures { result ≡ declaration_bytes at productions kind first second }
 {
-    if kind < 1 {
-        return Verdict::Refused(7, at);
-    }
-    if KIND_LIMIT < kind {
-        return Verdict::Refused(7, at);
+    if kind < 1 || KIND_LIMIT < kind {
+        return Err(Fault::Absent.at(at));
     }
     if productions <= first {
-        return Verdict::Refused(7, at + 1);
+        return Err(Fault::Absent.at(at + 1));
     }
     if productions <= second {
-        return Verdict::Refused(7, at + 2);
+        return Err(Fault::Absent.at(at + 2));
     }
-    if both(is_group(kind), second < first) {
-        return Verdict::Refused(7, at + 1);
+    if is_group(kind) && second < first {
+        return Err(Fault::Absent.at(at + 1));
     }
-    Verdict::Accepted
+    Ok(())
 }
 
 // 8: a production equal to an earlier one.
-fn check_repeated(book: &[u8]) -> Verdict
+fn check_repeated(book: &[u8]) -> Result<(), Refusal>
     requires { Framed book.now }
     ensures { result ≡ repeated_productions book.now }
 {
     let table = canonical_arguments(book);
-    let count = production_count(book);
     let mut at = bodies_at(book);
-    let mut p = 0;
-    while p < count {
+    for p in 0..production_count(book) {
         if repeats(book, &table, p, at) {
-            return Verdict::Refused(8, at);
+            return Err(Fault::Repeated.at(at));
         }
         at += 1 + argument_count(book, p);
-        p += 1;
     }
-    Verdict::Accepted
+    Ok(())
 }
 
 // Whether production p, which stands at `at`, is equal to an earlier one.
@@ -316,18 +268,17 @@ fn repeats(book: &[u8], table: &[u8], p: usize, at: usize) -> bool
     ensures { result ≡ any_below p (same_production book.now p) }
 {
     let mut other = bodies_at(book);
-    let mut q = 0;
-    while q < p {
+    for q in 0..p {
         if same_production(book, table, p, at, q, other) {
             return true;
         }
         other += 1 + argument_count(book, q);
-        q += 1;
     }
     false
 }
 
 // Whether productions p and q, which stand at `at` and `other`, are equal.
+#[tactic(auto, unfolding(crate::specs::Check::same_production))]
 fn same_production(book: &[u8], table: &[u8], p: usize, at: usize, q: usize, other: usize) -> bool
     requires framed { Framed book.now }
     requires canonical { Canonical book.now table.now }
@@ -354,12 +305,10 @@ fn same_arguments(book: &[u8], table: &[u8], at: usize, other: usize, count: usi
     requires count_in_bounds_2 { other + count ≤ length book.now }
     ensures { result ≡ all_below count (λ i. same_argument book.now (byte_at book.now (at + i)) (byte_at book.now (other + i))) }
 {
-    let mut i = 0;
-    while i < count {
+    for i in 0..count {
         if stands_for(table, book[at + i]) != stands_for(table, book[other + i]) {
             return false;
         }
-        i += 1;
     }
     true
 }

@@ -2,11 +2,3 @@
 #![tactic(auto)]
 
 pub mod check;
-
-// What checking a grammar gives.
-#[derive(Clone, Copy)]
-pub enum Verdict {
-    Accepted,
-    // The refusal's number and its place.
-    Refused(usize, usize),
-}

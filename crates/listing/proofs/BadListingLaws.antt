@@ -9,8 +9,9 @@ use lib.Dec.{ltb, eqb}
 use lib.ListN.{length}
 use borrow.Author.Tests.{ltb-true, eqb-true, ltb-false, eqb-false, lt-ltb, le-ltb, eq-eqb, ne_eqb}
 use Rattle.common.proofs.BoolLaws.{or_cases, or_first_false, or_second_false}
-use Rattle.grammar.proofs.VerdictLaws.{refuse_case, refuse_accepted}
-use Rattle.grammar.specs.declared.Verdict.TheVariants.{Accepted, Refused}
+use Rattle.refusal.proofs.VerdictLaws.{refuse_case, refuse_accepted}
+use Rattle.std.specs.Prelude.{Err}
+use Rattle.refusal.specs.Verdict.{accepted}
 use Rattle.listing.specs.Answer.{byte_limit, bad_listing}
 
 module _ (l : List ℕ) where
@@ -29,7 +30,7 @@ module _ (l : List ℕ) where
   long_listing h = rw (lt-ltb byte_limit (length l) h, or-true odd) refl
 
   -- an even byte count within the limit is not refused
-  pub listing_accepted : length l % 2 ≡ 0 → length l ≤ byte_limit → bad_listing l ≡ Accepted
+  pub listing_accepted : length l % 2 ≡ 0 → length l ≤ byte_limit → bad_listing l ≡ accepted
   unfolding bad_listing
   listing_accepted even short = rw (ne_eqb (length l % 2) 1 (λ e. omega arith), le-ltb byte_limit (length l) short) refl
 
@@ -39,7 +40,7 @@ module _ (l : List ℕ) where
       refuse_case (λ n k. (n ≡ 11) × ((length l % 2 ≡ 1) ⊎ (byte_limit < length l)) × (k ≡ length l)) (odd || long) 11 (length l) e
       (λ t. (refl, ⊎_elim (λ o. inl (eqb-true (length l % 2) 1 o)) (λ o. inr (ltb-true byte_limit (length l) o)) (or_cases odd long t), refl))
 
-  pub listing_good : bad_listing l ≡ Accepted → (length l % 2 ≡ 0) × (length l ≤ byte_limit)
+  pub listing_good : bad_listing l ≡ accepted → (length l % 2 ≡ 0) × (length l ≤ byte_limit)
   unfolding bad_listing
   listing_good e =
       let free = refuse_accepted (odd || long) 11 (length l) e in

@@ -13,11 +13,11 @@ use Rattle.engine.specs.Refusals.{too_long}
 use Rattle.flatten.proofs.FlatLaws.{flat_numbered, flat_trees}
 use Rattle.flatten.specs.Flat.{flat_grammar, plain_class}
 use Rattle.flatten.specs.Reading.{Reading}
-use Rattle.grammar.proofs.VerdictLaws.{and_first, unless_answer}
+use Rattle.refusal.proofs.VerdictLaws.{and_first, unless_answer}
 use Rattle.grammar.specs.Formed.{WellFormed}
-use Rattle.grammar.specs.Verdict.{and_then, in_order}
-use Rattle.grammar.specs.declared.Verdict.{Verdict}
-use Rattle.grammar.specs.declared.Verdict.TheVariants.{Accepted}
+use Rattle.refusal.specs.Verdict.{and_then, in_order}
+use Rattle.refusal.specs.Verdict.{Verdict}
+use Rattle.refusal.specs.Verdict.{accepted}
 use Rattle.layout.specs.Layout.{start_sort}
 use Rattle.listing.proofs.BadListingLaws.{listing_accepted}
 use Rattle.listing.proofs.TreeLaws.{judge_right}
@@ -63,16 +63,16 @@ module _ (b w l : List ℕ) where
   refusals = in_order (checked b ∷ too_long w ∷ bad_listing l ∷ [])
 
   -- "right" is no refusal: then the numbers decide
-  right_parts : (listing_answer b w l ≡ Right) ↔ ((refusals ≡ Accepted) × (judged b w l ≡ Right))
+  right_parts : (listing_answer b w l ≡ Right) ↔ ((refusals ≡ accepted) × (judged b w l ≡ Right))
   unfolding listing_answer
   right_parts = unless_answer Refused refusals (judged b w l) Right refused_right
 
-  refusals_formed : refusals ≡ Accepted → WellFormed b
+  refusals_formed : refusals ≡ accepted → WellFormed b
   refusals_formed e = accepted_formed b (and_first (checked b) (and_then (too_long w) (bad_listing l)) e)
 
 -- The answer is "right" exactly if nothing is refused and the numbers are the listing of a parse of the text.
 pub listing_right : (b : List ℕ) → ((k : ℕ) → get_or b k 0 < characters) → (w l : List ℕ)
-    → (listing_answer b w l ≡ Right) ↔ ((in_order (checked b ∷ too_long w ∷ bad_listing l ∷ []) ≡ Accepted) × ((t : Tree) × Reading b w t × (listing t ≡ numbers_of l)))
+    → (listing_answer b w l ≡ Right) ↔ ((in_order (checked b ∷ too_long w ∷ bad_listing l ∷ []) ≡ accepted) × ((t : Tree) × Reading b w t × (listing t ≡ numbers_of l)))
 listing_right b bytes w l = (
   (λ e. let (accepted, e') = (right_parts b w l).0 e in (accepted, (judged_right b (refusals_formed b w l accepted) bytes w l).0 e')),
   (λ h. (right_parts b w l).1 (h.0, (judged_right b (refusals_formed b w l h.0) bytes w l).1 h.1)),
@@ -81,7 +81,7 @@ listing_right b bytes w l = (
 -- ---- a listing that was written
 
 -- the listing of a parse, written at the start of a buffer, is found right
-pub reading_written : (b : List ℕ) → ((k : ℕ) → get_or b k 0 < characters) → (w l₀ l : List ℕ) (t : Tree) → checked b ≡ Accepted → too_long w ≡ Accepted → Reading b w t
+pub reading_written : (b : List ℕ) → ((k : ℕ) → get_or b k 0 < characters) → (w l₀ l : List ℕ) (t : Tree) → checked b ≡ accepted → too_long w ≡ accepted → Reading b w t
     → 2 * length (listing t) ≤ byte_limit → l ≡ overwritten (bytes_of (listing t)) l₀ → listing_answer b w (take (2 * length (listing t)) l) ≡ Right
 reading_written b bytes w l₀ l t good short reading small wrote =
     let ns = listing t in

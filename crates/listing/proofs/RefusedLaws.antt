@@ -10,10 +10,10 @@ use Rattle.flatten.specs.Flat.{flat_grammar, plain_class}
 use Rattle.charset.specs.Set.{characters}
 use Rattle.chart.specs.Layout.{text_limit}
 use Rattle.common.proofs.BoolLaws.{true_or_false}
-use Rattle.grammar.proofs.VerdictLaws.{and_first, and_second, FirstIn, here, there, order_first, unless_refused_lem}
-use Rattle.grammar.specs.Verdict.{and_then, in_order}
-use Rattle.grammar.specs.declared.Verdict.{Verdict}
-use Rattle.grammar.specs.declared.Verdict.TheVariants.{Accepted, Refused as Rejected}
+use Rattle.refusal.proofs.VerdictLaws.{and_first, and_second, FirstIn, here, there, order_first, unless_refused_lem}
+use Rattle.refusal.specs.Verdict.{and_then, in_order}
+use Rattle.refusal.specs.Verdict.{Verdict}
+use Rattle.grammar.specs.declared.Verdict.TheVariants.{accepted, Refused as Rejected}
 use Rattle.layout.specs.Layout.{start_sort}
 use Rattle.listing.specs.Answer.{byte_limit, bad_listing, judged, listing_answer}
 use Rattle.listing.specs.Judge.{is_right, due_after, text_after, judge}
@@ -81,13 +81,13 @@ module _ (b w l : List ℕ) where
   unfolding listing_answer
   refused_answer n k e = rw e refl
 
-  by_ten : {n k : ℕ} → FirstIn lines n k → n ≡ 10 → (checked b ≡ Accepted) × (text_limit < length w) × (k ≡ length w)
+  by_ten : {n k : ℕ} → FirstIn lines n k → n ≡ 10 → (checked b ≡ accepted) × (text_limit < length w) × (k ≡ length w)
   by_ten (here e) ten = absurd (omega (arith, checked_number b e))
   by_ten (there a (here e)) ten = let h = text_long w e in (a, h.1, h.2)
   by_ten (there a (there c (here e))) ten = absurd (omega (arith, (listing_refused l e).0))
   by_ten (there a (there c (there _ e))) ten = elim e [ ]
 
-  by_eleven : {n k : ℕ} → FirstIn lines n k → n ≡ 11 → (checked b ≡ Accepted) × (length w ≤ text_limit) × BadListing × (k ≡ length l)
+  by_eleven : {n k : ℕ} → FirstIn lines n k → n ≡ 11 → (checked b ≡ accepted) × (length w ≤ text_limit) × BadListing × (k ≡ length l)
   by_eleven (here e) eleven = absurd (omega (arith, checked_number b e))
   by_eleven (there a (here e)) eleven = absurd (omega (arith, (text_long w e).0))
   by_eleven (there a (there c (here e))) eleven = let h = listing_refused l e in (a, text_short w c, h.1, h.2)
@@ -114,14 +114,14 @@ module _ (b w l : List ℕ) where
   grammar_exactly n k small = ((λ e. by_grammar (order_first lines (refused_if b w l n k e)) small), (λ h. refused_answer n k (rw h refl)))
 
   -- 10: the text is over its limit; the place is its length.
-  pub ten_exactly : (k : ℕ) → (listing_answer b w l ≡ Refused 10 k) ↔ ((checked b ≡ Accepted) × (text_limit < length w) × (k ≡ length w))
+  pub ten_exactly : (k : ℕ) → (listing_answer b w l ≡ Refused 10 k) ↔ ((checked b ≡ accepted) × (text_limit < length w) × (k ≡ length w))
   ten_exactly k = (
     (λ e. by_ten (order_first lines (refused_if b w l 10 k e)) refl),
     (λ h. refused_answer 10 (length w) (rw (h.0, long_text w h.1) refl) ∙ ap (Refused 10) (sym h.2)),
   )
 
   -- 11: the listing has an odd byte count or one over the limit; the place is the byte count.
-  pub eleven_exactly : (k : ℕ) → (listing_answer b w l ≡ Refused 11 k) ↔ ((checked b ≡ Accepted) × (length w ≤ text_limit) × BadListing × (k ≡ length l))
+  pub eleven_exactly : (k : ℕ) → (listing_answer b w l ≡ Refused 11 k) ↔ ((checked b ≡ accepted) × (length w ≤ text_limit) × BadListing × (k ≡ length l))
   eleven_exactly k = (
     (λ e. by_eleven (order_first lines (refused_if b w l 11 k e)) refl),
     (λ h. refused_answer 11 (length l) (rw (h.0, short_text w h.1, bad_listing_lem h.2) refl) ∙ ap (Refused 11) (sym h.3)),
@@ -130,7 +130,7 @@ module _ (b w l : List ℕ) where
   -- Right: nothing is refused, and the numbers are the listing of a reading.
   pub right_exactly : ((k : ℕ) → get_or b k 0 < characters)
       → (listing_answer b w l ≡ Right)
-      ↔ ((checked b ≡ Accepted) × (length w ≤ text_limit) × (length l % 2 ≡ 0) × (length l ≤ byte_limit) × ((t : Tree) × Reading b w t × (listing t ≡ numbers_of l)))
+      ↔ ((checked b ≡ accepted) × (length w ≤ text_limit) × (length l % 2 ≡ 0) × (length l ≤ byte_limit) × ((t : Tree) × Reading b w t × (listing t ≡ numbers_of l)))
   right_exactly bytes = (
     (λ e. let (free, found) = (listing_right b bytes w l).0 e in
         let later = and_second (checked b) (and_then (too_long w) (bad_listing l)) free in

@@ -1,8 +1,8 @@
 -- The promise of the operation "checking a listing" (01), stated once, for every grammar, text and listing.
 use Rattle.std.specs.Prelude.{ℕ, ◌*◌, ◌%◌, ◌||◌, List, [], ◌∷◌, ltb, eqb, length}
 use Rattle.flatten.specs.Flat.{flat_grammar, plain_class}
-use Rattle.grammar.specs.Verdict.{refuse_if, in_order, unless_refused}
-use Rattle.grammar.specs.declared.Verdict.{Verdict}
+use Rattle.refusal.specs.Verdict.{refuse_if, in_order, unless_refused}
+use Rattle.refusal.specs.Verdict.{Verdict}
 use Rattle.layout.specs.Layout.{start_sort}
 use Rattle.listing.specs.Judge.{judge}
 use Rattle.numbers.specs.Numbers.{listing_limit, numbers_of}

@@ -3,7 +3,7 @@
 
 ghost use Rattle.std.specs.Prelude.{◌≡◌, ◌&&◌, List, [], ◌∷◌, ◌-◌, ◌<◌, ◌≤◌, ltb, leb, length, drop};
 ghost use Rattle.grammar.specs.Formed.{WellFormed};
-ghost use Rattle.grammar.specs.Verdict.{in_order, unless_refused};
+ghost use Rattle.refusal.specs.Verdict.{in_order, unless_refused};
 ghost use Rattle.theory.specs.Tree.{production_number};
 ghost use Rattle.tables.specs.Layout.{slots, counts_of, table_words, takes_char, takes_production, ParserTables};
 ghost use Rattle.ccg.specs.Ccg.{Line};

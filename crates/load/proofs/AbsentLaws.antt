@@ -9,8 +9,9 @@ use Rattle.ccg.proofs.TablesLaws.{table_of_production}
 use Rattle.ccg.specs.Ccg.{Class, Line, no_line, no_class}
 use Rattle.ccg.specs.Tables.{table_class, table_line, table_grammar}
 use Rattle.common.proofs.ListLaws.{length_tabulate, get_d_tabulate}
-use Rattle.grammar.proofs.VerdictLaws.{refuse_case, first_of}
-use Rattle.grammar.specs.declared.Verdict.TheVariants.{Accepted, Refused}
+use Rattle.refusal.proofs.VerdictLaws.{refuse_case, first_of}
+use Rattle.std.specs.Prelude.{Err}
+use Rattle.refusal.specs.Verdict.{accepted}
 use Rattle.layout.specs.Limits.{production_limit, argument_limit}
 use Rattle.load.specs.Absent.{absent_at, absent_in, absent_in_argument, absent_in_line, absent_in_line_at, absent_names}
 use Rattle.tables.specs.Layout.{slot, counts_of, arity_in, takes_production}
@@ -28,7 +29,7 @@ module _ (t : List ℕ) (s count k : ℕ) (there : count + k < production_limit)
   unfolding absent_at
   absent_found e = rw (has_production, e) refl
 
-  pub absent_passed : takes_production t s (count + k) ≡ false → absent_at count (table_class t s) k ≡ Accepted
+  pub absent_passed : takes_production t s (count + k) ≡ false → absent_at count (table_class t s) k ≡ accepted
   unfolding absent_at
   absent_passed e = rw (has_production, e) refl
 

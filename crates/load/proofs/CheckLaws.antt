@@ -9,8 +9,8 @@ use Rattle.ccg.specs.Ccg.{Line}
 use Rattle.ccg.specs.Tables.{table_grammar}
 use Rattle.form.proofs.FormLaws.{longest_unique, says_unique}
 use Rattle.form.specs.Form.{Says, NotInForm}
-use Rattle.grammar.proofs.VerdictLaws.{unless_answer, unless_refused_lem}
-use Rattle.grammar.specs.declared.Verdict.TheVariants.{Accepted, Refused as Rejected}
+use Rattle.refusal.proofs.VerdictLaws.{unless_answer, unless_refused_lem}
+use Rattle.grammar.specs.declared.Verdict.TheVariants.{accepted, Refused as Rejected}
 use Rattle.load.proofs.AbsentLaws.{names_number}
 use Rattle.load.proofs.NamesLaws.{names_first, names_accepted}
 use Rattle.load.specs.Absent.{absent_names, Names, FirstNamed}
@@ -44,7 +44,7 @@ refusal_place e = cc
 -- ---- a grammar's own answer
 
 module _ (g : List Line) where
-  lines_answer_lem : (n : ℕ) → (lines_answer g ≡ Lines n) ↔ ((absent_names g ≡ Accepted) × (n ≡ length g))
+  lines_answer_lem : (n : ℕ) → (lines_answer g ≡ Lines n) ↔ ((absent_names g ≡ accepted) × (n ≡ length g))
   unfolding lines_answer
   lines_answer_lem n =
       let own = unless_answer Refused (absent_names g) (Lines (length g)) (Lines n) (λ m k e. refused_lines e) in

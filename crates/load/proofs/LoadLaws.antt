@@ -18,7 +18,7 @@ use Rattle.common.proofs.BoolLaws.{true_or_false}
 use Rattle.common.proofs.ListLaws.{tabulate_members}
 use Rattle.form.specs.Form.{Writable, Says}
 use Rattle.form.specs.Read.{Memory}
-use Rattle.grammar.specs.declared.Verdict.TheVariants.{Accepted, Refused as Rejected}
+use Rattle.grammar.specs.declared.Verdict.TheVariants.{accepted, Refused as Rejected}
 use Rattle.layout.specs.Limits.{production_limit}
 use Rattle.load.specs.Absent.{absent_names}
 use Rattle.load.specs.Check.{lines_answer, Loaded, Checked}
@@ -36,7 +36,7 @@ pub answer_refused : (g : List Line) (number place : ℕ) → absent_names g ≡
 unfolding lines_answer
 answer_refused g number place e = rw e refl
 
-pub answer_lines : (g : List Line) (n : ℕ) → absent_names g ≡ Accepted → n ≡ length g → Lines n ≡ lines_answer g
+pub answer_lines : (g : List Line) (n : ℕ) → absent_names g ≡ accepted → n ≡ length g → Lines n ≡ lines_answer g
 unfolding lines_answer
 answer_lines g n e f = rw (e, f) refl
 

@@ -8,9 +8,10 @@ use native.Mathlib.Decide.{dec_lt}
 use native.Mathlib.Omega.{arith}
 use lib.ListN.{length, get_or}
 use Rattle.ccg.specs.Ccg.{Class, Line, no_line, no_class}
-use Rattle.grammar.proofs.VerdictLaws.{refuse_case, refuse_accepted, FirstOf, first_of, first_all, first_pass}
-use Rattle.grammar.specs.declared.Verdict.{Verdict}
-use Rattle.grammar.specs.declared.Verdict.TheVariants.{Accepted, Refused}
+use Rattle.refusal.proofs.VerdictLaws.{refuse_case, refuse_accepted, FirstOf, first_of, first_all, first_pass}
+use Rattle.refusal.specs.Verdict.{Verdict}
+use Rattle.std.specs.Prelude.{Err}
+use Rattle.refusal.specs.Verdict.{accepted}
 use Rattle.layout.specs.Limits.{production_limit}
 use Rattle.load.proofs.AbsentLaws.{names_number}
 use Rattle.load.specs.Absent.{absent_at, absent_in, absent_in_argument, absent_in_line, absent_in_line_at, absent_names, Names, FirstNamed}
@@ -18,7 +19,7 @@ use Rattle.theory.specs.Tree.{production_number}
 
 -- ---- classes that name no absent line
 
-pub class_names : (count : ℕ) (cc : Class) → absent_in count cc ≡ Accepted → (q : ℕ) → count ≤ q → q < production_limit → cc (production_number q) ≡ false
+pub class_names : (count : ℕ) (cc : Class) → absent_in count cc ≡ accepted → (q : ℕ) → count ≤ q → q < production_limit → cc (production_number q) ≡ false
 unfolding absent_in absent_at
 class_names count cc e q l h =
     let k = q - count in
@@ -26,7 +27,7 @@ class_names count cc e q l h =
     subst (λ (n : ℕ). cc (production_number n) ≡ false) same
     (refuse_accepted (cc (production_number (count + k))) 28 (production_number (count + k)) (first_all (absent_at count cc) (production_limit - count) e k (omega arith)))
 
-pub class_accepted : (count : ℕ) (cc : Class) → ((q : ℕ) → count ≤ q → q < production_limit → cc (production_number q) ≡ false) → absent_in count cc ≡ Accepted
+pub class_accepted : (count : ℕ) (cc : Class) → ((q : ℕ) → count ≤ q → q < production_limit → cc (production_number q) ≡ false) → absent_in count cc ≡ accepted
 unfolding absent_in absent_at
 class_accepted count cc none = first_pass (absent_at count cc) (production_limit - count) (λ k l. rw (none (count + k) (omega arith) (omega arith)) refl)
 
@@ -34,21 +35,21 @@ module _ (g : List Line) where
   abbrev class_at : ℕ → ℕ → Class
   class_at p i = get_or (get_or g p no_line).arguments i no_class
 
-  accepted_none : (p i : ℕ) → absent_in (length g) (class_at p i) ≡ Accepted → (q : ℕ) → Names g p i q → ⊥
+  accepted_none : (p i : ℕ) → absent_in (length g) (class_at p i) ≡ accepted → (q : ℕ) → Names g p i q → ⊥
   accepted_none p i e q h = true≢false (sym h.named ∙ class_names (length g) (class_at p i) e q h.absent h.number)
 
-  line_none : (p : ℕ) → absent_in_line_at g p ≡ Accepted → (i q : ℕ) → Names g p i q → ⊥
+  line_none : (p : ℕ) → absent_in_line_at g p ≡ accepted → (i q : ℕ) → Names g p i q → ⊥
   unfolding absent_in_line_at absent_in_line absent_in_argument
   line_none p e i q h = accepted_none p i (first_all (absent_in_argument (length g) (get_or g p no_line)) (length (get_or g p no_line).arguments) e i h.argument) q h
 
-  pub names_none : absent_names g ≡ Accepted → (p i q : ℕ) → Names g p i q → ⊥
+  pub names_none : absent_names g ≡ accepted → (p i q : ℕ) → Names g p i q → ⊥
   unfolding absent_names
   names_none e p i q h = line_none p (first_all (absent_in_line_at g) (length g) e p h.line) i q h
 
   -- ---- the first that does
 
-  module _ (p : ℕ) (lp : p < length g) (earlier : (p' : ℕ) → p' < p → absent_in_line_at g p' ≡ Accepted)
-      (i : ℕ) (li : i < length (get_or g p no_line).arguments) (before : (i' : ℕ) → i' < i → absent_in_argument (length g) (get_or g p no_line) i' ≡ Accepted) where
+  module _ (p : ℕ) (lp : p < length g) (earlier : (p' : ℕ) → p' < p → absent_in_line_at g p' ≡ accepted)
+      (i : ℕ) (li : i < length (get_or g p no_line).arguments) (before : (i' : ℕ) → i' < i → absent_in_argument (length g) (get_or g p no_line) i' ≡ accepted) where
     first_in_class : (k : ℕ) → FirstOf (absent_at (length g) (class_at p i)) (production_limit - length g) 28 k → FirstNamed g k
     unfolding absent_at absent_in_argument
     first_in_class k f =
@@ -96,7 +97,7 @@ module _ (g : List Line) where
       (λ t. omega (arith, a.is_place, b.is_place)))))))
 
   first_refused : (v : Verdict) → absent_names g ≡ v → (k : ℕ) → FirstNamed g k → v ≡ Refused 28 k
-  first_refused Accepted e k f = absurd (names_none e f.p f.i f.q f.names)
+  first_refused accepted e k f = absurd (names_none e f.p f.i f.q f.names)
   first_refused (Refused n j) e k f =
       let is : n ≡ 28 = names_number g n j e in
       let refused : absent_names g ≡ Refused 28 j = e ∙ ap (λ (m : ℕ). Refused m j) is in
@@ -106,12 +107,12 @@ module _ (g : List Line) where
   names_first k = (refused_first k, λ f. first_refused (absent_names g) refl k f)
 
   -- and none is accepted exactly if there is no such name
-  none_accepted : (v : Verdict) → absent_names g ≡ v → ((p i q : ℕ) → Names g p i q → ⊥) → v ≡ Accepted
-  none_accepted Accepted e none = refl
+  none_accepted : (v : Verdict) → absent_names g ≡ v → ((p i q : ℕ) → Names g p i q → ⊥) → v ≡ accepted
+  none_accepted accepted e none = refl
   none_accepted (Refused n k) e none =
       let is : n ≡ 28 = names_number g n k e in
       let f = refused_first k (e ∙ ap (λ (m : ℕ). Refused m k) is) in
       absurd (none f.p f.i f.q f.names)
 
-  pub names_accepted : (absent_names g ≡ Accepted) ↔ ((p i q : ℕ) → Names g p i q → ⊥)
+  pub names_accepted : (absent_names g ≡ accepted) ↔ ((p i q : ℕ) → Names g p i q → ⊥)
   names_accepted = (names_none, λ none. none_accepted (absent_names g) refl none)

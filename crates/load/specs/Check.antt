@@ -3,7 +3,7 @@ use Rattle.std.specs.Prelude.{ℕ, ◌≡◌, List, ◌⊎◌, length}
 use Rattle.ccg.specs.Ccg.{Line}
 use Rattle.ccg.specs.Tables.{table_grammar}
 use Rattle.form.specs.Form.{Says, NotInForm}
-use Rattle.grammar.specs.Verdict.{unless_refused}
+use Rattle.refusal.specs.Verdict.{unless_refused}
 use Rattle.load.specs.Absent.{absent_names}
 use Rattle.load.specs.declared.FlatAnswer.{FlatAnswer}
 use Rattle.load.specs.declared.FlatAnswer.TheVariants.{Lines, Refused}

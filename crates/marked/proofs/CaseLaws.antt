@@ -17,10 +17,11 @@ use Rattle.common.specs.Lists.{All}
 use Rattle.engine.specs.Refusals.{too_long}
 use Rattle.flatten.proofs.TestsLaws.{TestsAre, tests_parses}
 use Rattle.flatten.specs.Reading.{Reading}
-use Rattle.grammar.proofs.VerdictLaws.{and_first}
-use Rattle.grammar.specs.Verdict.{in_order}
-use Rattle.grammar.specs.declared.Verdict.{Verdict}
-use Rattle.grammar.specs.declared.Verdict.TheVariants.{Accepted, Refused}
+use Rattle.refusal.proofs.VerdictLaws.{and_first}
+use Rattle.refusal.specs.Verdict.{in_order}
+use Rattle.refusal.specs.Verdict.{Verdict}
+use Rattle.std.specs.Prelude.{Err}
+use Rattle.refusal.specs.Verdict.{accepted}
 use Rattle.layout.specs.Layout.{productions}
 use Rattle.marked.proofs.CaseTests.{same, all_bytes, starts, grammar_of, derives, derives_at, parses, Spans, chart_of, empty_test, step_test, parse_sum, accepts, refuses, Given, tests, every, Shown, case_of, case_test, table_test}
 use Rattle.marked.specs.Cases.{Expected, no_reading, one_reading, several_readings, bad_grammar, refused, Says, Statement}
@@ -106,7 +107,7 @@ closed_true g w c e h =
 
 -- ---- readings: the parses of a grammar of the theory that tests what the bytes do
 
-module _ (b w : List ℕ) (good : checked b ≡ Accepted) (bytes : all_bytes b ≡ true) (text : all_bytes w ≡ true) where
+module _ (b w : List ℕ) (good : checked b ≡ accepted) (bytes : all_bytes b ≡ true) (text : all_bytes w ≡ true) where
   abbrev g : Grammar
   g = grammar_of b
 
@@ -155,19 +156,19 @@ module _ (b w : List ℕ) (good : checked b ≡ Accepted) (bytes : all_bytes b �
 
 -- ---- verdicts
 
-accepts_true : (v : Verdict) → accepts v ≡ true → v ≡ Accepted
+accepts_true : (v : Verdict) → accepts v ≡ true → v ≡ accepted
 unfolding accepts
-accepts_true Accepted e = refl
+accepts_true accepted e = refl
 accepts_true (Refused number place) e = absurd (false≢true e)
 
 refuses_true : (number place : ℕ) (v : Verdict) → refuses number place v ≡ true → v ≡ Refused number place
 unfolding refuses
-refuses_true number place Accepted e = absurd (false≢true e)
+refuses_true number place accepted e = absurd (false≢true e)
 refuses_true number place (Refused n p) e =
     ap₂ Refused (eqb-true n number (and_first_true (eqb n number) (eqb p place) e)) (eqb-true p place (and_second_true (eqb n number) (eqb p place) e))
 
 -- where reading is not refused, the grammar is not
-readable : (b w chart : List ℕ) → refusal b w chart ≡ Accepted → checked b ≡ Accepted
+readable : (b w chart : List ℕ) → refusal b w chart ≡ accepted → checked b ≡ accepted
 unfolding refusal
 readable b w chart e = and_first (checked b) (in_order (too_long w ∷ too_short b w chart ∷ [])) e
 

@@ -11,7 +11,7 @@ use Rattle.common.specs.Lists.{All, tabulate}
 use Rattle.engine.specs.Refusals.{too_long, chart_too_short}
 use Rattle.flatten.specs.Flat.{may_stand_in}
 use Rattle.grammar.specs.Check.{short_header, header_bytes, bad_header, short_contents, bad_argument_count, bad_range_count, bad_length, names_argument, bad_argument, bad_production, is_group, declaration_bytes, bad_declaration, same_production, repeated_production}
-use Rattle.grammar.specs.Verdict.{first_refusal}
+use Rattle.refusal.specs.Verdict.{first_refusal}
 use Rattle.layout.specs.Layout.{argument_count, range_count, production_at, result_sort, argument, class_at, low, high, declaration_at, kind, first, second, needed_length}
 use Rattle.marked.proofs.CaseLaws.{table_true}
 use Rattle.marked.proofs.CaseTests.{same, all_bytes, occurrences, grammar_of, derives, parses, Spans, chart_of, empty_test, step_test, parse_sum, accepts, refuses, tests, every, Shown, case_test, table_test}

@@ -4,7 +4,8 @@ use Rattle.common.specs.Lists.{overwritten}
 use Rattle.engine.specs.declared.Answer.{Answer}
 use Rattle.engine.specs.declared.Answer.TheVariants.{None, One, Several, Refused as NotRead}
 use Rattle.numbers.specs.Written.{bytes_of}
-use Rattle.grammar.specs.declared.Verdict.TheVariants.{Accepted, Refused}
+use Rattle.std.specs.Prelude.{Err}
+use Rattle.refusal.specs.Verdict.{accepted}
 use Rattle.parse.specs.Outcome.{refusal, Outcome}
 use Rattle.flatten.specs.Reading.{Reading}
 use Rattle.priority.specs.Check.{checked}
@@ -25,9 +26,9 @@ pub data Expected : Type 0 where
   refused : ℕ → ℕ → Expected
 
 unfoldable pub Says : (b w chart : List ℕ) → Expected → Type 0
-Says b w chart no_reading = (refusal b w chart ≡ Accepted) × ((t : Tree) → Reading b w t → ⊥)
-Says b w chart (one_reading numbers) = (refusal b w chart ≡ Accepted) × (t : Tree) × Only (Reading b w) t × (listing t ≡ numbers)
-Says b w chart several_readings = (refusal b w chart ≡ Accepted) × Two (Reading b w)
+Says b w chart no_reading = (refusal b w chart ≡ accepted) × ((t : Tree) → Reading b w t → ⊥)
+Says b w chart (one_reading numbers) = (refusal b w chart ≡ accepted) × (t : Tree) × Only (Reading b w) t × (listing t ≡ numbers)
+Says b w chart several_readings = (refusal b w chart ≡ accepted) × Two (Reading b w)
 Says b w chart (bad_grammar number place) = checked b ≡ Refused number place
 Says b w chart (refused number place) = refusal b w chart ≡ Refused number place
 

@@ -11,11 +11,11 @@ use Rattle.common.proofs.ListLaws.{length_tabulate}
 use Rattle.engine.specs.Refusals.{too_long}
 use Rattle.flatten.specs.Answer.{flat_answer}
 use Rattle.flatten.specs.Flat.{flat_class, flat_line, flat_line_in, flat_grammar, flat_grammar_in, plain_class}
-use Rattle.grammar.proofs.VerdictLaws.{and_second, order_first}
+use Rattle.refusal.proofs.VerdictLaws.{and_second, order_first}
 use Rattle.grammar.specs.Formed.{WellFormed}
-use Rattle.grammar.specs.Verdict.{and_then, in_order, unless_refused}
-use Rattle.grammar.specs.declared.Verdict.{Verdict}
-use Rattle.grammar.specs.declared.Verdict.TheVariants.{Accepted, Refused as Rejected}
+use Rattle.refusal.specs.Verdict.{and_then, in_order, unless_refused}
+use Rattle.refusal.specs.Verdict.{Verdict}
+use Rattle.grammar.specs.declared.Verdict.TheVariants.{accepted, Refused as Rejected}
 use Rattle.layout.specs.Layout.{productions, start_sort, argument_count}
 use Rattle.listing.proofs.BadListingLaws.{listing_good}
 use Rattle.listing.proofs.RefusedLaws.{small_number}
@@ -41,15 +41,15 @@ use Rattle.writing.specs.declared.WriteAnswer.TheVariants.{Refused as NotWritten
 
 -- An operation that refuses what a verdict refuses: its reply fits if the verdict's numbers are small and its own answer fits.
 unless_fits : {A : Type 0} (reply : A → Reply) (refusing : ℕ → ℕ → A) (v : Verdict) (answer : A) → ((k p : ℕ) → reply (refusing k p) ≡ refused k p) → Numbered v
-    → (v ≡ Accepted → Fits (reply answer)) → Fits (reply (unless_refused refusing v answer))
-unless_fits reply refusing Accepted answer form numbered own = own refl
+    → (v ≡ accepted → Fits (reply answer)) → Fits (reply (unless_refused refusing v answer))
+unless_fits reply refusing accepted answer form numbered own = own refl
 unless_fits reply refusing (Rejected k p) answer form numbered own = rw (form k p) (refused_fits k p (omega (arith, numbered.small k p refl)))
 
 -- ---- checking a grammar
 
 verdict_fits : (v : Verdict) → Numbered v → Fits (check_reply v)
 unfolding check_reply
-verdict_fits Accepted numbered = answered_fits 0 0 (omega arith) (omega arith)
+verdict_fits accepted numbered = answered_fits 0 0 (omega arith) (omega arith)
 verdict_fits (Rejected k p) numbered = refused_fits k p (omega (arith, numbered.small k p refl))
 
 pub check_fits : (b : List ℕ) → Fits (check_reply (checked b))
@@ -91,7 +91,7 @@ module _ (b w l : List ℕ) where
   refusals_numbered : Numbered refusals
   refusals_numbered = record { small = λ k p e. omega (arith, small_number b w l (order_first lines e)) }
 
-  listing_short : refusals ≡ Accepted → length l ≤ byte_limit
+  listing_short : refusals ≡ accepted → length l ≤ byte_limit
   listing_short e = (listing_good l (and_second (too_long w) (bad_listing l) (and_second (checked b) (and_then (too_long w) (bad_listing l)) e))).1
 
   judged_fits : length l ≤ byte_limit → Fits (listing_reply (judged b w l))

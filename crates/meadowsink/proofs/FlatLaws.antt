@@ -16,9 +16,9 @@ use Rattle.ccg.specs.Ccg.{Line}
 use Rattle.common.proofs.ListLaws.{length_tabulate, get_d_tabulate}
 use Rattle.common.specs.Lists.{tabulate}
 use Rattle.engine.specs.declared.Answer.{Answer}
-use Rattle.grammar.specs.Verdict.{unless_refused}
-use Rattle.grammar.specs.declared.Verdict.{Verdict}
-use Rattle.grammar.specs.declared.Verdict.TheVariants.{Accepted, Refused as Rejected}
+use Rattle.refusal.specs.Verdict.{unless_refused}
+use Rattle.refusal.specs.Verdict.{Verdict}
+use Rattle.grammar.specs.declared.Verdict.TheVariants.{accepted, Refused as Rejected}
 use Rattle.layout.specs.Limits.{production_limit}
 use Rattle.load.proofs.AbsentLaws.{names_number}
 use Rattle.load.proofs.CheckLaws.{checked_unique}
@@ -74,7 +74,7 @@ flat_read_fits flat roots w c₀ l₀ r c l o =
 
 lines_fit : (g : List Line) → length g ≤ production_limit → (v : Verdict) → ((n k : ℕ) → v ≡ Rejected n k → n ≡ 28) → Fits (lines_reply (unless_refused NotLoaded v (Lines (length g))))
 unfolding lines_reply
-lines_fit g few Accepted small = answered_fits 1 (length g) (omega arith) (omega arith)
+lines_fit g few accepted small = answered_fits 1 (length g) (omega arith) (omega arith)
 lines_fit g few (Rejected n k) small = refused_fits n k (omega (arith, small n k refl))
 
 pub check_flat_fits : (flat : List ℕ) (r : FlatAnswer) → Checked flat r → Fits (lines_reply r)

@@ -9,8 +9,8 @@ use lib.ListN.{length, take, drop, length-take, drop_of_length-le}
 use lib.Seq.{take_all}
 use Rattle.engine.specs.Outcome.{Parsing, UnlessRefused}
 use Rattle.engine.specs.declared.Answer.{Answer}
-use Rattle.grammar.specs.declared.Verdict.{Verdict}
-use Rattle.grammar.specs.declared.Verdict.TheVariants.{Accepted, Refused as Rejected}
+use Rattle.refusal.specs.Verdict.{Verdict}
+use Rattle.grammar.specs.declared.Verdict.TheVariants.{accepted, Refused as Rejected}
 use Rattle.meadowsink.specs.Viewer.{used_limit, Promise, UsedOutcome, CallOutcome}
 use Rattle.parse.proofs.NumberLaws.{refusal_numbered}
 use Rattle.parse.proofs.OutcomeLaws.{outcome_unique}
@@ -27,7 +27,7 @@ Small v = (number place : ℕ) → v ≡ Rejected number place → number < valu
 
 pub after_fits : (s : Parsing) (c₀ l₀ : List ℕ) (r : Answer) (c l : List ℕ) (v : Verdict) → length l₀ ≤ used_limit → Small v → UnlessRefused v s c₀ l₀ r c l → Fits (read_reply r)
 unfolding UnlessRefused read_reply
-after_fits s c₀ l₀ r c l Accepted h small a = own_read_fits s l₀ r l (omega arith) a.answer
+after_fits s c₀ l₀ r c l accepted h small a = own_read_fits s l₀ r l (omega arith) a.answer
 after_fits s c₀ l₀ r c l (Rejected number place) h small a = subst⁻¹ (λ (x : Answer). Fits (read_reply x)) a.0 (refused_fits number place (small number place refl))
 
 pub used_short : (l₀ : List ℕ) → length (take used_limit l₀) ≤ used_limit

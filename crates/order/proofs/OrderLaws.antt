@@ -10,7 +10,7 @@ use lib.Dec.{eqb}
 use lib.IntN.{pos, neg_ℤ}
 use borrow.Author.Tests.{eq-eqb, eqb-true}
 use Rattle.common.proofs.BoolLaws.{true_or_false}
-use Rattle.grammar.specs.declared.Verdict.TheVariants.{Accepted}
+use Rattle.refusal.specs.Verdict.{accepted}
 use Rattle.layout.specs.Layout.{productions}
 use Rattle.order.proofs.HighestLaws.{highest_from}
 use Rattle.order.specs.Order.{Uses, Lower, EqualCounts, OrderIs, order_number, swapped}
@@ -24,7 +24,7 @@ use Rattle.priority.specs.Priorities.{Higher, is_higher}
 
 -- ---- the highest production of which a test holds
 
-module _ (b : List ℕ) (accepted : checked b ≡ Accepted) where
+module _ (b : List ℕ) (accepted : checked b ≡ accepted) where
   above : (x y : ℕ) → is_higher b x y ≡ true → Higher b x y
   above x y e = (higher_chain b (accepted_formed b accepted) x y).0 e
 
@@ -154,7 +154,7 @@ lower_unequal b m n h same = let (p, there, k) = h.differ in k (same p there)
 lower_unequal' : (b : List ℕ) (m n : Uses) → Lower b n m → EqualCounts b m n → ⊥
 lower_unequal' b m n h same = lower_unequal b n m h (λ p l. sym (same p l))
 
-pub says_one : (b : List ℕ) → checked b ≡ Accepted → (m n : Uses) (r s : Order) → OrderIs b m n r → OrderIs b m n s → r ≡ s
+pub says_one : (b : List ℕ) → checked b ≡ accepted → (m n : Uses) (r s : Order) → OrderIs b m n r → OrderIs b m n s → r ≡ s
 unfolding OrderIs
 says_one b a m n Below Below h k = refl
 says_one b a m n Below Equal h k = absurd (lower_unequal b m n h k)

@@ -10,8 +10,8 @@ use Rattle.engine.proofs.AnswerLaws.{one_exactly, refused_is_long}
 use Rattle.engine.specs.Outcome.{Answered, Parsed, UnlessRefused}
 use Rattle.engine.specs.declared.Answer.{Answer}
 use Rattle.engine.specs.declared.Answer.TheVariants.{One, Refused}
-use Rattle.grammar.specs.declared.Verdict.{Verdict}
-use Rattle.grammar.specs.declared.Verdict.TheVariants.{Accepted, Refused as Rejected}
+use Rattle.refusal.specs.Verdict.{Verdict}
+use Rattle.grammar.specs.declared.Verdict.TheVariants.{accepted, Refused as Rejected}
 use Rattle.parse.proofs.RefusalLaws.{refusal_grammar, refusal_ten, refusal_twenty, refusal_text, Readable, readable_accepted}
 use Rattle.parse.specs.Outcome.{needed, refusal, Outcome, reading_by}
 use Rattle.flatten.specs.Reading.{Reading}
@@ -32,7 +32,7 @@ module _ (b w c₀ l₀ : List ℕ) (r : Answer) (c l : List ℕ) (o : Outcome b
   refused_outcome n k e = subst (λ (v : Verdict). UnlessRefused v (reading_by b w) c₀ l₀ r c l) e o
 
   -- otherwise chart and answer are those of the grammar's own trees
-  pub accepted_outcome : refusal b w c₀ ≡ Accepted → Parsed (reading_by b w) c₀ l₀ r c l
+  pub accepted_outcome : refusal b w c₀ ≡ accepted → Parsed (reading_by b w) c₀ l₀ r c l
   unfolding Outcome UnlessRefused
   accepted_outcome e = subst (λ (v : Verdict). UnlessRefused v (reading_by b w) c₀ l₀ r c l) e o
 
@@ -43,7 +43,7 @@ module _ (b w c₀ l₀ : List ℕ) (r : Answer) (c l : List ℕ) (o : Outcome b
   by_verdict = cases (refusal b w c₀) refl
     where
       cases : (v : Verdict) → refusal b w c₀ ≡ v → ((n : ℕ) × (k : ℕ) × (refusal b w c₀ ≡ Rejected n k) × (r ≡ Refused n k)) ⊎ Answered (Reading b w) l₀ r l
-      cases Accepted e = inr (accepted_outcome e).answer
+      cases accepted e = inr (accepted_outcome e).answer
       cases (Rejected n k) e = inl (n, k, e, (refused_outcome n k e).0)
 
   -- ---- refusals
@@ -66,14 +66,14 @@ module _ (b w c₀ l₀ : List ℕ) (r : Answer) (c l : List ℕ) (o : Outcome b
       ((λ e. line.0 (answer.0 e)), (λ h. answer.1 (line.1 h)))
 
   -- 10: the text is over its limit; the place is its length.
-  pub ten_exactly : (k : ℕ) → (r ≡ Refused 10 k) ↔ ((checked b ≡ Accepted) × (text_limit < length w) × (k ≡ length w))
+  pub ten_exactly : (k : ℕ) → (r ≡ Refused 10 k) ↔ ((checked b ≡ accepted) × (text_limit < length w) × (k ≡ length w))
   ten_exactly k =
       let answer = refused_exactly 10 k (λ e. omega arith) in
       let line = refusal_ten b w c₀ k in
       ((λ e. line.0 (answer.0 e)), (λ h. answer.1 (line.1 h)))
 
   -- Where the grammar is accepted, 10, 20 and 22 are left.
-  pub text_numbers : checked b ≡ Accepted → (n k : ℕ) → r ≡ Refused n k → (n ≡ 10) ⊎ ((n ≡ 20) ⊎ (n ≡ 22))
+  pub text_numbers : checked b ≡ accepted → (n k : ℕ) → r ≡ Refused n k → (n ≡ 10) ⊎ ((n ≡ 20) ⊎ (n ≡ 22))
   text_numbers a n k e =
       ⊎_elim
       (λ (m, j, v, is). ⊎_elim (λ ten. inl ten) (λ twenty. inr (inl twenty)) (refusal_text b w c₀ a (v ∙ rejected m j n k (sym is ∙ e))))
@@ -81,7 +81,7 @@ module _ (b w c₀ l₀ : List ℕ) (r : Answer) (c l : List ℕ) (o : Outcome b
       by_verdict
 
   -- 20: the chart is too short; the place is its need.
-  pub twenty_exactly : (k : ℕ) → (r ≡ Refused 20 k) ↔ ((checked b ≡ Accepted) × (length w ≤ text_limit) × (k ≡ needed b (length w)) × (length c₀ < k))
+  pub twenty_exactly : (k : ℕ) → (r ≡ Refused 20 k) ↔ ((checked b ≡ accepted) × (length w ≤ text_limit) × (k ≡ needed b (length w)) × (length c₀ < k))
   twenty_exactly k =
       let answer = refused_exactly 20 k (λ e. omega arith) in
       let line = refusal_twenty b w c₀ k in

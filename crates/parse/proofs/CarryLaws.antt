@@ -13,7 +13,7 @@ use Rattle.engine.specs.Refusals.{too_long, chart_too_short, text_refusal}
 use Rattle.engine.specs.Roots.{parsing_by, TablesOutcome}
 use Rattle.engine.specs.declared.Answer.{Answer}
 use Rattle.grammar.specs.Formed.{WellFormed}
-use Rattle.grammar.specs.Verdict.{in_order}
+use Rattle.refusal.specs.Verdict.{in_order}
 use Rattle.layout.specs.Layout.{productions, argument_count}
 use Rattle.parse.specs.Outcome.{needed, reading_by, AcceptedOutcome}
 use Rattle.tables.specs.Layout.{counts_of, arity_in}

@@ -3,7 +3,7 @@ use Prim.Native.Nat.{ℕ, ◌≤◌}
 use mathlib.Core.Path.{◌≡◌}
 use mathlib.Core.List.{List}
 use native.Mathlib.Omega.{arith}
-use Rattle.grammar.specs.declared.Verdict.{Verdict}
+use Rattle.refusal.specs.Verdict.{Verdict}
 use Rattle.grammar.specs.declared.Verdict.TheVariants.{Refused as Rejected}
 use Rattle.parse.proofs.RefusalLaws.{refusal_number}
 use Rattle.parse.specs.Outcome.{refusal}

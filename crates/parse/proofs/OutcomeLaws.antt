@@ -7,9 +7,9 @@ use Rattle.engine.specs.Outcome.{UnlessRefused}
 use Rattle.engine.specs.declared.Answer.{Answer}
 use Rattle.engine.specs.declared.Answer.TheVariants.{Refused}
 use Rattle.engine.specs.Refusals.{too_long}
-use Rattle.grammar.specs.Verdict.{in_order}
-use Rattle.grammar.specs.declared.Verdict.{Verdict}
-use Rattle.grammar.specs.declared.Verdict.TheVariants.{Accepted, Refused as Rejected}
+use Rattle.refusal.specs.Verdict.{in_order}
+use Rattle.refusal.specs.Verdict.{Verdict}
+use Rattle.grammar.specs.declared.Verdict.TheVariants.{accepted, Refused as Rejected}
 use Rattle.parse.specs.Outcome.{too_short, reading_by, refusal, Outcome, AcceptedOutcome}
 use Rattle.priority.specs.Check.{checked}
 
@@ -18,12 +18,12 @@ module _ (b w c₀ l₀ : List ℕ) where
   unfolding Outcome refusal UnlessRefused
   grammar_refused number place e = rw e (refl, refl, refl)
 
-  pub grammar_accepted : (r : Answer) (c l : List ℕ) → checked b ≡ Accepted
+  pub grammar_accepted : (r : Answer) (c l : List ℕ) → checked b ≡ accepted
       → AcceptedOutcome b w c₀ l₀ r c l → Outcome b w c₀ l₀ r c l
   unfolding Outcome AcceptedOutcome refusal
   grammar_accepted r c l e h = rw e h
 
-  pub accepted_grammar : (r : Answer) (c l : List ℕ) → checked b ≡ Accepted
+  pub accepted_grammar : (r : Answer) (c l : List ℕ) → checked b ≡ accepted
       → Outcome b w c₀ l₀ r c l → AcceptedOutcome b w c₀ l₀ r c l
   unfolding Outcome AcceptedOutcome refusal
   accepted_grammar r c l e h = subst (λ (v : Verdict). UnlessRefused (in_order (v ∷ too_long w ∷ too_short b w c₀ ∷ [])) (reading_by b w) c₀ l₀ r c l) e h

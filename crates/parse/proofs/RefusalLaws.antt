@@ -6,9 +6,10 @@ use mathlib.Core.Logic.{◌↔◌, ◌⊎◌, inl, inr}
 use native.Mathlib.Omega.{arith}
 use lib.ListN.{length}
 use Rattle.chart.specs.Layout.{text_limit}
-use Rattle.grammar.proofs.VerdictLaws.{FirstIn, here, there, refused_not_accepted, order_first}
-use Rattle.grammar.specs.declared.Verdict.{Verdict}
-use Rattle.grammar.specs.declared.Verdict.TheVariants.{Accepted, Refused}
+use Rattle.refusal.proofs.VerdictLaws.{FirstIn, here, there, refused_not_accepted, order_first}
+use Rattle.refusal.specs.Verdict.{Verdict}
+use Rattle.std.specs.Prelude.{Err}
+use Rattle.refusal.specs.Verdict.{accepted}
 use Rattle.engine.proofs.RefusalsLaws.{long_text, short_text, text_short, text_long, short_chart, long_chart, chart_short}
 use Rattle.engine.specs.Refusals.{too_long}
 use Rattle.parse.specs.Outcome.{needed, too_short, refusal}
@@ -25,13 +26,13 @@ module _ (b w chart : List ℕ) where
   by_grammar (there a (there c (here e))) small = absurd (omega (arith, (chart_short (needed b (length w)) chart e).0))
   by_grammar (there a (there c (there _ e))) small = elim e [ ]
 
-  by_ten : {n k : ℕ} → FirstIn lines n k → n ≡ 10 → (checked b ≡ Accepted) × (text_limit < length w) × (k ≡ length w)
+  by_ten : {n k : ℕ} → FirstIn lines n k → n ≡ 10 → (checked b ≡ accepted) × (text_limit < length w) × (k ≡ length w)
   by_ten (here e) ten = absurd (omega (arith, checked_number b e))
   by_ten (there a (here e)) ten = let h = text_long w e in (a, h.1, h.2)
   by_ten (there a (there c (here e))) ten = absurd (omega (arith, (chart_short (needed b (length w)) chart e).0))
   by_ten (there a (there c (there _ e))) ten = elim e [ ]
 
-  by_twenty : {n k : ℕ} → FirstIn lines n k → n ≡ 20 → (checked b ≡ Accepted) × (length w ≤ text_limit) × (k ≡ needed b (length w)) × (length chart < k)
+  by_twenty : {n k : ℕ} → FirstIn lines n k → n ≡ 20 → (checked b ≡ accepted) × (length w ≤ text_limit) × (k ≡ needed b (length w)) × (length chart < k)
   by_twenty (here e) twenty = absurd (omega (arith, checked_number b e))
   by_twenty (there a (here e)) twenty = absurd (omega (arith, (text_long w e).0))
   by_twenty (there a (there c (here e))) twenty = let h = chart_short (needed b (length w)) chart e in (a, text_short w c, h.1, h.2)
@@ -53,12 +54,12 @@ module _ (b w chart : List ℕ) where
   refusal_grammar n k small = ((λ e. by_grammar (first_line e) small), (λ h. rw h refl))
 
   -- 10: the text is over its limit; the place is its length.
-  pub refusal_ten : (k : ℕ) → (refusal b w chart ≡ Refused 10 k) ↔ ((checked b ≡ Accepted) × (text_limit < length w) × (k ≡ length w))
+  pub refusal_ten : (k : ℕ) → (refusal b w chart ≡ Refused 10 k) ↔ ((checked b ≡ accepted) × (text_limit < length w) × (k ≡ length w))
   unfolding refusal
   refusal_ten k = ((λ e. by_ten (first_line e) refl), (λ (e, long, place). rw (e, long_text w long) (ap (Refused 10) (sym place))))
 
   -- 20: the chart is too short; the place is its need.
-  pub refusal_twenty : (k : ℕ) → (refusal b w chart ≡ Refused 20 k) ↔ ((checked b ≡ Accepted) × (length w ≤ text_limit) × (k ≡ needed b (length w)) × (length chart < k))
+  pub refusal_twenty : (k : ℕ) → (refusal b w chart ≡ Refused 20 k) ↔ ((checked b ≡ accepted) × (length w ≤ text_limit) × (k ≡ needed b (length w)) × (length chart < k))
   unfolding refusal
   refusal_twenty k = (
     (λ e. by_twenty (first_line e) refl),
@@ -69,22 +70,22 @@ module _ (b w chart : List ℕ) where
   pub refusal_number : {n k : ℕ} → refusal b w chart ≡ Refused n k → n ≤ 20
   refusal_number e = by_number (first_line e)
 
-  by_text : {n k : ℕ} → FirstIn lines n k → checked b ≡ Accepted → (n ≡ 10) ⊎ (n ≡ 20)
+  by_text : {n k : ℕ} → FirstIn lines n k → checked b ≡ accepted → (n ≡ 10) ⊎ (n ≡ 20)
   by_text (here e) a = refused_not_accepted _ _ (sym e ∙ a)
   by_text (there a (here e)) _ = inl (text_long w e).0
   by_text (there a (there c (here e))) _ = inr (chart_short (needed b (length w)) chart e).0
   by_text (there a (there c (there _ e))) _ = elim e [ ]
 
   -- Where the grammar is accepted, 10 and 20 are left.
-  pub refusal_text : {n k : ℕ} → checked b ≡ Accepted → refusal b w chart ≡ Refused n k → (n ≡ 10) ⊎ (n ≡ 20)
+  pub refusal_text : {n k : ℕ} → checked b ≡ accepted → refusal b w chart ≡ Refused n k → (n ≡ 10) ⊎ (n ≡ 20)
   refusal_text a e = by_text (first_line e) a
 
   -- What makes a text readable: none of them.
   pub record Readable : Type 0 where
-    pub accepted : checked b ≡ Accepted
+    pub accepted : checked b ≡ accepted
     pub short : length w ≤ text_limit
     pub enough : needed b (length w) ≤ length chart
 
-  pub readable_accepted : Readable → refusal b w chart ≡ Accepted
+  pub readable_accepted : Readable → refusal b w chart ≡ accepted
   unfolding refusal
   readable_accepted h = rw (h.accepted, short_text w h.short, long_chart (needed b (length w)) chart h.enough) refl

@@ -11,8 +11,8 @@ use Rattle.flatten.proofs.TurnedLaws.{turned_reading, turned_entry}
 use Rattle.grammar.proofs.SameFrontLaws.{same_productions, same_count}
 use Rattle.grammar.proofs.TurnedLaws.{turned_front}
 use Rattle.grammar.specs.Turned.{TurnedRound}
-use Rattle.grammar.specs.Verdict.{in_order}
-use Rattle.grammar.specs.declared.Verdict.{Verdict}
+use Rattle.refusal.specs.Verdict.{in_order}
+use Rattle.refusal.specs.Verdict.{Verdict}
 use Rattle.layout.specs.Layout.{productions, argument_count}
 use Rattle.parse.specs.Outcome.{needed, reading_by, refusal, Outcome}
 use Rattle.priority.proofs.TurnedLaws.{turned_checked}

@@ -4,8 +4,8 @@ use Rattle.chart.specs.Layout.{chart_bytes}
 use Rattle.engine.specs.Outcome.{Parsing, UnlessRefused}
 use Rattle.engine.specs.Refusals.{too_long, chart_too_short}
 use Rattle.engine.specs.declared.Answer.{Answer}
-use Rattle.grammar.specs.Verdict.{in_order}
-use Rattle.grammar.specs.declared.Verdict.{Verdict}
+use Rattle.refusal.specs.Verdict.{in_order}
+use Rattle.refusal.specs.Verdict.{Verdict}
 use Rattle.layout.specs.Layout.{productions, argument_count}
 use Rattle.flatten.specs.Reading.{Reading, EntryList}
 use Rattle.priority.specs.Check.{checked}

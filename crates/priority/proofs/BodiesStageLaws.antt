@@ -9,10 +9,10 @@ use lib.Dec.{leb, ltb}
 use borrow.Author.Tests.{ltb-true, leb-true, leb-false, not-true, not-false}
 use Rattle.common.proofs.BoolLaws.{and_first_true, and_second_true, not_both}
 use Rattle.grammar.proofs.FormedLaws.{result_named_lem, argument_named_lem, kind_inside, first_there_lem, second_there_lem, group_rises_lem}
-use Rattle.grammar.proofs.VerdictLaws.{refuse_accepted, first_all, refuse_case, and_refused, and_first, and_second, FirstIn, here, there, order_first, first_of}
+use Rattle.refusal.proofs.VerdictLaws.{refuse_accepted, first_all, refuse_case, and_refused, and_first, and_second, FirstIn, here, there, order_first, first_of}
 use Rattle.grammar.specs.Check.{outside, names_argument, bad_argument, bad_arguments, bad_production, bad_productions, is_group, declaration_lines, declaration_bytes, bad_declaration, bad_declarations}
-use Rattle.grammar.specs.Verdict.{refuse_if}
-use Rattle.grammar.specs.declared.Verdict.TheVariants.{Refused, Accepted}
+use Rattle.refusal.specs.Verdict.{refuse_if}
+use Rattle.grammar.specs.declared.Verdict.TheVariants.{Refused, accepted}
 use Rattle.layout.proofs.LayoutLaws.{production_before, production_within, class_after_productions, declaration_before, declaration_after_classes}
 use Rattle.layout.specs.Layout.{sorts, productions, classes, declarations, argument_count, production_at, argument_at, result_sort, argument, class_at, declaration_at, kind, first, second}
 use Rattle.layout.specs.Limits.{kind_limit}
@@ -40,7 +40,7 @@ module _ (b : List ℕ) where
   -- ---- 5
 
   -- no byte below k names nothing, if k stands in production p, those before p pass, and the bytes of p before k name something
-  names_lower : (p k : ℕ) → ((q : ℕ) → q < p → bad_production b q ≡ Accepted) → k < production_at b p + (1 + argument_count b p) → (production_at b p < k → result_sort b p < sorts b)
+  names_lower : (p k : ℕ) → ((q : ℕ) → q < p → bad_production b q ≡ accepted) → k < production_at b p + (1 + argument_count b p) → (production_at b p < k → result_sort b p < sorts b)
       → ((i : ℕ) → i < argument_count b p → argument_at b p i < k → names_argument b (argument b p i) ≡ true) → (j : ℕ) → j < k → NamesNothing b j → ⊥
   names_lower p k pass within own others j h (no_result q l t) =
       ⊎_elim
@@ -57,7 +57,7 @@ module _ (b : List ℕ) where
       (in_order q p)
 
   -- none does at all, if every production passes
-  names_none : ((q : ℕ) → q < productions b → bad_production b q ≡ Accepted) → {j : ℕ} → NamesNothing b j → ⊥
+  names_none : ((q : ℕ) → q < productions b → bad_production b q ≡ accepted) → {j : ℕ} → NamesNothing b j → ⊥
   names_none pass (no_result q l t) = omega (arith, result_named_lem b q (pass q l))
   names_none pass (no_argument q i l m t) = not_both (names_argument b (argument b q i)) (argument_named_lem b q (pass q l) i m) t
 
@@ -66,7 +66,7 @@ module _ (b : List ℕ) where
   lower5 k h below m j l =
       ⊎_elim (λ x. below j l x.1) (λ x. omega (arith, declaration_in x.1, classes_in))
 
-  by_argument : (p : ℕ) → p < productions b → ((q : ℕ) → q < p → bad_production b q ≡ Accepted) → result_sort b p < sorts b → {n k : ℕ} → bad_arguments b p ≡ Refused n k → Given b 5 n k
+  by_argument : (p : ℕ) → p < productions b → ((q : ℕ) → q < p → bad_production b q ≡ accepted) → result_sort b p < sorts b → {n k : ℕ} → bad_arguments b p ≡ Refused n k → Given b 5 n k
   unfolding bad_argument
   by_argument p l pass own e =
       let f = first_of (bad_argument b p) (argument_count b p) e in
@@ -97,12 +97,12 @@ module _ (b : List ℕ) where
 
   -- ---- 7
 
-  module _ (productions_pass : bad_productions b ≡ Accepted) where
+  module _ (productions_pass : bad_productions b ≡ accepted) where
     no_names : {j : ℕ} → NamesNothing b j → ⊥
     no_names = names_none (first_all (bad_production b) (productions b) productions_pass)
 
     -- no byte below k of a declaration is bad, if k stands in declaration d, those before d pass, and the bytes of d before k do
-    declarations_lower : (d k : ℕ) → ((q : ℕ) → q < d → bad_declaration b q ≡ Accepted) → k < declaration_at b d + 3 → (declaration_at b d < k → outside 1 kind_limit (kind b d) ≡ false)
+    declarations_lower : (d k : ℕ) → ((q : ℕ) → q < d → bad_declaration b q ≡ accepted) → k < declaration_at b d + 3 → (declaration_at b d < k → outside 1 kind_limit (kind b d) ≡ false)
         → (declaration_at b d + 1 < k → (first b d < productions b) × (first b d ≤ second b d)) → (j : ℕ) → j < k → BadDeclarationByte b j → ⊥
     declarations_lower d k pass within own own' j h (bad_kind q l t) =
         ⊎_elim
@@ -132,7 +132,7 @@ module _ (b : List ℕ) where
     lower7 : (k : ℕ) → ((j : ℕ) → j < k → BadDeclarationByte b j → ⊥) → (m j : ℕ) → j < k → Line b 5 m j → ⊥
     lower7 k below m j l = ⊎_elim (λ x. no_names x.1) (λ x. below j l x.1)
 
-    by_declaration : (d : ℕ) → d < declarations b → ((q : ℕ) → q < d → bad_declaration b q ≡ Accepted) → {n k : ℕ}
+    by_declaration : (d : ℕ) → d < declarations b → ((q : ℕ) → q < d → bad_declaration b q ≡ accepted) → {n k : ℕ}
         → FirstIn (declaration_lines (declaration_at b d) (productions b) (kind b d) (first b d) (second b d)) n k → Given b 5 n k
     by_declaration d l pass (here e) =
         refuse_case (Given b 5) (outside 1 kind_limit (kind b d)) 7 (declaration_at b d) e
@@ -164,7 +164,7 @@ module _ (b : List ℕ) where
         let d = f.index in
         by_declaration d f.below f.before (order_first (declaration_lines (declaration_at b d) (productions b) (kind b d) (first b d) (second b d)) f.refused)
 
-  declarations_none : ((q : ℕ) → q < declarations b → bad_declaration b q ≡ Accepted) → {j : ℕ} → BadDeclarationByte b j → ⊥
+  declarations_none : ((q : ℕ) → q < declarations b → bad_declaration b q ≡ accepted) → {j : ℕ} → BadDeclarationByte b j → ⊥
   declarations_none pass (bad_kind q l t) = not_both (outside 1 kind_limit (kind b q)) t (kind_inside b q (pass q l))
   declarations_none pass (bad_first q l t) = omega (arith, first_there_lem b q (pass q l))
   declarations_none pass (bad_second q l t) = omega (arith, second_there_lem b q (pass q l))
@@ -174,7 +174,7 @@ module _ (b : List ℕ) where
   given5 e =
       ⊎_elim (λ a. bad_production_lem a) (λ a. bad_declaration_lem a.0 a.1) (and_refused (bad_productions b) (bad_declarations b) e)
 
-  pub none5 : stage b 5 ≡ Accepted → {n k : ℕ} → Line b 5 n k → ⊥
+  pub none5 : stage b 5 ≡ accepted → {n k : ℕ} → Line b 5 n k → ⊥
   none5 e =
       ⊎_elim
       (λ x. no_names (and_first (bad_productions b) (bad_declarations b) e) x.1)

@@ -4,12 +4,12 @@ use mathlib.Core.Path.{◌≡◌, refl, sym, ◌∙◌, ap}
 use mathlib.Core.Bool.{false}
 use mathlib.Core.List.{List, [], ◌∷◌, ◌++◌}
 use Rattle.grammar.proofs.FormedLaws.{well_formed}
-use Rattle.grammar.proofs.VerdictLaws.{refuse_accepted, and_first, and_second, first_all, order_append}
+use Rattle.refusal.proofs.VerdictLaws.{refuse_accepted, and_first, and_second, first_all, order_append}
 use Rattle.grammar.specs.Check.{frame_lines, frame_check, bodies_lines, bodies_check}
 use Rattle.grammar.specs.Formed.{WellFormed}
-use Rattle.grammar.specs.Verdict.{and_then}
-use Rattle.grammar.specs.declared.Verdict.{Verdict}
-use Rattle.grammar.specs.declared.Verdict.TheVariants.{Refused, Accepted}
+use Rattle.refusal.specs.Verdict.{and_then}
+use Rattle.refusal.specs.Verdict.{Verdict}
+use Rattle.grammar.specs.declared.Verdict.TheVariants.{Refused, accepted}
 use Rattle.layout.specs.Layout.{productions}
 use Rattle.priority.specs.Check.{circle, circles, checked}
 use Rattle.priority.specs.Priorities.{declarations_of, is_higher}
@@ -23,19 +23,19 @@ module _ (b : List ℕ) where
   pub checked_frame : (n p : ℕ) → frame_check b ≡ Refused n p → checked b ≡ Refused n p
   checked_frame n p e = checked_parts b ∙ rw e refl
 
-  pub checked_bodies : (n p : ℕ) → frame_check b ≡ Accepted → bodies_check b ≡ Refused n p → checked b ≡ Refused n p
+  pub checked_bodies : (n p : ℕ) → frame_check b ≡ accepted → bodies_check b ≡ Refused n p → checked b ≡ Refused n p
   checked_bodies n p e f = checked_parts b ∙ rw (e, f) refl
 
-  pub checked_circles : frame_check b ≡ Accepted → bodies_check b ≡ Accepted → checked b ≡ circles b
+  pub checked_circles : frame_check b ≡ accepted → bodies_check b ≡ accepted → checked b ≡ circles b
   checked_circles e f = checked_parts b ∙ rw (e, f) refl
 
 -- ---- what an accepted grammar is
 
-module _ (b : List ℕ) (e : checked b ≡ Accepted) where
-  parts : and_then (frame_check b) (and_then (bodies_check b) (circles b)) ≡ Accepted
+module _ (b : List ℕ) (e : checked b ≡ accepted) where
+  parts : and_then (frame_check b) (and_then (bodies_check b) (circles b)) ≡ accepted
   parts = sym (checked_parts b) ∙ e
 
-  rest : and_then (bodies_check b) (circles b) ≡ Accepted
+  rest : and_then (bodies_check b) (circles b) ≡ accepted
   rest = and_second (frame_check b) (and_then (bodies_check b) (circles b)) parts
 
   pub accepted_formed : WellFormed b

@@ -3,7 +3,7 @@ use Prim.Native.Nat.{ℕ}
 use mathlib.Core.Path.{◌≡◌, refl, sym, ◌∙◌}
 use mathlib.Core.Bool.{true}
 use mathlib.Core.List.{List}
-use Rattle.grammar.specs.declared.Verdict.TheVariants.{Accepted}
+use Rattle.refusal.specs.Verdict.{accepted}
 use Rattle.priority.proofs.ChainLaws.{chain_append}
 use Rattle.priority.proofs.CheckLaws.{accepted_formed}
 use Rattle.priority.proofs.CoverLaws.{declared_turned}
@@ -17,7 +17,7 @@ use Rattle.priority.specs.Refusals.{refusal9}
 declared_symmetric : (b : List ℕ) (k : Kind) → either_way k ≡ true → (x y : ℕ) → declared b k x y ≡ true → declared b k y x ≡ true
 declared_symmetric b k h x y e = sym (declared_turned (declarations_of b) k x y h) ∙ e
 
-pub accepted_declares : (b : List ℕ) → checked b ≡ Accepted → PriorityDeclaration b
+pub accepted_declares : (b : List ℕ) → checked b ≡ accepted → PriorityDeclaration b
 unfolding either_way
 accepted_declares b e =
     let w = accepted_formed b e in

@@ -13,7 +13,7 @@ use Rattle.common.proofs.BoolLaws.{or_cases, and_first_true, and_second_true, sa
 use Rattle.common.specs.Below.{between}
 use Rattle.grammar.specs.Check.{is_group}
 use Rattle.grammar.specs.Formed.{WellFormed}
-use Rattle.grammar.specs.Verdict.{refuse_if}
+use Rattle.refusal.specs.Verdict.{refuse_if}
 use Rattle.layout.specs.Layout.{productions, declarations, declaration_at, kind, first, second}
 use Rattle.priority.proofs.ChainLaws.{through_chain, chain_through}
 use Rattle.priority.proofs.CoverLaws.{declared_found}

@@ -8,11 +8,11 @@ use Rattle.common.proofs.BelowLaws.{any_never, any_found}
 use Rattle.common.proofs.BoolLaws.{not_both}
 use Rattle.common.specs.Below.{any_below}
 use Rattle.grammar.proofs.FormedLaws.{inside, order_accepted, well_formed}
-use Rattle.grammar.proofs.VerdictLaws.{refused_not_accepted, refuse_accepted, first_all, refuse_case, and_first, and_second, first_of}
+use Rattle.refusal.proofs.VerdictLaws.{refused_not_accepted, refuse_accepted, first_all, refuse_case, and_first, and_second, first_of}
 use Rattle.grammar.specs.Check.{outside, bad_argument_counts, bad_range_counts, names_argument, bad_productions, bad_declarations, same_production, repeated_production, frame_lines, frame_check, bodies_lines, bodies_check}
 use Rattle.grammar.specs.Formed.{WellFormed}
-use Rattle.grammar.specs.declared.Verdict.{Verdict}
-use Rattle.grammar.specs.declared.Verdict.TheVariants.{Refused, Accepted}
+use Rattle.refusal.specs.Verdict.{Verdict}
+use Rattle.grammar.specs.declared.Verdict.TheVariants.{Refused, accepted}
 use Rattle.layout.proofs.FramedLaws.{bodies_in}
 use Rattle.layout.proofs.LayoutLaws.{production_first, production_after, production_before, class_first}
 use Rattle.layout.specs.Layout.{sorts, productions, production_at, argument, kind}
@@ -27,7 +27,7 @@ use Rattle.priority.specs.Refusals.{BadHeaderByte, bad_sorts, bad_production_cou
 module _ (b : List ℕ) where
   -- ---- 8
 
-  no_earlier : (p : ℕ) → repeated_production b p ≡ Accepted → EqualsEarlier b p → ⊥
+  no_earlier : (p : ℕ) → repeated_production b p ≡ accepted → EqualsEarlier b p → ⊥
   unfolding repeated_production
   no_earlier p e h =
       not_both (same_production b p h.earlier) h.same
@@ -47,13 +47,13 @@ module _ (b : List ℕ) where
             (in_order r p),
       ))
 
-  none8 : stage b 6 ≡ Accepted → {n k : ℕ} → Line b 6 n k → ⊥
+  none8 : stage b 6 ≡ accepted → {n k : ℕ} → Line b 6 n k → ⊥
   none8 e (_, p, _, h) = no_earlier p (first_all (repeated_production b) (productions b) e p h.there) h
 
   -- ---- 9
 
   module _ (w : WellFormed b) where
-    no_circle : (p : ℕ) → circle (productions b) (declarations_of b) p ≡ Accepted → OnCircle b p → ⊥
+    no_circle : (p : ℕ) → circle (productions b) (declarations_of b) p ≡ accepted → OnCircle b p → ⊥
     unfolding circle
     no_circle p e h = not_both (is_higher b p p) ((higher_chain b w p p).1 h.circle) (refuse_accepted _ 9 p e)
 
@@ -65,13 +65,13 @@ module _ (b : List ℕ) where
         refuse_case (Given b 7) (is_higher b p p) 9 p f.refused
         (λ t. (refusal9 (record { there = f.below; circle = (higher_chain b w p p).0 t }), λ m j h x. no_circle j (f.before j h) x.1))
 
-    none9 : stage b 7 ≡ Accepted → {n k : ℕ} → Line b 7 n k → ⊥
+    none9 : stage b 7 ≡ accepted → {n k : ℕ} → Line b 7 n k → ⊥
     none9 e {n} {k} h = no_circle k (first_all (circle (productions b) (declarations_of b)) (productions b) e k h.1.there) h.1
 
   -- ---- all stages
 
   -- frame and bodies pass, if the stages before 7 do
-  formed : ((s : ℕ) → s < 7 → stage b s ≡ Accepted) → WellFormed b
+  formed : ((s : ℕ) → s < 7 → stage b s ≡ accepted) → WellFormed b
   unfolding frame_check bodies_check
   formed pass =
       let counts = pass 3 (omega arith) in
@@ -80,7 +80,7 @@ module _ (b : List ℕ) where
       (order_accepted (frame_lines b) (pass 0 (omega arith), (pass 1 (omega arith), (pass 2 (omega arith), (and_first (bad_argument_counts b) (bad_range_counts b) counts, (and_second (bad_argument_counts b) (bad_range_counts b) counts, (pass 4 (omega arith), tt)))))))
       (order_accepted (bodies_lines b) (and_first (bad_productions b) (bad_declarations b) bodies, (and_second (bad_productions b) (bad_declarations b) bodies, (pass 6 (omega arith), tt))))
 
-  given : (s : ℕ) → ((r : ℕ) → r < s → stage b r ≡ Accepted) → {n k : ℕ} → stage b s ≡ Refused n k → Given b s n k
+  given : (s : ℕ) → ((r : ℕ) → r < s → stage b r ≡ accepted) → {n k : ℕ} → stage b s ≡ Refused n k → Given b s n k
   given zero pass e = given1 b e
   given (suc zero) pass e = given2 b e
   given (suc (suc zero)) pass e = given1' b e
@@ -91,7 +91,7 @@ module _ (b : List ℕ) where
   given (suc (suc (suc (suc (suc (suc (suc zero))))))) pass e = given9 (formed pass) e
   given (suc (suc (suc (suc (suc (suc (suc (suc s)))))))) pass {n} {k} e = refused_not_accepted n k (sym e)
 
-  none_at : (s : ℕ) → ((r : ℕ) → r < s → stage b r ≡ Accepted) → stage b s ≡ Accepted → (n k : ℕ) → Line b s n k → ⊥
+  none_at : (s : ℕ) → ((r : ℕ) → r < s → stage b r ≡ accepted) → stage b s ≡ accepted → (n k : ℕ) → Line b s n k → ⊥
   none_at zero pass e n k h = none1 b e h
   none_at (suc zero) pass e n k h = none2 b e h
   none_at (suc (suc zero)) pass e n k h = none1' b e h
@@ -153,7 +153,7 @@ module _ (b : List ℕ) where
   checked_not_six e = (holds_small (refused_first e).holds).2 refl
 
   -- Of an accepted grammar no condition holds.
-  pub accepted_free : checked b ≡ Accepted → (s n k : ℕ) → Holds b s n k → ⊥
+  pub accepted_free : checked b ≡ accepted → (s n k : ℕ) → Holds b s n k → ⊥
   accepted_free e s n k h =
       let pass = first_all (stage b) 8 (sym (checked_stages b) ∙ e) in
       let l = (holds_small h).0 in
@@ -175,15 +175,15 @@ module _ (b : List ℕ) where
   first_refused {n} {k} f = by_verdict (checked b) refl
     where
       by_verdict : (v : Verdict) → checked b ≡ v → checked b ≡ Refused n k
-      by_verdict Accepted e = absurd (accepted_free e f.stage n k f.holds)
+      by_verdict accepted e = absurd (accepted_free e f.stage n k f.holds)
       by_verdict (Refused m j) e = let (x, y) = first_unique (refused_first e) f in e ∙ ap₂ Refused x y
 
   -- A grammar of which no condition holds is accepted.
-  pub free_accepted : ((s n k : ℕ) → Holds b s n k → ⊥) → checked b ≡ Accepted
+  pub free_accepted : ((s n k : ℕ) → Holds b s n k → ⊥) → checked b ≡ accepted
   free_accepted free = by_verdict (checked b) refl
     where
-      by_verdict : (v : Verdict) → checked b ≡ v → checked b ≡ Accepted
-      by_verdict Accepted e = e
+      by_verdict : (v : Verdict) → checked b ≡ v → checked b ≡ accepted
+      by_verdict accepted e = e
       by_verdict (Refused n k) e = let f = refused_first e in absurd (free f.stage n k f.holds)
 
   -- The place of 7 is a byte behind the header.
@@ -231,7 +231,7 @@ module _ (b : List ℕ) (w : WellFormed b) where
   no_bad_declaration (bad_group d l g h) = omega (arith, w.groups_rise d l g)
 
   -- It is accepted.
-  pub formed_accepted : ((p : ℕ) → p < productions b → Higher b p p → ⊥) → checked b ≡ Accepted
+  pub formed_accepted : ((p : ℕ) → p < productions b → Higher b p p → ⊥) → checked b ≡ accepted
   formed_accepted acyclic = free_accepted b by_stage
     where
       by_stage : (s n k : ℕ) → Holds b s n k → ⊥

@@ -14,7 +14,7 @@ use Rattle.common.specs.Lists.{tabulate, joined, All}
 use Rattle.grammar.proofs.SameFrontLaws.{SameFront, Declares, bytes_front, front_bodies, front_back, front_formed, same_productions, same_count, same_declaration_at}
 use Rattle.grammar.specs.Check.{is_group}
 use Rattle.grammar.specs.Formed.{WellFormed}
-use Rattle.grammar.specs.declared.Verdict.TheVariants.{Accepted}
+use Rattle.refusal.specs.Verdict.{accepted}
 use Rattle.layout.proofs.FramedLaws.{declarations_in}
 use Rattle.layout.proofs.LayoutLaws.{declaration_from, needed_is_end}
 use Rattle.layout.specs.Framed.{Framed}
@@ -243,7 +243,7 @@ module _ (b : List ℕ) (w : WellFormed b) where
       )
 
 -- It is accepted if the grammar is.
-pub spelled_accepted : (b : List ℕ) → checked b ≡ Accepted → checked (spelled_grammar b) ≡ Accepted
+pub spelled_accepted : (b : List ℕ) → checked b ≡ accepted → checked (spelled_grammar b) ≡ accepted
 spelled_accepted b e =
     let w = accepted_formed b e in
     let c = spelled_grammar b in

@@ -15,7 +15,7 @@ use Rattle.common.proofs.AllLaws.{all_append, all_tabulate}
 use Rattle.common.proofs.ListLaws.{length_tabulate, joined_one}
 use Rattle.common.specs.Below.{between}
 use Rattle.common.specs.Lists.{tabulate, joined, All}
-use Rattle.grammar.proofs.VerdictLaws.{first_same}
+use Rattle.refusal.proofs.VerdictLaws.{first_same}
 use Rattle.grammar.specs.Check.{is_group}
 use Rattle.layout.specs.Layout.{productions}
 use Rattle.layout.specs.Limits.{kind_limit, pair_kind_limit, group_step}

@@ -11,11 +11,11 @@ use lib.ListN.{length}
 use borrow.Author.Tests.{ltb-true, ltb-false, leb-true, leb-false, eqb-true, eqb-false, not-true, not-false}
 use Rattle.common.proofs.BoolLaws.{not_both}
 use Rattle.grammar.proofs.FormedLaws.{each_accepted}
-use Rattle.grammar.proofs.VerdictLaws.{refuse_accepted, and_assoc, first_all, refuse_case, and_refused, and_first, and_second, FirstIn, here, there, order_first, first_of}
+use Rattle.refusal.proofs.VerdictLaws.{refuse_accepted, and_assoc, first_all, refuse_case, and_refused, and_first, and_second, FirstIn, here, there, order_first, first_of}
 use Rattle.grammar.specs.Check.{outside, short_header, header_lines, header_bytes, bad_header, short_contents, bad_argument_count, bad_range_count, bad_argument_counts, bad_range_counts, bad_length, bad_productions, bad_declarations, repeated_productions}
-use Rattle.grammar.specs.Verdict.{and_then, first_refusal}
-use Rattle.grammar.specs.declared.Verdict.{Verdict}
-use Rattle.grammar.specs.declared.Verdict.TheVariants.{Refused, Accepted}
+use Rattle.refusal.specs.Verdict.{and_then, first_refusal}
+use Rattle.refusal.specs.Verdict.{Verdict}
+use Rattle.grammar.specs.declared.Verdict.TheVariants.{Refused, accepted}
 use Rattle.layout.specs.Layout.{byte_at, sorts, productions, classes, start_sort, argument_count_at, range_count_at, argument_count, range_count, bodies_at, production_at, needed_length}
 use Rattle.layout.specs.Limits.{sort_limit, production_limit, class_limit, argument_limit, range_limit, header_length}
 use Rattle.priority.specs.Check.{circles, checked}
@@ -37,7 +37,7 @@ module _ (b : List ℕ) where
   stage (suc (suc (suc (suc (suc zero))))) = and_then (bad_productions b) (bad_declarations b)
   stage (suc (suc (suc (suc (suc (suc zero)))))) = repeated_productions b
   stage (suc (suc (suc (suc (suc (suc (suc zero))))))) = circles b
-  stage (suc (suc (suc (suc (suc (suc (suc (suc s)))))))) = Accepted
+  stage (suc (suc (suc (suc (suc (suc (suc (suc s)))))))) = accepted
 
   pub checked_stages : checked b ≡ first_refusal 8 stage
   unfolding checked first_refusal
@@ -78,7 +78,7 @@ module _ (b : List ℕ) where
       refuse_case (Given 0) (ltb (length b) header_length) 1 (length b) e
       (λ t. (refusal1 (ltb-true (length b) header_length t), λ m j l h. omega (arith, h.1)))
 
-  pub none1 : stage 0 ≡ Accepted → {n k : ℕ} → Line 0 n k → ⊥
+  pub none1 : stage 0 ≡ accepted → {n k : ℕ} → Line 0 n k → ⊥
   unfolding short_header
   none1 e h = omega (arith, ltb-false (length b) header_length (refuse_accepted _ 1 (length b) e), h.2)
 
@@ -88,7 +88,7 @@ module _ (b : List ℕ) where
       refuse_case (Given 2) (ltb (length b) (bodies_at b)) 1 (length b) e
       (λ t. (refusal1' (ltb-true (length b) (bodies_at b) t), λ m j l h. omega (arith, h.1)))
 
-  pub none1' : stage 2 ≡ Accepted → {n k : ℕ} → Line 2 n k → ⊥
+  pub none1' : stage 2 ≡ accepted → {n k : ℕ} → Line 2 n k → ⊥
   unfolding short_contents
   none1' e h = omega (arith, ltb-false (length b) (bodies_at b) (refuse_accepted _ 1 (length b) e), h.2)
 
@@ -139,7 +139,7 @@ module _ (b : List ℕ) where
   header_at (bad_start t) = omega arith
   header_at (bad_last t) = omega arith
 
-  pub none2 : stage 1 ≡ Accepted → {n k : ℕ} → Line 1 n k → ⊥
+  pub none2 : stage 1 ≡ accepted → {n k : ℕ} → Line 1 n k → ⊥
   unfolding bad_header header_bytes
   none2 e {n} {k} h =
       let a = each_accepted bytes e in
@@ -148,19 +148,19 @@ module _ (b : List ℕ) where
 
   -- ---- 3
 
-  few_arguments_lem : (p : ℕ) → bad_argument_count b p ≡ Accepted → argument_count b p ≤ argument_limit
+  few_arguments_lem : (p : ℕ) → bad_argument_count b p ≡ accepted → argument_count b p ≤ argument_limit
   unfolding bad_argument_count
   few_arguments_lem p e = ltb-false argument_limit (argument_count b p) (refuse_accepted _ 3 (argument_count_at b p) e)
 
-  few_ranges_lem : (k : ℕ) → bad_range_count b k ≡ Accepted → range_count b k ≤ range_limit
+  few_ranges_lem : (k : ℕ) → bad_range_count b k ≡ accepted → range_count b k ≤ range_limit
   unfolding bad_range_count
   few_ranges_lem k e = ltb-false range_limit (range_count b k) (refuse_accepted _ 3 (range_count_at b k) e)
 
-  arguments_below : (i : ℕ) → i < productions b → ((q : ℕ) → q < i → bad_argument_count b q ≡ Accepted) → (j : ℕ) → j < argument_count_at b i → LargeCount b j → ⊥
+  arguments_below : (i : ℕ) → i < productions b → ((q : ℕ) → q < i → bad_argument_count b q ≡ accepted) → (j : ℕ) → j < argument_count_at b i → LargeCount b j → ⊥
   arguments_below i l before j h (many_arguments q m t) = omega (arith, few_arguments_lem q (before q (omega arith)))
   arguments_below i l before j h (many_ranges q m t) = omega arith
 
-  ranges_below : (i : ℕ) → ((q : ℕ) → q < productions b → bad_argument_count b q ≡ Accepted) → ((q : ℕ) → q < i → bad_range_count b q ≡ Accepted)
+  ranges_below : (i : ℕ) → ((q : ℕ) → q < productions b → bad_argument_count b q ≡ accepted) → ((q : ℕ) → q < i → bad_range_count b q ≡ accepted)
       → (j : ℕ) → j < range_count_at b i → LargeCount b j → ⊥
   ranges_below i arguments before j h (many_arguments q m t) = omega (arith, few_arguments_lem q (arguments q m))
   ranges_below i arguments before j h (many_ranges q m t) = omega (arith, few_ranges_lem q (before q (omega arith)))
@@ -173,7 +173,7 @@ module _ (b : List ℕ) where
       refuse_case (Given 3) (ltb argument_limit (argument_count b i)) 3 (argument_count_at b i) f.refused
       (λ t. (refusal3 (many_arguments i f.below (ltb-true argument_limit (argument_count b i) t)), λ m j l h. arguments_below i f.below f.before j l h.1))
 
-  many_ranges_lem : {n k : ℕ} → bad_argument_counts b ≡ Accepted → bad_range_counts b ≡ Refused n k → Given 3 n k
+  many_ranges_lem : {n k : ℕ} → bad_argument_counts b ≡ accepted → bad_range_counts b ≡ Refused n k → Given 3 n k
   unfolding bad_range_count
   many_ranges_lem a e =
       let f = first_of (bad_range_count b) (classes b) e in
@@ -184,11 +184,11 @@ module _ (b : List ℕ) where
   pub given3 : {n k : ℕ} → stage 3 ≡ Refused n k → Given 3 n k
   given3 e = ⊎_elim (λ a. many_arguments_lem a) (λ a. many_ranges_lem a.0 a.1) (and_refused (bad_argument_counts b) (bad_range_counts b) e)
 
-  pub none3 : stage 3 ≡ Accepted → {n k : ℕ} → Line 3 n k → ⊥
+  pub none3 : stage 3 ≡ accepted → {n k : ℕ} → Line 3 n k → ⊥
   none3 e {n} {k} h =
       no_large (first_all (bad_argument_count b) (productions b) (and_first (bad_argument_counts b) (bad_range_counts b) e)) (first_all (bad_range_count b) (classes b) (and_second (bad_argument_counts b) (bad_range_counts b) e)) h.1
     where
-      no_large : ((q : ℕ) → q < productions b → bad_argument_count b q ≡ Accepted) → ((q : ℕ) → q < classes b → bad_range_count b q ≡ Accepted) → {j : ℕ} → LargeCount b j → ⊥
+      no_large : ((q : ℕ) → q < productions b → bad_argument_count b q ≡ accepted) → ((q : ℕ) → q < classes b → bad_range_count b q ≡ accepted) → {j : ℕ} → LargeCount b j → ⊥
       no_large arguments ranges (many_arguments q m t) = omega (arith, few_arguments_lem q (arguments q m))
       no_large arguments ranges (many_ranges q m t) = omega (arith, few_ranges_lem q (ranges q m))
 
@@ -200,6 +200,6 @@ module _ (b : List ℕ) where
       refuse_case (Given 4) (not (eqb (length b) (needed_length b))) 4 (min (length b) (needed_length b)) e
       (λ t. (refusal4 (eqb-false (length b) (needed_length b) (not-true (eqb (length b) (needed_length b)) t)), λ m j l h. omega (arith, h.1)))
 
-  pub none4 : stage 4 ≡ Accepted → {n k : ℕ} → Line 4 n k → ⊥
+  pub none4 : stage 4 ≡ accepted → {n k : ℕ} → Line 4 n k → ⊥
   unfolding bad_length
   none4 e h = h.2 (eqb-true (length b) (needed_length b) (not-false (eqb (length b) (needed_length b)) (refuse_accepted _ 4 _ e)))

@@ -10,9 +10,9 @@ use Rattle.grammar.proofs.SameFrontLaws.{front_back, same_productions, same_coun
 use Rattle.grammar.proofs.TurnedLaws.{turned_front, turned_declarations, turned_kind, turned_first, turned_second, turned_frame, turned_bodies}
 use Rattle.grammar.specs.Check.{short_header, bad_header, short_contents, bad_argument_counts, bad_range_counts, bad_length, bad_productions, bad_declarations, repeated_productions}
 use Rattle.grammar.specs.Turned.{TurnedRound}
-use Rattle.grammar.specs.Verdict.{first_refusal, in_order}
-use Rattle.grammar.specs.declared.Verdict.{Verdict}
-use Rattle.grammar.specs.declared.Verdict.TheVariants.{Accepted}
+use Rattle.refusal.specs.Verdict.{first_refusal, in_order}
+use Rattle.refusal.specs.Verdict.{Verdict}
+use Rattle.refusal.specs.Verdict.{accepted}
 use Rattle.layout.specs.Layout.{productions, declarations, argument_count}
 use Rattle.priority.proofs.CheckLaws.{checked_parts}
 use Rattle.priority.proofs.SameFrontLaws.{front_conflict, front_conflicts}
@@ -52,7 +52,7 @@ module _ (b c : List ℕ) (t : TurnedRound b c) where
         )
 
 -- A check that passes may stand between those of the productions and those of the declarations: a grammar whose ranges rise is judged as it was with refusal 6.
-pub rising_judged : (b : List ℕ) {six : Verdict} → six ≡ Accepted
+pub rising_judged : (b : List ℕ) {six : Verdict} → six ≡ accepted
     → checked b ≡ in_order
     (short_header b
     ∷ bad_header b

@@ -4,7 +4,7 @@
 ghost use Rattle.std.specs.Prelude.{◌≡◌, true, false, ◌&&◌, ◌||◌, ◌↔◌, ℕ, ◌<◌, ◌≤◌, get_or};
 ghost use Rattle.common.specs.Below.{any_below, between};
 ghost use Rattle.grammar.specs.Formed.{WellFormed};
-ghost use Rattle.grammar.specs.Verdict.{first_refusal};
+ghost use Rattle.refusal.specs.Verdict.{first_refusal};
 ghost use Rattle.layout.specs.Layout.{declarations, declaration_at};
 ghost use Rattle.layout.specs.Limits.{production_limit};
 ghost use Rattle.priority.specs.Chain.{Chain, entry, Square};

@@ -8,8 +8,8 @@ use native.Mathlib.Omega.{arith}
 use lib.Dec.{ltb}
 use borrow.Author.Tests.{ltb-true, lt-ltb}
 use Rattle.common.proofs.BoolLaws.{and_first_true, and_second_true, true_or_false, not_both}
-use Rattle.grammar.proofs.VerdictLaws.{same_number, same_place, unless_answer, unless_refused_lem}
-use Rattle.grammar.specs.declared.Verdict.TheVariants.{Accepted, Refused as Rejected}
+use Rattle.refusal.proofs.VerdictLaws.{same_number, same_place, unless_answer, unless_refused_lem}
+use Rattle.grammar.specs.declared.Verdict.TheVariants.{accepted, Refused as Rejected}
 use Rattle.layout.specs.Layout.{productions, argument_count}
 use Rattle.priority.proofs.CheckLaws.{accepted_formed}
 use Rattle.priority.proofs.ConflictLaws.{conflict_test}
@@ -75,7 +75,7 @@ module _ (b : List ℕ) (p i q : ℕ) where
   -- ---- the answer
 
   -- Yes exactly for a conflict.
-  pub conflict_yes : (conflict_answer b p i q ≡ Yes) ↔ ((checked b ≡ Accepted) × There b p i q × Conflict b p i q)
+  pub conflict_yes : (conflict_answer b p i q ≡ Yes) ↔ ((checked b ≡ accepted) × There b p i q × Conflict b p i q)
   unfolding conflict_answer
   conflict_yes =
       let answer = unless_answer Refused (checked b) own Yes refused_yes in (
@@ -88,7 +88,7 @@ module _ (b : List ℕ) (p i q : ℕ) where
       )
 
   -- No exactly where there is none.
-  pub conflict_no : (conflict_answer b p i q ≡ No) ↔ ((checked b ≡ Accepted) × There b p i q × (Conflict b p i q → ⊥))
+  pub conflict_no : (conflict_answer b p i q ≡ No) ↔ ((checked b ≡ accepted) × There b p i q × (Conflict b p i q → ⊥))
   unfolding conflict_answer
   conflict_no =
       let answer = unless_answer Refused (checked b) own No refused_no in (
@@ -105,7 +105,7 @@ module _ (b : List ℕ) (p i q : ℕ) where
 
   -- A refusal exactly where the grammar has it, or 7 with place 0 for what isn't there.
   pub conflict_refused : (n k : ℕ)
-      → (conflict_answer b p i q ≡ Refused n k) ↔ ((checked b ≡ Rejected n k) ⊎ ((checked b ≡ Accepted) × (There b p i q → ⊥) × (n ≡ 7) × (k ≡ 0)))
+      → (conflict_answer b p i q ≡ Refused n k) ↔ ((checked b ≡ Rejected n k) ⊎ ((checked b ≡ accepted) × (There b p i q → ⊥) × (n ≡ 7) × (k ≡ 0)))
   unfolding conflict_answer
   conflict_refused n k =
       let answer = unless_refused_lem Refused rejected (checked b) own n k in (
@@ -120,7 +120,7 @@ module _ (b : List ℕ) (p i q : ℕ) where
       )
 
   -- 7 with place 0 exactly for an accepted grammar and what isn't there.
-  pub conflict_absent : (conflict_answer b p i q ≡ Refused 7 0) ↔ ((checked b ≡ Accepted) × (There b p i q → ⊥))
+  pub conflict_absent : (conflict_answer b p i q ≡ Refused 7 0) ↔ ((checked b ≡ accepted) × (There b p i q → ⊥))
   conflict_absent = (
     (λ a. ⊎_elim (λ x. absurd (omega (arith, seven_place b x))) (λ x. (x.0, x.1)) ((conflict_refused 7 0).0 a)),
     (λ h. (conflict_refused 7 0).1 (inr (h.0, h.1, refl, refl))),

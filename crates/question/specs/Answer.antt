@@ -1,6 +1,6 @@
 -- What the conflict question (01's clash question) answers.
 use Rattle.std.specs.Prelude.{ℕ, ◌<◌, Bool, false, true, cond, ◌&&◌, List, ltb}
-use Rattle.grammar.specs.Verdict.{unless_refused}
+use Rattle.refusal.specs.Verdict.{unless_refused}
 use Rattle.layout.specs.Layout.{productions, argument_count}
 use Rattle.priority.specs.Check.{checked}
 use Rattle.priority.specs.Conflict.{conflicts}

@@ -4,7 +4,7 @@ use mathlib.Core.Path.{◌≡◌, refl, sym}
 use mathlib.Core.List.{List}
 use native.Mathlib.Omega.{arith}
 use Rattle.grammar.specs.Formed.{WellFormed}
-use Rattle.grammar.specs.declared.Verdict.TheVariants.{Accepted}
+use Rattle.refusal.specs.Verdict.{accepted}
 use Rattle.layout.specs.Layout.{productions}
 use Rattle.layout.specs.Limits.{production_limit}
 use Rattle.priority.proofs.CheckLaws.{accepted_formed}
@@ -25,7 +25,7 @@ use Rattle.shortest.specs.Written.{ShortestWritten}
 -- ---- what yes tells
 
 module _ (b : List ℕ) (p i q : ℕ) (yes : conflict_answer b p i q ≡ Yes) where
-  pub yes_accepted : checked b ≡ Accepted
+  pub yes_accepted : checked b ≡ accepted
   yes_accepted = ((conflict_yes b p i q).0 yes).0
 
   pub yes_formed : WellFormed b

@@ -1,6 +1,6 @@
 -- Why a production may not stand somewhere (02, [8], "Why it clashes"): which of the three lines of 01, "Ranks and clashes", and which declarations.
 use Rattle.std.specs.Prelude.{ℕ, ◌≤◌, ◌<◌, ◌≡◌, Bool, false, true, ◌||◌, List}
-use Rattle.grammar.specs.declared.Verdict.TheVariants.{Accepted}
+use Rattle.refusal.specs.Verdict.{accepted}
 use Rattle.layout.specs.Layout.{declarations}
 use Rattle.priority.specs.Check.{checked}
 use Rattle.priority.specs.Conflict.{Conflict, anywhere, at_first, at_last}
@@ -36,7 +36,7 @@ pub record LowestDeclaration (b : List ℕ) (k : Kind) (p q d : ℕ) : Type 0 wh
 
 -- The question has an answer: the grammar is accepted, and what is asked about is there.
 abbrev pub Asked : List ℕ → ℕ → ℕ → ℕ → Type 0
-Asked b p i q = (checked b ≡ Accepted) × There b p i q
+Asked b p i q = (checked b ≡ accepted) × There b p i q
 
 -- What is behind an answer, if the buffer for a chain held c₀ and then holds c: of a conflict its line, and for line 1 a shortest chain of declarations, which
 -- stands in the buffer, for the others the lowest declaration. By any other answer than line 1 the buffer is as it was.

@@ -8,8 +8,8 @@ use Rattle.writing.specs.declared.WriteAnswer.{WriteAnswer}
 use Rattle.writing.specs.declared.WriteAnswer.TheVariants.{Written, Refused as NotWritten}
 use Rattle.engine.specs.declared.Answer.{Answer}
 use Rattle.engine.specs.declared.Answer.TheVariants.{None, One, Several, Refused as NotRead}
-use Rattle.grammar.specs.declared.Verdict.{Verdict}
-use Rattle.grammar.specs.declared.Verdict.TheVariants.{Accepted, Refused as Rejected}
+use Rattle.refusal.specs.Verdict.{Verdict}
+use Rattle.grammar.specs.declared.Verdict.TheVariants.{accepted, Refused as Rejected}
 use Rattle.listing.specs.declared.ListingAnswer.{ListingAnswer}
 use Rattle.load.specs.declared.FlatAnswer.{FlatAnswer}
 use Rattle.load.specs.declared.FlatAnswer.TheVariants.{Lines, Refused as NotLoaded}
@@ -32,7 +32,7 @@ summary_values = 4
 
 -- checking a grammar: 0 accepted
 unfoldable pub check_reply : Verdict → Reply
-check_reply Accepted = answered 0 0
+check_reply accepted = answered 0 0
 check_reply (Rejected number place) = refused number place
 
 -- the conflict question: 0 no, 1 yes

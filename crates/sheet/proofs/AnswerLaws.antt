@@ -9,8 +9,8 @@ use lib.Dec.{ltb}
 use lib.ListN.{length, take, drop}
 use lib.Seq.{take-append_seam, drop-append_seam}
 use borrow.Author.Tests.{ltb-true, ltb-false}
-use Rattle.grammar.specs.declared.Verdict.{Verdict}
-use Rattle.grammar.specs.declared.Verdict.TheVariants.{Accepted, Refused as Rejected}
+use Rattle.refusal.specs.Verdict.{Verdict}
+use Rattle.grammar.specs.declared.Verdict.TheVariants.{accepted, Refused as Rejected}
 use Rattle.priority.specs.Check.{checked}
 use Rattle.sheet.proofs.InTurnLaws.{turn_length}
 use Rattle.split.proofs.LinesLaws.{next_later, next_within, lines_at}
@@ -31,15 +31,15 @@ module _ (b s c₀ m₀ : List ℕ) (r : WriteAnswer) (c m : List ℕ) (o : Shee
   unfolding SheetOutcome SheetIf
   by_refusal n k e = subst (λ (v : Verdict). SheetIf v b s c₀ m₀ r c m) e o
 
-  by_lines : sheet_refusal b s m₀ ≡ Accepted → (r ≡ Written (length (lines s))) × Summed (LineBy b) s c₀ m₀ c m
+  by_lines : sheet_refusal b s m₀ ≡ accepted → (r ≡ Written (length (lines s))) × Summed (LineBy b) s c₀ m₀ c m
   unfolding SheetOutcome SheetIf
   by_lines e = subst (λ (v : Verdict). SheetIf v b s c₀ m₀ r c m) e o
 
-  by_verdict : (sheet_refusal b s m₀ ≡ Accepted) ⊎ ((n : ℕ) × (k : ℕ) × (sheet_refusal b s m₀ ≡ Rejected n k))
+  by_verdict : (sheet_refusal b s m₀ ≡ accepted) ⊎ ((n : ℕ) × (k : ℕ) × (sheet_refusal b s m₀ ≡ Rejected n k))
   by_verdict = cases (sheet_refusal b s m₀) refl
     where
-      cases : (v : Verdict) → sheet_refusal b s m₀ ≡ v → (sheet_refusal b s m₀ ≡ Accepted) ⊎ ((n : ℕ) × (k : ℕ) × (sheet_refusal b s m₀ ≡ Rejected n k))
-      cases Accepted e = inl e
+      cases : (v : Verdict) → sheet_refusal b s m₀ ≡ v → (sheet_refusal b s m₀ ≡ accepted) ⊎ ((n : ℕ) × (k : ℕ) × (sheet_refusal b s m₀ ≡ Rejected n k))
+      cases accepted e = inl e
       cases (Rejected n k) e = inr (n, k, e)
 
   -- A refusal is that of the verdict before any line is read.
@@ -59,7 +59,7 @@ module _ (b s c₀ m₀ : List ℕ) (r : WriteAnswer) (c m : List ℕ) (o : Shee
   sheet_unchanged n k e = let a = by_refusal n k ((sheet_refused_exactly n k).0 e) in (a.1, a.2)
 
   -- Without one the lines are read, and their count comes back.
-  pub sheet_read_exactly : (n : ℕ) → (r ≡ Written n) ↔ ((sheet_refusal b s m₀ ≡ Accepted) × (n ≡ length (lines s)))
+  pub sheet_read_exactly : (n : ℕ) → (r ≡ Written n) ↔ ((sheet_refusal b s m₀ ≡ accepted) × (n ≡ length (lines s)))
   sheet_read_exactly n = (
     (λ e. ⊎_elim (λ a. (a, same_count (sym e ∙ (by_lines a).0))) (λ (i, j, v). written_not e (by_refusal i j v).0) by_verdict),
     (λ (a, count). (by_lines a).0 ∙ ap Written (sym count)),
@@ -83,7 +83,7 @@ module _ (b s c₀ m₀ : List ℕ) (r : WriteAnswer) (c m : List ℕ) (o : Shee
       ((λ e. line.0 (step.0 (answer.0 e))), (λ h. answer.1 (step.1 (line.1 h))))
 
   -- 25: the sheet is over its limit; the place is its length.
-  pub sheet_too_long_lem : (k : ℕ) → (r ≡ NotWritten 25 k) ↔ ((checked b ≡ Accepted) × (sheet_limit < length s) × (k ≡ length s))
+  pub sheet_too_long_lem : (k : ℕ) → (r ≡ NotWritten 25 k) ↔ ((checked b ≡ accepted) × (sheet_limit < length s) × (k ≡ length s))
   sheet_too_long_lem k =
       let answer = sheet_refused_exactly 25 k in
       let step = sheet_refusal_first b s m₀ 25 k (omega arith) in
@@ -91,7 +91,7 @@ module _ (b s c₀ m₀ : List ℕ) (r : WriteAnswer) (c m : List ℕ) (o : Shee
       ((λ e. line.0 (step.0 (answer.0 e))), (λ h. answer.1 (step.1 (line.1 h))))
 
   -- 26: the summary is too short; the place is how many lines there are.
-  pub summary_too_short_lem : (k : ℕ) → (r ≡ NotWritten 26 k) ↔ (((checked b ≡ Accepted) × (length s ≤ sheet_limit)) × (length m₀ < length (lines s)) × (k ≡ length (lines s)))
+  pub summary_too_short_lem : (k : ℕ) → (r ≡ NotWritten 26 k) ↔ (((checked b ≡ accepted) × (length s ≤ sheet_limit)) × (length m₀ < length (lines s)) × (k ≡ length (lines s)))
   summary_too_short_lem k =
       let answer = sheet_refused_exactly 26 k in
       let line = sheet_refusal_few b s m₀ k in
@@ -123,17 +123,17 @@ module _ (b s : List ℕ) (start : ℕ) (c₀ : List ℕ) (r : Step) (next : ℕ
   -- the three ways in which a step comes out
   data Came : Type 0 where
     refused : (n k : ℕ) → step_refusal b s ≡ Rejected n k → r ≡ Refused n k → next ≡ start → c ≡ c₀ → Came
-    ended : step_refusal b s ≡ Accepted → length s ≤ start → r ≡ End → next ≡ start → c ≡ c₀ → Came
-    line : (v : ℕ) → step_refusal b s ≡ Accepted → start < length s → r ≡ Line v → LineBy b (line_at s start) c₀ v c → next ≡ next_start s start → Came
+    ended : step_refusal b s ≡ accepted → length s ≤ start → r ≡ End → next ≡ start → c ≡ c₀ → Came
+    line : (v : ℕ) → step_refusal b s ≡ accepted → start < length s → r ≡ Line v → LineBy b (line_at s start) c₀ v c → next ≡ next_start s start → Came
 
-  from_came : step_refusal b s ≡ Accepted → (t : Bool) → ltb start (length s) ≡ t → StepFrom t b s start c₀ r next c → Came
+  from_came : step_refusal b s ≡ accepted → (t : Bool) → ltb start (length s) ≡ t → StepFrom t b s start c₀ r next c → Came
   unfolding StepFrom
   from_came a true e h = line h.0 a (ltb-true start (length s) e) h.1 h.2 h.3
   from_came a false e h = ended a (ltb-false start (length s) e) h.0 h.1 h.2
 
   if_came : (v : Verdict) → step_refusal b s ≡ v → StepIf v b s start c₀ r next c → Came
   unfolding StepIf
-  if_came Accepted e h = from_came e (ltb start (length s)) refl h
+  if_came accepted e h = from_came e (ltb start (length s)) refl h
   if_came (Rejected n k) e h = refused n k e h.0 h.1 h.2
 
   came : Came
@@ -155,24 +155,24 @@ module _ (b s : List ℕ) (start : ℕ) (c₀ : List ℕ) (r : Step) (next : ℕ
       back (line v a l is h goes) e = let z : ◌≡◌ {A = ℕ} 0 1 = cc in absurd (omega arith)
 
   -- No line is left exactly if the start is at or past the end.
-  pub step_end_exactly : (r ≡ End) ↔ ((step_refusal b s ≡ Accepted) × (length s ≤ start))
+  pub step_end_exactly : (r ≡ End) ↔ ((step_refusal b s ≡ accepted) × (length s ≤ start))
   step_end_exactly = (there came, back came)
     where
-      there : Came → r ≡ End → (step_refusal b s ≡ Accepted) × (length s ≤ start)
+      there : Came → r ≡ End → (step_refusal b s ≡ accepted) × (length s ≤ start)
       there (refused i j v is stays same) e = let z : ◌≡◌ {A = ℕ} 0 1 = cc in absurd (omega arith)
       there (ended a l is stays same) e = (a, l)
       there (line v a l is h goes) e = let z : ◌≡◌ {A = ℕ} 0 1 = cc in absurd (omega arith)
 
-      back : Came → (step_refusal b s ≡ Accepted) × (length s ≤ start) → r ≡ End
+      back : Came → (step_refusal b s ≡ accepted) × (length s ≤ start) → r ≡ End
       back (refused i j v is stays same) (e, past) = let z : ◌≡◌ {A = ℕ} 0 1 = cc in absurd (omega arith)
       back (ended a l is stays same) (e, past) = is
       back (line v a l is h goes) (e, past) = absurd (omega arith)
 
   -- A line is the one that starts there, read, and the next start is behind it.
-  pub step_line_says : (v : ℕ) → r ≡ Line v → (step_refusal b s ≡ Accepted) × (start < length s) × LineBy b (line_at s start) c₀ v c × (next ≡ next_start s start)
+  pub step_line_says : (v : ℕ) → r ≡ Line v → (step_refusal b s ≡ accepted) × (start < length s) × LineBy b (line_at s start) c₀ v c × (next ≡ next_start s start)
   step_line_says v = says came
     where
-      says : Came → r ≡ Line v → (step_refusal b s ≡ Accepted) × (start < length s) × LineBy b (line_at s start) c₀ v c × (next ≡ next_start s start)
+      says : Came → r ≡ Line v → (step_refusal b s ≡ accepted) × (start < length s) × LineBy b (line_at s start) c₀ v c × (next ≡ next_start s start)
       says (refused i j u is stays same) e = let z : ◌≡◌ {A = ℕ} 0 1 = cc in absurd (omega arith)
       says (ended a l is stays same) e = let z : ◌≡◌ {A = ℕ} 0 1 = cc in absurd (omega arith)
       says (line u a l is h goes) e = let both : Line u ≡ Line v = sym is ∙ e in let bytes : u ≡ v = cc in (a, l, subst (λ (n : ℕ). LineBy b (line_at s start) c₀ n c) bytes h, goes)
@@ -187,10 +187,10 @@ module _ (b s : List ℕ) (start : ℕ) (c₀ : List ℕ) (r : Step) (next : ℕ
       stays_by (line u a l is h goes) other = absurd (other u is)
 
   -- With a place to start at, a line comes.
-  pub step_line_comes : step_refusal b s ≡ Accepted → start < length s → (v : ℕ) × (r ≡ Line v)
+  pub step_line_comes : step_refusal b s ≡ accepted → start < length s → (v : ℕ) × (r ≡ Line v)
   step_line_comes = comes came
     where
-      comes : Came → step_refusal b s ≡ Accepted → start < length s → (v : ℕ) × (r ≡ Line v)
+      comes : Came → step_refusal b s ≡ accepted → start < length s → (v : ℕ) × (r ≡ Line v)
       comes (refused i j u is stays same) e l = let z : ◌≡◌ {A = ℕ} 0 1 = cc in absurd (omega arith)
       comes (ended a past is stays same) e l = absurd (omega arith)
       comes (line u a h is g goes) e l = (u, is)
@@ -203,7 +203,7 @@ module _ (b s : List ℕ) (start : ℕ) (c₀ : List ℕ) (r : Step) (next : ℕ
       ((λ e. line.0 (answer.0 e)), (λ h. answer.1 (line.1 h)))
 
   -- 25: the sheet is over its limit; the place is its length.
-  pub step_too_long : (k : ℕ) → (r ≡ Refused 25 k) ↔ ((checked b ≡ Accepted) × (sheet_limit < length s) × (k ≡ length s))
+  pub step_too_long : (k : ℕ) → (r ≡ Refused 25 k) ↔ ((checked b ≡ accepted) × (sheet_limit < length s) × (k ≡ length s))
   step_too_long k =
       let answer = step_refused_exactly 25 k in
       let line = refusal_long b s k in
@@ -213,7 +213,7 @@ module _ (b s : List ℕ) (start : ℕ) (c₀ : List ℕ) (r : Step) (next : ℕ
   pub step_numbers : (n k : ℕ) → r ≡ Refused n k → (n ≤ 9) ⊎ (n ≡ 25)
   step_numbers n k e = refusal_number b s ((step_refused_exactly n k).0 e)
 
-  pub step_no_line : (r ≡ End) ↔ (((checked b ≡ Accepted) × (length s ≤ sheet_limit)) × (length s ≤ start))
+  pub step_no_line : (r ≡ End) ↔ (((checked b ≡ accepted) × (length s ≤ sheet_limit)) × (length s ≤ start))
   step_no_line =
       let none = refusal_none b s in
       ((λ e. let (a, past) = step_end_exactly.0 e in (none.0 a, past)), (λ (a, past). step_end_exactly.1 (none.1 a, past)))

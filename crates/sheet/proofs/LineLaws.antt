@@ -17,9 +17,9 @@ use Rattle.engine.specs.declared.Answer.{Answer}
 use Rattle.engine.specs.declared.Answer.TheVariants.{None, One, Several, Refused}
 use Rattle.flatten.specs.Tables.{FlatTables}
 use Rattle.grammar.specs.Formed.{WellFormed}
-use Rattle.grammar.specs.Verdict.{in_order}
-use Rattle.grammar.specs.declared.Verdict.{Verdict}
-use Rattle.grammar.specs.declared.Verdict.TheVariants.{Accepted, Refused as Rejected}
+use Rattle.refusal.specs.Verdict.{in_order}
+use Rattle.refusal.specs.Verdict.{Verdict}
+use Rattle.grammar.specs.declared.Verdict.TheVariants.{accepted, Refused as Rejected}
 use Rattle.parse.proofs.CarryLaws.{same_needed, tables_same}
 use Rattle.parse.proofs.OutcomeLaws.{accepted_grammar}
 use Rattle.parse.specs.Outcome.{needed, reading_by, Outcome, AcceptedOutcome}
@@ -42,7 +42,7 @@ answered_counts P l₀ (Refused number place) l a = rw a.2 (a.0, a.1)
 -- 10 and 20 are all the refusals of a text
 module _ (w chart : List ℕ) (need : ℕ) where
   text_number : (u v : Verdict) → u ≡ too_long w → v ≡ chart_too_short need chart → (n k : ℕ) → in_order (u ∷ v ∷ []) ≡ Rejected n k → n ≤ 20
-  text_number Accepted v eu ev n k e = omega (arith, (chart_short need chart (sym ev ∙ e)).0)
+  text_number accepted v eu ev n k e = omega (arith, (chart_short need chart (sym ev ∙ e)).0)
   text_number (Rejected m j) v eu ev n k e = let same : m ≡ n = cc in omega (arith, (text_long w (sym eu)).0)
 
   -- What parsing a line promises, with whatever buffer for the listing, is what becomes of the line.
@@ -53,7 +53,7 @@ module _ (w chart : List ℕ) (need : ℕ) where
   line_read p l₀ r c l = by_verdict (in_order (too_long w ∷ chart_too_short need chart ∷ [])) (text_number (too_long w) (chart_too_short need chart) refl refl)
     where
       by_verdict : (v : Verdict) → ((n k : ℕ) → v ≡ Rejected n k → n ≤ 20) → UnlessRefused v p chart l₀ r c l → LineRead v p chart (byte_of r) c
-      by_verdict Accepted small h = (answered_counts p.parse l₀ r l h.answer, h.chart)
+      by_verdict accepted small h = (answered_counts p.parse l₀ r l h.answer, h.chart)
       by_verdict (Rejected n k) small h = (ap byte_of h.0 ∙ ap (λ t. cond t 1 refused_byte) (ne_eqb n 22 (λ e. omega (arith, small n k refl))), h.1)
 
 -- by a grammar, and by tables
@@ -69,7 +69,7 @@ tables_line t w c₀ l₀ r c l h = line_read w c₀ _ (parsing_by t w) l₀ r c
 
 pub line_same : (p u : Parsing) → SameParsing p u → (v : Verdict) (c₀ : List ℕ) (n : ℕ) (c : List ℕ) → LineRead v p c₀ n c → LineRead v u c₀ n c
 unfolding LineRead
-line_same p u same Accepted c₀ n c h = (counts_same p.parse u.parse n same.parse h.0, chart_same_lem p u same c₀ c h.1)
+line_same p u same accepted c₀ n c h = (counts_same p.parse u.parse n same.parse h.0, chart_same_lem p u same c₀ c h.1)
 line_same p u same (Rejected number place) c₀ n c h = h
 
 -- what becomes of a line by the tables becomes of it by their grammar
@@ -84,7 +84,7 @@ line_carried b formed bytes t flat w text c₀ v c h =
 
 read_small : (v : Verdict) (p : Parsing) (c₀ : List ℕ) (n : ℕ) (c : List ℕ) → LineRead v p c₀ n c → n ≤ refused_byte
 unfolding LineRead
-read_small Accepted p c₀ n c h = omega (arith, (counts_bounds p.parse n h.0).at_most_two)
+read_small accepted p c₀ n c h = omega (arith, (counts_bounds p.parse n h.0).at_most_two)
 read_small (Rejected number place) p c₀ n c h = omega (arith, h.0)
 
 pub line_small : (b w c₀ : List ℕ) (n : ℕ) (c : List ℕ) → LineBy b w c₀ n c → n ≤ refused_byte
@@ -95,7 +95,7 @@ line_small b w c₀ n c h = read_small _ (reading_by b w) c₀ n c h
 
 read_unique : (v : Verdict) (p : Parsing) (c₀ : List ℕ) (n m : ℕ) (c d : List ℕ) → LineRead v p c₀ n c → LineRead v p c₀ m d → (n ≡ m) × (c ≡ d)
 unfolding LineRead
-read_unique Accepted p c₀ n m c d h k = (counts_unique p.parse n m h.0 k.0, chart_unique p c₀ c d h.1 k.1)
+read_unique accepted p c₀ n m c d h k = (counts_unique p.parse n m h.0 k.0, chart_unique p c₀ c d h.1 k.1)
 read_unique (Rejected number place) p c₀ n m c d h k = (h.0 ∙ sym k.0, h.1 ∙ sym k.1)
 
 pub line_unique : (b w c₀ : List ℕ) (n m : ℕ) (c d : List ℕ) → LineBy b w c₀ n c → LineBy b w c₀ m d → (n ≡ m) × (c ≡ d)
@@ -103,6 +103,6 @@ unfolding LineBy
 line_unique b w c₀ n m c d h k = read_unique _ (reading_by b w) c₀ n m c d h k
 
 -- So what becomes of a line is what reading it alone gives, with whatever buffer for the listing.
-pub line_alone : (b : List ℕ) → checked b ≡ Accepted → (w c₀ : List ℕ) (v : ℕ) (c : List ℕ) → LineBy b w c₀ v c
+pub line_alone : (b : List ℕ) → checked b ≡ accepted → (w c₀ : List ℕ) (v : ℕ) (c : List ℕ) → LineBy b w c₀ v c
     → (l₀ : List ℕ) (r : Answer) (d l : List ℕ) → Outcome b w c₀ l₀ r d l → (v ≡ byte_of r) × (c ≡ d)
 line_alone b e w c₀ v c h l₀ r d l o = line_unique b w c₀ v (byte_of r) c d h (line_by b w c₀ l₀ r d l (accepted_grammar b w c₀ l₀ r d l e o))

@@ -6,8 +6,8 @@ use mathlib.Core.List.{List}
 use lib.Dec.{ltb}
 use lib.ListN.{length}
 use borrow.Author.Tests.{lt-ltb, le-ltb}
-use Rattle.grammar.specs.declared.Verdict.{Verdict}
-use Rattle.grammar.specs.declared.Verdict.TheVariants.{Accepted, Refused as Rejected}
+use Rattle.refusal.specs.Verdict.{Verdict}
+use Rattle.grammar.specs.declared.Verdict.TheVariants.{accepted, Refused as Rejected}
 use Rattle.sheet.proofs.LineLaws.{line_unique}
 use Rattle.sheet.proofs.SummedLaws.{summed_unique}
 use Rattle.split.specs.Lines.{lines, line_at, next_start}
@@ -25,13 +25,13 @@ module _ (b s c₀ m₀ : List ℕ) where
   unfolding SheetOutcome SheetIf
   sheet_refused n k e = rw e (refl, refl, refl)
 
-  pub sheet_read : (count : ℕ) (c m : List ℕ) → sheet_refusal b s m₀ ≡ Accepted → count ≡ length (lines s) → Summed (LineBy b) s c₀ m₀ c m → SheetOutcome b s c₀ m₀ (Written count) c m
+  pub sheet_read : (count : ℕ) (c m : List ℕ) → sheet_refusal b s m₀ ≡ accepted → count ≡ length (lines s) → Summed (LineBy b) s c₀ m₀ c m → SheetOutcome b s c₀ m₀ (Written count) c m
   unfolding SheetOutcome SheetIf
   sheet_read count c m e same h = rw e (ap Written same, h)
 
   if_unique : (v : Verdict) (r r' : WriteAnswer) (c c' m m' : List ℕ) → SheetIf v b s c₀ m₀ r c m → SheetIf v b s c₀ m₀ r' c' m' → (r ≡ r') × (c ≡ c') × (m ≡ m')
   unfolding SheetIf
-  if_unique Accepted r r' c c' m m' h k =
+  if_unique accepted r r' c c' m m' h k =
       let same = summed_unique (LineBy b) (line_unique b) s c₀ m₀ c c' m m' h.1 k.1 in
       (h.0 ∙ sym k.0, same.0, same.1)
   if_unique (Rejected number place) r r' c c' m m' h k = (h.0 ∙ sym k.0, h.1 ∙ sym k.1, h.2 ∙ sym k.2)
@@ -48,7 +48,7 @@ module _ (b s : List ℕ) (start : ℕ) (c₀ : List ℕ) where
   unfolding StepOutcome StepIf
   step_refused n k e = rw e (refl, refl, refl)
 
-  pub step_taken : (r : Step) (next : ℕ) (c : List ℕ) → step_refusal b s ≡ Accepted → StepFrom (ltb start (length s)) b s start c₀ r next c → StepOutcome b s start c₀ r next c
+  pub step_taken : (r : Step) (next : ℕ) (c : List ℕ) → step_refusal b s ≡ accepted → StepFrom (ltb start (length s)) b s start c₀ r next c → StepOutcome b s start c₀ r next c
   unfolding StepOutcome StepIf
   step_taken r next c e h = rw e h
 
@@ -69,7 +69,7 @@ module _ (b s : List ℕ) (start : ℕ) (c₀ : List ℕ) where
 
   step_if_unique : (v : Verdict) (r r' : Step) (next next' : ℕ) (c c' : List ℕ) → StepIf v b s start c₀ r next c → StepIf v b s start c₀ r' next' c' → (r ≡ r') × (next ≡ next') × (c ≡ c')
   unfolding StepIf
-  step_if_unique Accepted r r' next next' c c' h k = from_unique (ltb start (length s)) r r' next next' c c' h k
+  step_if_unique accepted r r' next next' c c' h k = from_unique (ltb start (length s)) r r' next next' c c' h k
   step_if_unique (Rejected number place) r r' next next' c c' h k = (h.0 ∙ sym k.0, h.1 ∙ sym k.1, h.2 ∙ sym k.2)
 
   -- For one input, two outcomes that meet the promise give the same, stand at the same place, and have the same chart.

@@ -7,10 +7,11 @@ use native.Mathlib.Omega.{arith}
 use lib.Dec.{ltb}
 use lib.ListN.{length}
 use borrow.Author.Tests.{ltb-true, ltb-false, lt-ltb, le-ltb}
-use Rattle.grammar.proofs.VerdictLaws.{FirstIn, here, there, and_first, and_second, and_assoc, and_refused, order_first, refuse_accepted, refuse_case}
-use Rattle.grammar.specs.Verdict.{and_then}
-use Rattle.grammar.specs.declared.Verdict.{Verdict}
-use Rattle.grammar.specs.declared.Verdict.TheVariants.{Accepted, Refused}
+use Rattle.refusal.proofs.VerdictLaws.{FirstIn, here, there, and_first, and_second, and_assoc, and_refused, order_first, refuse_accepted, refuse_case}
+use Rattle.refusal.specs.Verdict.{and_then}
+use Rattle.refusal.specs.Verdict.{Verdict}
+use Rattle.std.specs.Prelude.{Err}
+use Rattle.refusal.specs.Verdict.{accepted}
 use Rattle.priority.proofs.RefusalLaws.{checked_number}
 use Rattle.priority.specs.Check.{checked}
 use Rattle.split.specs.Lines.{lines}
@@ -23,7 +24,7 @@ module _ (s : List ℕ) where
   unfolding sheet_too_long
   long_sheet h = rw (lt-ltb sheet_limit (length s) h) refl
 
-  short_sheet : length s ≤ sheet_limit → sheet_too_long s ≡ Accepted
+  short_sheet : length s ≤ sheet_limit → sheet_too_long s ≡ accepted
   unfolding sheet_too_long
   short_sheet h = rw (le-ltb sheet_limit (length s) h) refl
 
@@ -33,7 +34,7 @@ module _ (s : List ℕ) where
       refuse_case (λ n k. (n ≡ 25) × (sheet_limit < length s) × (k ≡ length s)) (ltb sheet_limit (length s)) 25 (length s) e
       (λ t. (refl, ltb-true sheet_limit (length s) t, refl))
 
-  sheet_short : sheet_too_long s ≡ Accepted → length s ≤ sheet_limit
+  sheet_short : sheet_too_long s ≡ accepted → length s ≤ sheet_limit
   unfolding sheet_too_long
   sheet_short e = ltb-false sheet_limit (length s) (refuse_accepted _ 25 (length s) e)
 
@@ -44,7 +45,7 @@ module _ (s m : List ℕ) where
   unfolding summary_too_short
   short_summary h = rw (lt-ltb (length m) (length (lines s)) h) refl
 
-  long_summary : length (lines s) ≤ length m → summary_too_short s m ≡ Accepted
+  long_summary : length (lines s) ≤ length m → summary_too_short s m ≡ accepted
   unfolding summary_too_short
   long_summary h = rw (le-ltb (length m) (length (lines s)) h) refl
 
@@ -54,7 +55,7 @@ module _ (s m : List ℕ) where
       refuse_case (λ n k. (n ≡ 26) × (length m < length (lines s)) × (k ≡ length (lines s))) (ltb (length m) (length (lines s))) 26 (length (lines s)) e
       (λ t. (refl, ltb-true (length m) (length (lines s)) t, refl))
 
-  summary_long : summary_too_short s m ≡ Accepted → length (lines s) ≤ length m
+  summary_long : summary_too_short s m ≡ accepted → length (lines s) ≤ length m
   unfolding summary_too_short
   summary_long e = ltb-false (length m) (length (lines s)) (refuse_accepted _ 26 (length (lines s)) e)
 
@@ -66,15 +67,15 @@ module _ (b s : List ℕ) where
   unfolding step_refusal
   step_grammar e = rw e refl
 
-  pub step_long : checked b ≡ Accepted → sheet_limit < length s → step_refusal b s ≡ Refused 25 (length s)
+  pub step_long : checked b ≡ accepted → sheet_limit < length s → step_refusal b s ≡ Refused 25 (length s)
   unfolding step_refusal
   step_long e h = rw e (long_sheet s h)
 
-  pub step_allowed : checked b ≡ Accepted → length s ≤ sheet_limit → step_refusal b s ≡ Accepted
+  pub step_allowed : checked b ≡ accepted → length s ≤ sheet_limit → step_refusal b s ≡ accepted
   unfolding step_refusal
   step_allowed e h = rw e (short_sheet s h)
 
-  pub step_checked : step_refusal b s ≡ Accepted → checked b ≡ Accepted
+  pub step_checked : step_refusal b s ≡ accepted → checked b ≡ accepted
   unfolding step_refusal
   step_checked e = and_first (checked b) (sheet_too_long s) e
 
@@ -87,13 +88,13 @@ module _ (b s : List ℕ) where
     pub sheet_step : {n k : ℕ} → step_refusal b s ≡ Refused n k → sheet_refusal b s m ≡ Refused n k
     sheet_step e = step_first ∙ rw e refl
 
-    pub sheet_few : step_refusal b s ≡ Accepted → length m < length (lines s) → sheet_refusal b s m ≡ Refused 26 (length (lines s))
+    pub sheet_few : step_refusal b s ≡ accepted → length m < length (lines s) → sheet_refusal b s m ≡ Refused 26 (length (lines s))
     sheet_few e h = step_first ∙ rw e (short_summary s m h)
 
-    pub sheet_allowed : step_refusal b s ≡ Accepted → length (lines s) ≤ length m → sheet_refusal b s m ≡ Accepted
+    pub sheet_allowed : step_refusal b s ≡ accepted → length (lines s) ≤ length m → sheet_refusal b s m ≡ accepted
     sheet_allowed e h = step_first ∙ rw e (long_summary s m h)
 
-    pub sheet_room : sheet_refusal b s m ≡ Accepted → (step_refusal b s ≡ Accepted) × (length (lines s) ≤ length m)
+    pub sheet_room : sheet_refusal b s m ≡ accepted → (step_refusal b s ≡ accepted) × (length (lines s) ≤ length m)
     sheet_room e =
         let both = sym step_first ∙ e in
         (and_first (step_refusal b s) (summary_too_short s m) both, summary_long s m (and_second (step_refusal b s) (summary_too_short s m) both))
@@ -113,7 +114,7 @@ module _ (b s : List ℕ) where
   step_by_grammar (there a (here e)) small = absurd (omega (arith, (sheet_long s e).0))
   step_by_grammar (there a (there _ e)) small = elim e [ ]
 
-  step_by_long : {n k : ℕ} → FirstIn step_lines n k → n ≡ 25 → (checked b ≡ Accepted) × (sheet_limit < length s) × (k ≡ length s)
+  step_by_long : {n k : ℕ} → FirstIn step_lines n k → n ≡ 25 → (checked b ≡ accepted) × (sheet_limit < length s) × (k ≡ length s)
   step_by_long (here e) is = absurd (omega (arith, checked_number b e))
   step_by_long (there a (here e)) is = let h = sheet_long s e in (a, h.1, h.2)
   step_by_long (there a (there _ e)) is = elim e [ ]
@@ -128,7 +129,7 @@ module _ (b s : List ℕ) where
   refusal_grammar n k small = ((λ e. step_by_grammar (step_first_line e) small), (λ e. step_grammar b s e))
 
   -- 25: the sheet is over its limit; the place is its length.
-  pub refusal_long : (k : ℕ) → (step_refusal b s ≡ Refused 25 k) ↔ ((checked b ≡ Accepted) × (sheet_limit < length s) × (k ≡ length s))
+  pub refusal_long : (k : ℕ) → (step_refusal b s ≡ Refused 25 k) ↔ ((checked b ≡ accepted) × (sheet_limit < length s) × (k ≡ length s))
   refusal_long k = ((λ e. step_by_long (step_first_line e) refl), (λ (e, long, place). step_long b s e long ∙ ap (Refused 25) (sym place)))
 
   -- There is no other number.
@@ -136,13 +137,13 @@ module _ (b s : List ℕ) where
   refusal_number e = step_by_number (step_first_line e)
 
   -- None of them.
-  pub refusal_none : (step_refusal b s ≡ Accepted) ↔ ((checked b ≡ Accepted) × (length s ≤ sheet_limit))
+  pub refusal_none : (step_refusal b s ≡ accepted) ↔ ((checked b ≡ accepted) × (length s ≤ sheet_limit))
   unfolding step_refusal
   refusal_none = ((λ e. (step_checked b s e, sheet_short s (and_second (checked b) (sheet_too_long s) e))), (λ (e, short). step_allowed b s e short))
 
   -- Those of a sheet are the same, and 26: the summary is too short; the place is how many lines there are.
   module _ (m : List ℕ) where
-    sheet_cases : {n k : ℕ} → sheet_refusal b s m ≡ Refused n k → (step_refusal b s ≡ Refused n k) ⊎ ((step_refusal b s ≡ Accepted) × (summary_too_short s m ≡ Refused n k))
+    sheet_cases : {n k : ℕ} → sheet_refusal b s m ≡ Refused n k → (step_refusal b s ≡ Refused n k) ⊎ ((step_refusal b s ≡ accepted) × (summary_too_short s m ≡ Refused n k))
     sheet_cases e = and_refused (step_refusal b s) (summary_too_short s m) (sym (step_first b s m) ∙ e)
 
     pub sheet_refusal_first : (n k : ℕ) → n ≤ 25 → (sheet_refusal b s m ≡ Refused n k) ↔ (step_refusal b s ≡ Refused n k)
@@ -151,7 +152,7 @@ module _ (b s : List ℕ) where
       (λ e. sheet_step b s m e),
     )
 
-    pub sheet_refusal_few : (k : ℕ) → (sheet_refusal b s m ≡ Refused 26 k) ↔ ((step_refusal b s ≡ Accepted) × (length m < length (lines s)) × (k ≡ length (lines s)))
+    pub sheet_refusal_few : (k : ℕ) → (sheet_refusal b s m ≡ Refused 26 k) ↔ ((step_refusal b s ≡ accepted) × (length m < length (lines s)) × (k ≡ length (lines s)))
     sheet_refusal_few k = (
       (λ e. ⊎_elim (λ h. absurd (⊎_elim (λ l. omega arith) (λ l. omega arith) (refusal_number h))) (λ (a, h). let few = summary_short s m h in (a, few.1, few.2)) (sheet_cases e)),
       (λ (a, few, place). sheet_few b s m a few ∙ ap (Refused 26) (sym place)),

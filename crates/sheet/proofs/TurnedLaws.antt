@@ -7,9 +7,9 @@ use lib.Dec.{ltb}
 use lib.ListN.{length}
 use Rattle.engine.specs.Refusals.{too_long, chart_too_short}
 use Rattle.grammar.specs.Turned.{TurnedRound}
-use Rattle.grammar.specs.Verdict.{in_order}
-use Rattle.grammar.specs.declared.Verdict.{Verdict}
-use Rattle.grammar.specs.declared.Verdict.TheVariants.{Accepted, Refused as Rejected}
+use Rattle.refusal.specs.Verdict.{in_order}
+use Rattle.refusal.specs.Verdict.{Verdict}
+use Rattle.grammar.specs.declared.Verdict.TheVariants.{accepted, Refused as Rejected}
 use Rattle.parse.proofs.TurnedLaws.{turned_chart_bytes, turned_parsing}
 use Rattle.parse.specs.Outcome.{reading_by, too_short}
 use Rattle.priority.proofs.TurnedLaws.{turned_checked}
@@ -35,7 +35,7 @@ module _ (b d : List ℕ) (t : TurnedRound b d) where
 
   turned_sheet_if : (v : Verdict) (s c₀ m₀ : List ℕ) (r : WriteAnswer) (c m : List ℕ) → SheetIf v d s c₀ m₀ r c m → SheetIf v b s c₀ m₀ r c m
   unfolding SheetIf
-  turned_sheet_if Accepted s c₀ m₀ r c m h = (h.0, turned_summed s c₀ m₀ c m h.1)
+  turned_sheet_if accepted s c₀ m₀ r c m h = (h.0, turned_summed s c₀ m₀ c m h.1)
   turned_sheet_if (Rejected number place) s c₀ m₀ r c m h = h
 
   turned_sheet_refusal : (s m : List ℕ) → sheet_refusal d s m ≡ sheet_refusal b s m
@@ -56,7 +56,7 @@ module _ (b d : List ℕ) (t : TurnedRound b d) where
 
     turned_step_if : (v : Verdict) → StepIf v d s start c₀ r next c → StepIf v b s start c₀ r next c
     unfolding StepIf
-    turned_step_if Accepted h = turned_from (ltb start (length s)) h
+    turned_step_if accepted h = turned_from (ltb start (length s)) h
     turned_step_if (Rejected number place) h = h
 
     turned_step_refusal : step_refusal d s ≡ step_refusal b s

@@ -7,7 +7,7 @@ use native.Mathlib.Decide.{dec_lt}
 use native.Mathlib.Omega.{arith}
 use lib.ListN.{length, take, drop}
 use lib.Seq.{take_all}
-use Rattle.grammar.specs.declared.Verdict.TheVariants.{Accepted}
+use Rattle.refusal.specs.Verdict.{accepted}
 use Rattle.sheet.proofs.AnswerLaws.{sheet_read_exactly, sheet_in_turn, step_end_exactly, step_line_says, step_line_comes, step_stays}
 use Rattle.sheet.proofs.InTurnLaws.{turn_length, turn_unique}
 use Rattle.sheet.proofs.LineLaws.{line_unique}
@@ -21,7 +21,7 @@ use Rattle.sheet.specs.declared.Step.{Step}
 use Rattle.sheet.specs.declared.Step.TheVariants.{End, Line}
 use Rattle.writing.specs.declared.WriteAnswer.TheVariants.{Written}
 
-module _ (b s : List ℕ) (allowed : step_refusal b s ≡ Accepted) where
+module _ (b s : List ℕ) (allowed : step_refusal b s ≡ accepted) where
   -- What steps give, and what the chart holds then: that of as many lines, read in turn.
   pub record Gave (ws : List (List ℕ)) (c₀ bytes : List ℕ) (rs : List Step) (c : List ℕ) : Type 0 where
     pub steps : rs ≡ given (length rs) bytes

@@ -6,9 +6,9 @@ use Rattle.engine.specs.Refusals.{too_long, text_refusal}
 use Rattle.engine.specs.Roots.{parsing_by}
 use Rattle.engine.specs.declared.Answer.{Answer}
 use Rattle.engine.specs.declared.Answer.TheVariants.{None, One, Several, Refused as NotRead}
-use Rattle.grammar.specs.Verdict.{in_order}
-use Rattle.grammar.specs.declared.Verdict.{Verdict}
-use Rattle.grammar.specs.declared.Verdict.TheVariants.{Accepted, Refused as Rejected}
+use Rattle.refusal.specs.Verdict.{in_order}
+use Rattle.refusal.specs.Verdict.{Verdict}
+use Rattle.grammar.specs.declared.Verdict.TheVariants.{accepted, Refused as Rejected}
 use Rattle.parse.specs.Outcome.{too_short, reading_by}
 use Rattle.split.specs.Lines.{lines, line_at, next_start}
 use Rattle.sheet.specs.Refusals.{step_refusal, sheet_refusal}
@@ -34,7 +34,7 @@ byte_of (NotRead number place) = cond (eqb number 22) 1 refused_byte
 -- A line is read. Refused, it has byte 3, and the chart, which held c₀, stays. Otherwise its byte v is how many parses it has, 2 for more, and the chart
 -- is what parsing it leaves.
 unfoldable pub LineRead : Verdict → Parsing → (c₀ : List ℕ) (v : ℕ) (c : List ℕ) → Type 0
-LineRead Accepted p c₀ v c = Counts p.parse v × ChartAfter p c₀ c
+LineRead accepted p c₀ v c = Counts p.parse v × ChartAfter p c₀ c
 LineRead (Rejected number place) p c₀ v c = (v ≡ refused_byte) × (c ≡ c₀)
 
 -- A line w is read by grammar b: 10 and 20 are the refusals that can fall on it.
@@ -64,7 +64,7 @@ pub record Summed (R : (w c₀ : List ℕ) (v : ℕ) (c : List ℕ) → Type 0) 
 
 -- By a refusal nothing is changed. Otherwise the lines are read, and the answer is how many there are.
 unfoldable pub SheetIf : Verdict → (b s c₀ m₀ : List ℕ) → WriteAnswer → (c m : List ℕ) → Type 0
-SheetIf Accepted b s c₀ m₀ r c m = (r ≡ Written (length (lines s))) × Summed (LineBy b) s c₀ m₀ c m
+SheetIf accepted b s c₀ m₀ r c m = (r ≡ Written (length (lines s))) × Summed (LineBy b) s c₀ m₀ c m
 SheetIf (Rejected number place) b s c₀ m₀ r c m = (r ≡ NotWritten number place) × (c ≡ c₀) × (m ≡ m₀)
 
 unfoldable pub SheetOutcome : (b s c₀ m₀ : List ℕ) → WriteAnswer → (c m : List ℕ) → Type 0
@@ -79,7 +79,7 @@ StepFrom false b s start c₀ r next c = (r ≡ End) × (next ≡ start) × (c �
 
 -- Refused, it stays where it is.
 unfoldable pub StepIf : Verdict → (b s : List ℕ) (start : ℕ) (c₀ : List ℕ) → Step → (next : ℕ) (c : List ℕ) → Type 0
-StepIf Accepted b s start c₀ r next c = StepFrom (ltb start (length s)) b s start c₀ r next c
+StepIf accepted b s start c₀ r next c = StepFrom (ltb start (length s)) b s start c₀ r next c
 StepIf (Rejected number place) b s start c₀ r next c = (r ≡ Refused number place) × (next ≡ start) × (c ≡ c₀)
 
 unfoldable pub StepOutcome : (b s : List ℕ) (start : ℕ) (c₀ : List ℕ) → Step → (next : ℕ) (c : List ℕ) → Type 0

@@ -13,7 +13,7 @@ use Rattle.common.proofs.BelowLaws.{count_small, count_more, count_one}
 use Rattle.common.proofs.BoolLaws.{or_cases, and_first_true, and_second_true, true_or_false}
 use Rattle.common.specs.Below.{count_below}
 use Rattle.grammar.specs.Check.{is_group}
-use Rattle.grammar.specs.declared.Verdict.TheVariants.{Accepted}
+use Rattle.refusal.specs.Verdict.{accepted}
 use Rattle.layout.specs.Layout.{productions, declarations, kind, first, second}
 use Rattle.layout.specs.Limits.{kind_limit, pair_kind_limit}
 use Rattle.priority.proofs.ChainLaws.{chain_append}
@@ -105,5 +105,5 @@ module _ (b : List ℕ) where
     along (onward {chain = chain} s c) = subst (Along _) (add-one (length chain)) (along_more s (along c))
 
   -- A chain has fewer declarations than there are productions.
-  pub leads_short : checked b ≡ Accepted → {chain : List ℕ} {x y : ℕ} → Leads b chain x y → length chain < productions b
+  pub leads_short : checked b ≡ accepted → {chain : List ℕ} {x y : ℕ} → Leads b chain x y → length chain < productions b
   leads_short e c = let a = along (accepted_declares b e) c in omega (arith, a.many, count_small (productions b) a.seen)

@@ -10,7 +10,7 @@ use lib.ListN.{length, set, replicate, length-set, length-replicate}
 use lib.Seq.{get_or-set_same, get_or-set_other}
 use Rattle.common.proofs.ListLaws.{length_tabulate, get_d_all}
 use Rattle.common.specs.Lists.{tabulate}
-use Rattle.grammar.specs.declared.Verdict.TheVariants.{Accepted}
+use Rattle.refusal.specs.Verdict.{accepted}
 use Rattle.layout.specs.Limits.{production_limit}
 use Rattle.priority.proofs.CheckLaws.{accepted_formed}
 use Rattle.priority.proofs.DeclarationLaws.{accepted_declares}
@@ -56,7 +56,7 @@ module _ (b : List ℕ) (y k : ℕ) (distance next : List ℕ) (r : Rounds b y k
       let rest = away_least c (omega arith) in
       omega (arith, rest, r.least d x w s (inl (omega (arith, rest))))
 
-  module _ (e : checked b ≡ Accepted) (p : ℕ) (h : Higher b p y) where
+  module _ (e : checked b ≡ accepted) (p : ℕ) (h : Higher b p y) where
     -- while p is not found, its chain is longer than the rounds
     pub search_on : away distance p ≡ far → k + 1 < far
     search_on f =

@@ -3,7 +3,7 @@
 
 ghost use Rattle.std.specs.Prelude.{◌≡◌, ◌+◌, ◌<◌, length};
 ghost use Rattle.grammar.specs.Formed.{WellFormed};
-ghost use Rattle.grammar.specs.declared.Verdict.TheVariants.{Accepted};
+ghost use Rattle.refusal.specs.Verdict.{accepted};
 ghost use Rattle.layout.specs.Layout.{declaration_at};
 ghost use Rattle.layout.specs.Limits.{production_limit};
 ghost use Rattle.priority.specs.Check.{checked};
@@ -21,7 +21,7 @@ const FAR: usize = PRODUCTION_LIMIT;
 
 // Writes a shortest chain from p to q to the start of the buffer, as much of it as fits, and gives its whole length.
 pub fn write_chain(book: &[u8], p: usize, q: usize, out: &mut [u8]) -> usize
-    requires { (checked book.now ≡ Accepted) × Higher book.now p q }
+    requires { (checked book.now ≡ accepted) × Higher book.now p q }
     ensures { ShortestWritten book.now p q out.old result out.new }
 {
     let start = declaration_at(book, 0);

@@ -7,20 +7,20 @@ use Rattle.engine.specs.Refusals.{too_long}
 use Rattle.engine.specs.declared.Answer.{Answer}
 use Rattle.engine.specs.declared.Answer.TheVariants.{Refused}
 use Rattle.flatten.specs.Reading.{Reading}
-use Rattle.grammar.proofs.VerdictLaws.{and_first, and_second}
-use Rattle.grammar.specs.Verdict.{and_then}
-use Rattle.grammar.specs.declared.Verdict.{Verdict}
-use Rattle.grammar.specs.declared.Verdict.TheVariants.{Accepted, Refused as Rejected}
+use Rattle.refusal.proofs.VerdictLaws.{and_first, and_second}
+use Rattle.refusal.specs.Verdict.{and_then}
+use Rattle.refusal.specs.Verdict.{Verdict}
+use Rattle.grammar.specs.declared.Verdict.TheVariants.{accepted, Refused as Rejected}
 use Rattle.parse.specs.Outcome.{too_short, refusal, reading_by, Outcome}
 use Rattle.priority.specs.Check.{checked}
 
 module _ (b w c₀ l₀ : List ℕ) (r : Answer) (c l : List ℕ) (other : (number place : ℕ) → r ≡ Refused number place → ⊥) where
-  answered_accepted : (v : Verdict) → UnlessRefused v (reading_by b w) c₀ l₀ r c l → (v ≡ Accepted) × Answered (Reading b w) l₀ r l
+  answered_accepted : (v : Verdict) → UnlessRefused v (reading_by b w) c₀ l₀ r c l → (v ≡ accepted) × Answered (Reading b w) l₀ r l
   unfolding UnlessRefused
-  answered_accepted Accepted h = (refl, h.answer)
+  answered_accepted accepted h = (refl, h.answer)
   answered_accepted (Rejected number place) h = absurd (other number place h.0)
 
-  pub answered_parts : Outcome b w c₀ l₀ r c l → (checked b ≡ Accepted) × (too_long w ≡ Accepted) × Answered (Reading b w) l₀ r l
+  pub answered_parts : Outcome b w c₀ l₀ r c l → (checked b ≡ accepted) × (too_long w ≡ accepted) × Answered (Reading b w) l₀ r l
   unfolding Outcome refusal
   answered_parts h =
       let (accepted, answered) = answered_accepted (refusal b w c₀) h in

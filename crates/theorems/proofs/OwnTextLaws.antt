@@ -29,8 +29,8 @@ use Rattle.flatten.specs.Reading.{Reading, EntryList}
 use Rattle.form.specs.Form.{Writable, Says}
 use Rattle.grammar.proofs.ArgumentLaws.{sort_no_class}
 use Rattle.grammar.specs.Formed.{WellFormed}
-use Rattle.grammar.specs.declared.Verdict.{Verdict}
-use Rattle.grammar.specs.declared.Verdict.TheVariants.{Accepted}
+use Rattle.refusal.specs.Verdict.{Verdict}
+use Rattle.refusal.specs.Verdict.{accepted}
 use Rattle.layout.specs.Layout.{productions, start_sort, argument_count, result_sort}
 use Rattle.layout.specs.Limits.{production_limit}
 use Rattle.load.proofs.NamesLaws.{names_accepted, class_accepted}
@@ -41,7 +41,7 @@ use Rattle.priority.specs.Check.{checked}
 use Rattle.theorems.specs.Theorems.{start_entries}
 use Rattle.theory.specs.Tree.{Tree, Forest, production_number, yield, yields}
 
-module _ (b : List ℕ) (bytes : (k : ℕ) → get_or b k 0 < characters) (accepted : checked b ≡ Accepted) where
+module _ (b : List ℕ) (bytes : (k : ℕ) → get_or b k 0 < characters) (accepted : checked b ≡ accepted) where
   abbrev formed : WellFormed b
   formed = accepted_formed b accepted
 
@@ -82,7 +82,7 @@ module _ (b : List ℕ) (bytes : (k : ℕ) → get_or b k 0 < characters) (accep
   entry_at : (q : ℕ) → q < production_limit → get_or (start_entries b) q false ≡ (ltb q (productions b) && eqb (result_sort b q) (start_sort b))
   entry_at q l = get_d_tabulate production_limit (λ r. ltb r (productions b) && eqb (result_sort b r) (start_sort b)) q false l
 
-  root_accepted : absent_in (length g) (root_class (start_entries b)) ≡ Accepted
+  root_accepted : absent_in (length g) (root_class (start_entries b)) ≡ accepted
   root_accepted =
       class_accepted (length g) (root_class (start_entries b))
       (λ q l h. root_number_lem (start_entries b) q ∙ entry_at q h ∙ rw (le-ltb q (productions b) (omega (arith, flat_length b))) refl)

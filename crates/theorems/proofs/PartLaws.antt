@@ -16,7 +16,7 @@ use Rattle.grammar.proofs.ArgumentLaws.{sort_no_class}
 use Rattle.grammar.proofs.EqualLaws.{equal_sym}
 use Rattle.grammar.specs.Check.{same_production}
 use Rattle.grammar.specs.Formed.{WellFormed}
-use Rattle.grammar.specs.declared.Verdict.TheVariants.{Accepted}
+use Rattle.refusal.specs.Verdict.{accepted}
 use Rattle.layout.specs.Layout.{productions, start_sort, argument_count, result_sort, argument}
 use Rattle.parse.specs.Outcome.{Outcome}
 use Rattle.priority.proofs.CheckLaws.{accepted_formed}
@@ -142,7 +142,7 @@ module _ (b : List ℕ) (w : WellFormed b) where
         (lists_part p f g d (yield t ++ r) (yield u ++ s) h.0 k.0 moved)
 
 -- the readings of a text
-module _ (b : List ℕ) (e : checked b ≡ Accepted) (w : List ℕ) where
+module _ (b : List ℕ) (e : checked b ≡ accepted) (w : List ℕ) where
   pub readings_part : (t u : Tree) → Reading b w t → Reading b w u → (t ≡ u → ⊥) → Part b (listing t) (listing u)
   readings_part t u h k n =
       ⊎_elim

@@ -49,7 +49,7 @@ use Rattle.theorems.proofs.ComparedLaws.{uses_listed, says_trees, compared_swapp
 use Rattle.theorems.proofs.OneRightLaws.{one_right}
 use Rattle.theorems.proofs.PassesLaws.{test_passes, tree_passes, flat_passes, table_passes}
 use Rattle.theorems.proofs.TurnedLaws.{turned_question, turned_listing, turned_page, turned_row, turned_part}
-use Rattle.grammar.specs.declared.Verdict.TheVariants.{Refused}
+use Rattle.std.specs.Prelude.{Err}
 use Rattle.listing.proofs.RefusedLaws.{grammar_exactly as listing_grammar, ten_exactly as listing_ten, eleven_exactly, right_exactly}
 use Rattle.listing.specs.Answer.{listing_answer}
 use Rattle.marked.proofs.Marked.{marked_outcomes}

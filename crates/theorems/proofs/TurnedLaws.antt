@@ -10,7 +10,7 @@ use Rattle.flatten.proofs.TurnedLaws.{turned_flat, turned_root, turned_reading}
 use Rattle.grammar.proofs.SameFrontLaws.{same_productions, same_count}
 use Rattle.grammar.proofs.TurnedLaws.{turned_front, turned_back}
 use Rattle.grammar.specs.Turned.{TurnedRound}
-use Rattle.grammar.specs.Verdict.{unless_refused}
+use Rattle.refusal.specs.Verdict.{unless_refused}
 use Rattle.listing.specs.Answer.{judged, listing_answer}
 use Rattle.listing.specs.declared.ListingAnswer.{ListingAnswer}
 use Rattle.listing.specs.declared.ListingAnswer.TheVariants.{Right, Wrong, Refused as NotChecked}

@@ -18,12 +18,13 @@ use Rattle.common.proofs.BoolLaws.{or_second, and_first_true, and_second_true, t
 use Rattle.common.specs.Below.{any_below}
 use Rattle.flatten.specs.Trees.{Built, Arguments, RootConflict, conflict_at, HasConflictIn}
 use Rattle.grammar.proofs.EqualLaws.{argument_exactly, equal_exactly, equal_sym}
-use Rattle.grammar.proofs.VerdictLaws.{refuse_accepted, refuse_case, and_first, and_second, accepted_last, first_all, first_pass, first_same, first_of, order_append}
+use Rattle.refusal.proofs.VerdictLaws.{refuse_accepted, refuse_case, and_first, and_second, accepted_last, first_all, first_pass, first_same, first_of, order_append}
 use Rattle.grammar.specs.Check.{short_header, bad_header, short_contents, bad_argument_counts, bad_range_counts, bad_length, bad_productions, bad_declarations, same_production, repeated_production, repeated_productions}
 use Rattle.grammar.specs.Equal.{OneArgument}
-use Rattle.grammar.specs.Verdict.{refuse_if, and_then, in_order}
-use Rattle.grammar.specs.declared.Verdict.{Verdict}
-use Rattle.grammar.specs.declared.Verdict.TheVariants.{Accepted, Refused}
+use Rattle.refusal.specs.Verdict.{refuse_if, and_then, in_order}
+use Rattle.refusal.specs.Verdict.{Verdict}
+use Rattle.std.specs.Prelude.{Err}
+use Rattle.refusal.specs.Verdict.{accepted}
 use Rattle.layout.specs.Layout.{sorts, productions, classes, argument_count, production_at, result_sort, argument}
 use Rattle.layout.specs.Limits.{sort_limit, class_base}
 use Rattle.priority.specs.Check.{circles, checked}
@@ -131,7 +132,7 @@ module _ (b : List ℕ) where
       )
 
   -- what the former 8 refused is refused by 8
-  former_passed : repeated_productions b ≡ Accepted → former_eight b ≡ Accepted
+  former_passed : repeated_productions b ≡ accepted → former_eight b ≡ accepted
   unfolding repeated_production
   former_passed e =
       first_pass _ (productions b) (λ p l.
@@ -163,18 +164,18 @@ module _ (b : List ℕ) where
   unfolding before8
   former_eight_lem = order_append before8 (former_eight b ∷ circles b ∷ [])
 
-  pub still_refused_lem : checked b ≡ Accepted → former_checked b ≡ Accepted
+  pub still_refused_lem : checked b ≡ accepted → former_checked b ≡ accepted
   still_refused_lem e =
       let whole = sym checked_eight ∙ e in
       let front = and_first (in_order before8) _ whole in
       let back = and_second (in_order before8) _ whole in
       former_eight_lem ∙ rw (front, former_passed (and_first (repeated_productions b) (circles b) back)) (and_second (repeated_productions b) (circles b) back)
 
-  by_eight : (v : Verdict) → repeated_productions b ≡ v → checked b ≡ v → (checked b ≡ Accepted) ⊎ ((place : ℕ) × (checked b ≡ Refused 8 place))
-  by_eight Accepted e h = inl h
+  by_eight : (v : Verdict) → repeated_productions b ≡ v → checked b ≡ v → (checked b ≡ accepted) ⊎ ((place : ℕ) × (checked b ≡ Refused 8 place))
+  by_eight accepted e h = inl h
   by_eight (Refused n k) e h = inr (k, h ∙ ap (λ (m : ℕ). Refused m k) (eight e))
 
-  pub refused_now_lem : former_checked b ≡ Accepted → (checked b ≡ Accepted) ⊎ ((place : ℕ) × (checked b ≡ Refused 8 place))
+  pub refused_now_lem : former_checked b ≡ accepted → (checked b ≡ accepted) ⊎ ((place : ℕ) × (checked b ≡ Refused 8 place))
   refused_now_lem e =
       let whole = sym former_eight_lem ∙ e in
       let front = and_first (in_order before8) _ whole in

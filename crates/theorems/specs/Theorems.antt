@@ -64,9 +64,10 @@ use Rattle.numbers.specs.Written.{bytes_of}
 use Rattle.grammar.specs.Check.{outside, short_header, bad_header, short_contents, bad_argument_counts, bad_range_counts, bad_length, bad_productions, is_group, bad_declaration, bad_declarations, same_production, repeated_productions}
 use Rattle.grammar.specs.Equal.{OneProduction}
 use Rattle.grammar.specs.Turned.{TurnedRound, RangesRise, risen}
-use Rattle.grammar.specs.Verdict.{refuse_if, first_refusal, in_order}
-use Rattle.grammar.specs.declared.Verdict.{Verdict}
-use Rattle.grammar.specs.declared.Verdict.TheVariants.{Accepted, Refused}
+use Rattle.refusal.specs.Verdict.{refuse_if, first_refusal, in_order}
+use Rattle.refusal.specs.Verdict.{Verdict}
+use Rattle.std.specs.Prelude.{Err}
+use Rattle.refusal.specs.Verdict.{accepted}
 use Rattle.layout.specs.Layout.{productions, classes, declarations, start_sort, argument_count, range_count, production_at, result_sort, argument, range_at, low, high, declaration_at, kind, first, second}
 use Rattle.layout.specs.Limits.{production_limit, class_base, pair_kind_limit}
 use Rattle.listing.specs.Answer.{byte_limit, listing_answer}
@@ -119,7 +120,7 @@ Bytes l = (k : ℕ) → get_or l k 0 < characters
 
 -- A grammar is accepted exactly if no line of the table of refusals holds (Holds: a constructor to a line).
 abbrev pub AcceptedExactly : Type 0
-AcceptedExactly = (b : List ℕ) → (checked b ≡ Accepted) ↔ ((stage number place : ℕ) → Holds b stage number place → ⊥)
+AcceptedExactly = (b : List ℕ) → (checked b ≡ accepted) ↔ ((stage number place : ℕ) → Holds b stage number place → ⊥)
 
 -- It is refused exactly by the first line that holds: the paper's order of lines, and in one stage the lowest place.
 abbrev pub RefusedExactly : Type 0
@@ -128,16 +129,16 @@ RefusedExactly = (b : List ℕ) (number place : ℕ) → (checked b ≡ Refused 
 -- Does production q conflict as argument i of p? Yes, no, and 7 with place 0 if one of them isn't there, for every b, p, i and q; no refusal comes but this and
 -- the grammar's.
 pub record ConflictExactly (b : List ℕ) (p i q : ℕ) : Type 0 where
-  pub yes : (conflict_answer b p i q ≡ Yes) ↔ ((checked b ≡ Accepted) × There b p i q × Conflict b p i q)
-  pub no : (conflict_answer b p i q ≡ No) ↔ ((checked b ≡ Accepted) × There b p i q × (Conflict b p i q → ⊥))
-  pub absent : (conflict_answer b p i q ≡ NotAsked 7 0) ↔ ((checked b ≡ Accepted) × (There b p i q → ⊥))
-  pub refused : (n k : ℕ) → (conflict_answer b p i q ≡ NotAsked n k) ↔ ((checked b ≡ Refused n k) ⊎ ((checked b ≡ Accepted) × (There b p i q → ⊥) × (n ≡ 7) × (k ≡ 0)))
+  pub yes : (conflict_answer b p i q ≡ Yes) ↔ ((checked b ≡ accepted) × There b p i q × Conflict b p i q)
+  pub no : (conflict_answer b p i q ≡ No) ↔ ((checked b ≡ accepted) × There b p i q × (Conflict b p i q → ⊥))
+  pub absent : (conflict_answer b p i q ≡ NotAsked 7 0) ↔ ((checked b ≡ accepted) × (There b p i q → ⊥))
+  pub refused : (n k : ℕ) → (conflict_answer b p i q ≡ NotAsked n k) ↔ ((checked b ≡ Refused n k) ⊎ ((checked b ≡ accepted) × (There b p i q → ⊥) × (n ≡ 7) × (k ≡ 0)))
 
 -- The text of the character class grammar (flat book) is written exactly if it fits the buffer, which held out₀, and else refused with 21 and its length; the buffer
 -- then starts with the text, or is unchanged. For every b and out₀.
 pub record FlatExactly (b out₀ : List ℕ) : Type 0 where
-  pub fits : (n : ℕ) → (flat_answer b (length out₀) ≡ Written n) ↔ ((checked b ≡ Accepted) × (n ≡ length (grammar_text (flat_grammar b))) × (n ≤ length out₀))
-  pub too_long : (k : ℕ) → (flat_answer b (length out₀) ≡ NotWritten 21 k) ↔ ((checked b ≡ Accepted) × (k ≡ length (grammar_text (flat_grammar b))) × (length out₀ < k))
+  pub fits : (n : ℕ) → (flat_answer b (length out₀) ≡ Written n) ↔ ((checked b ≡ accepted) × (n ≡ length (grammar_text (flat_grammar b))) × (n ≤ length out₀))
+  pub too_long : (k : ℕ) → (flat_answer b (length out₀) ≡ NotWritten 21 k) ↔ ((checked b ≡ accepted) × (k ≡ length (grammar_text (flat_grammar b))) × (length out₀ < k))
   pub grammar : (n k : ℕ) → n ≤ 9 → (flat_answer b (length out₀) ≡ NotWritten n k) ↔ (checked b ≡ Refused n k)
   pub written : (n : ℕ) (text : List ℕ) → buffer_after (Written n) text out₀ ≡ text ++ drop (length text) out₀
   pub unwritten : (n k : ℕ) (text : List ℕ) → buffer_after (NotWritten n k) text out₀ ≡ out₀
@@ -145,8 +146,8 @@ pub record FlatExactly (b out₀ : List ℕ) : Type 0 where
 -- Reading a text is refused with 1 to 9, 10 and 20 exactly so, and by these refusals nothing is changed.
 pub record ReadingRefused (b w chart₀ l₀ : List ℕ) (r : Answer) (chart l : List ℕ) : Type 0 where
   pub grammar : (n k : ℕ) → n ≤ 9 → (r ≡ NotRead n k) ↔ (checked b ≡ Refused n k)
-  pub ten : (k : ℕ) → (r ≡ NotRead 10 k) ↔ ((checked b ≡ Accepted) × (text_limit < length w) × (k ≡ length w))
-  pub twenty : (k : ℕ) → (r ≡ NotRead 20 k) ↔ ((checked b ≡ Accepted) × (length w ≤ text_limit) × (k ≡ needed b (length w)) × (length chart₀ < k))
+  pub ten : (k : ℕ) → (r ≡ NotRead 10 k) ↔ ((checked b ≡ accepted) × (text_limit < length w) × (k ≡ length w))
+  pub twenty : (k : ℕ) → (r ≡ NotRead 20 k) ↔ ((checked b ≡ accepted) × (length w ≤ text_limit) × (k ≡ needed b (length w)) × (length chart₀ < k))
   pub unchanged : (n k : ℕ) → (n ≡ 22 → ⊥) → r ≡ NotRead n k → (chart ≡ chart₀) × (l ≡ l₀)
 
 abbrev pub Refuses : Type 0
@@ -160,10 +161,10 @@ OneOutcome =
 
 -- A listing is found right exactly if it is that of a reading and nothing is refused; the refusals come exactly so. For every w and l, and every b of bytes.
 pub record ListingExactly (b w l : List ℕ) : Type 0 where
-  pub right : (listing_answer b w l ≡ Right) ↔ ((checked b ≡ Accepted) × (length w ≤ text_limit) × (length l % 2 ≡ 0) × (length l ≤ byte_limit) × ((t : Tree) × Reading b w t × (listing t ≡ numbers_of l)))
+  pub right : (listing_answer b w l ≡ Right) ↔ ((checked b ≡ accepted) × (length w ≤ text_limit) × (length l % 2 ≡ 0) × (length l ≤ byte_limit) × ((t : Tree) × Reading b w t × (listing t ≡ numbers_of l)))
   pub grammar : (n k : ℕ) → n ≤ 9 → (listing_answer b w l ≡ NotChecked n k) ↔ (checked b ≡ Refused n k)
-  pub ten : (k : ℕ) → (listing_answer b w l ≡ NotChecked 10 k) ↔ ((checked b ≡ Accepted) × (text_limit < length w) × (k ≡ length w))
-  pub eleven : (k : ℕ) → (listing_answer b w l ≡ NotChecked 11 k) ↔ ((checked b ≡ Accepted) × (length w ≤ text_limit) × ((length l % 2 ≡ 1) ⊎ (byte_limit < length l)) × (k ≡ length l))
+  pub ten : (k : ℕ) → (listing_answer b w l ≡ NotChecked 10 k) ↔ ((checked b ≡ accepted) × (text_limit < length w) × (k ≡ length w))
+  pub eleven : (k : ℕ) → (listing_answer b w l ≡ NotChecked 11 k) ↔ ((checked b ≡ accepted) × (length w ≤ text_limit) × ((length l % 2 ≡ 1) ⊎ (byte_limit < length l)) × (k ≡ length l))
 
 -- What reading answered with one is found right, if it isn't too long to be checked.
 abbrev pub OneIsRight : Type 0
@@ -176,31 +177,31 @@ OneIsRight =
 
 -- The declarations of an accepted grammar are a priority declaration (Definition 2.5).
 abbrev pub Declares : Type 0
-Declares = (b : List ℕ) → checked b ≡ Accepted → PriorityDeclaration b
+Declares = (b : List ℕ) → checked b ≡ accepted → PriorityDeclaration b
 
 -- Algorithm 4.1 gives the flat grammar, unless a production of one argument is higher than one that fits it: there the algorithm takes out nothing and
 -- Definition 2.6, which decides, has a conflict. With M taken out there too it always does.
 abbrev pub FlatIsVisser : Type 0
-FlatIsVisser = (b : List ℕ) → Bytes b → checked b ≡ Accepted → (flat_grammar b ≡ visser_grammar b) ↔ (SingleHigher b → ⊥)
+FlatIsVisser = (b : List ℕ) → Bytes b → checked b ≡ accepted → (flat_grammar b ≡ visser_grammar b) ↔ (SingleHigher b → ⊥)
 
 abbrev pub FlatIsCompleted : Type 0
-FlatIsCompleted = (b : List ℕ) → Bytes b → checked b ≡ Accepted → flat_grammar b ≡ completed_grammar b
+FlatIsCompleted = (b : List ℕ) → Bytes b → checked b ≡ accepted → flat_grammar b ≡ completed_grammar b
 
 -- The trees of the flat grammar, in any class, are those built at their root's result without a conflict; in the class of an argument, also without one there.
 abbrev pub FlatTrees : Type 0
 FlatTrees =
-    (b : List ℕ) → Bytes b → checked b ≡ Accepted → (cc : Class) (p : ℕ) (f : Forest)
+    (b : List ℕ) → Bytes b → checked b ≡ accepted → (cc : Class) (p : ℕ) (f : Forest)
     → Generated (flat_grammar b) cc (node p f) ↔ ((cc (production_number p) ≡ true) × Built b (result_sort b p) (node p f) × ConflictFree b (node p f))
 
 abbrev pub FlatArguments : Type 0
 FlatArguments =
-    (b : List ℕ) → Bytes b → checked b ≡ Accepted → (p i : ℕ) (t : Tree)
+    (b : List ℕ) → Bytes b → checked b ≡ accepted → (p i : ℕ) (t : Tree)
     → Generated (flat_grammar b) (flat_class b p i) t ↔ (Built b (argument b p i) t × ConflictFree b t × Apart b p i t)
 
 -- So the readings of a text are the trees of the flat grammar, in the class of the start sort's productions, that spell it.
 abbrev pub ReadingsAreFlat : Type 0
 ReadingsAreFlat =
-    (b : List ℕ) → Bytes b → checked b ≡ Accepted → (w : List ℕ) (t : Tree)
+    (b : List ℕ) → Bytes b → checked b ≡ accepted → (w : List ℕ) (t : Tree)
     → Reading b w t ↔ (Generated (flat_grammar b) (plain_class b (start_sort b)) t × (yield t ≡ w))
 
 -- ---- 3. "For every accepted book, however its rules loop or vanish, every line within the limit, every chart long enough and every listing buffer, whatever chart and
@@ -227,7 +228,7 @@ pub record ReadExactly (s : Parsing) (chart₀ l₀ : List ℕ) (r : Answer) (ch
 abbrev pub Read : Type 0
 Read =
     (b w chart₀ l₀ : List ℕ) (r : Answer) (chart l : List ℕ) → Outcome b w chart₀ l₀ r chart l
-    → checked b ≡ Accepted → length w ≤ text_limit → needed b (length w) ≤ length chart₀ → ReadExactly (reading_by b w) chart₀ l₀ r chart l
+    → checked b ≡ accepted → length w ≤ text_limit → needed b (length w) ≤ length chart₀ → ReadExactly (reading_by b w) chart₀ l₀ r chart l
 
 -- ---- "I need it over trees and not over a search, because what comes next is lodging flat books without our software, and a later reader must find what we found."
 
@@ -238,12 +239,12 @@ TextDetermines = (g h : List Line) → WrittenForm g → WrittenForm h → gramm
 -- Whoever has a flat grammar whose text is the one lodged, and the numbers of the start sort, finds exactly the readings of every text.
 abbrev pub Archived : Type 0
 Archived =
-    (b : List ℕ) → Bytes b → checked b ≡ Accepted → (g : List Line) → WrittenForm g → grammar_text g ≡ grammar_text (flat_grammar b)
+    (b : List ℕ) → Bytes b → checked b ≡ accepted → (g : List Line) → WrittenForm g → grammar_text g ≡ grammar_text (flat_grammar b)
     → (top : Class) → ((n : ℕ) → top n ≡ plain_class b (start_sort b) n) → (w : List ℕ) (t : Tree) → (Generated g top t × (yield t ≡ w)) ↔ Reading b w t
 
 -- There is one: the flat grammar itself is in that form.
 abbrev pub FlatIsWritten : Type 0
-FlatIsWritten = (b : List ℕ) → Bytes b → checked b ≡ Accepted → WrittenForm (flat_grammar b)
+FlatIsWritten = (b : List ℕ) → Bytes b → checked b ≡ accepted → WrittenForm (flat_grammar b)
 
 -- ---- Request 1. "For a book, text and listing we want a page of 73 bytes a number: …" "The text under a number is that part of the lent text, handed back and not
 -- copied, and other callers may have it too."
@@ -337,7 +338,7 @@ GroupsAreTheirPairs = (b : List ℕ) → SpelledOut b (spelled_out (declarations
 -- The book with each pair spelled out (`spelled_grammar`, beside `spelled_out`): the grammar's own numbers, but for the count of declarations and these themselves.
 -- It is accepted, has no group, and has the same conflicts, flat grammar and readings; it is a grammar of bytes if it has at most 255 declarations.
 pub record SpelledSame (b : List ℕ) : Type 0 where
-  pub accepted : checked (spelled_grammar b) ≡ Accepted
+  pub accepted : checked (spelled_grammar b) ≡ accepted
   pub no_group : (d : ℕ) → d < declarations (spelled_grammar b) → is_group (kind (spelled_grammar b) d) ≡ false
   pub conflict : (p i q : ℕ) → There b p i q → Conflict (spelled_grammar b) p i q ↔ Conflict b p i q
   pub flat : flat_grammar (spelled_grammar b) ≡ flat_grammar b
@@ -345,7 +346,7 @@ pub record SpelledSame (b : List ℕ) : Type 0 where
   pub bytes : Bytes b → length (spelled_out (declarations_of b)) ≤ 255 → Bytes (spelled_grammar b)
 
 abbrev pub SpelledBooks : Type 0
-SpelledBooks = (b : List ℕ) → checked b ≡ Accepted → SpelledSame b
+SpelledBooks = (b : List ℕ) → checked b ≡ accepted → SpelledSame b
 
 -- A declaration of two productions covers what it did before there were groups, and refusal 7 judges it as it did. (No other definition knows of kinds.)
 pub record AsBefore (b : List ℕ) (d : ℕ) : Type 0 where
@@ -399,7 +400,7 @@ pub record Rises (b : List ℕ) : Type 0 where
   pub bytes : Bytes b → Bytes (risen b)
 
 abbrev pub RangesCanRise : Type 0
-RangesCanRise = (b : List ℕ) → checked b ≡ Accepted → Rises b
+RangesCanRise = (b : List ℕ) → checked b ≡ accepted → Rises b
 
 -- Of a grammar whose ranges rise nothing has changed by this request: a class has the characters that it had, and the grammar is judged as it was while 6 stood between 5
 -- and 7.
@@ -452,8 +453,8 @@ pub record LinesSay (s : List ℕ) : Type 0 where
 -- determines the answer and every byte of the chart and the summary.
 pub record SheetExactly (b s chart₀ m₀ : List ℕ) (r : WriteAnswer) (chart m : List ℕ) : Type 0 where
   pub grammar : (n k : ℕ) → n ≤ 9 → (r ≡ NotWritten n k) ↔ (checked b ≡ Refused n k)
-  pub too_long : (k : ℕ) → (r ≡ NotWritten 25 k) ↔ ((checked b ≡ Accepted) × (65535 < length s) × (k ≡ length s))
-  pub too_short : (k : ℕ) → (r ≡ NotWritten 26 k) ↔ (((checked b ≡ Accepted) × (length s ≤ 65535)) × (length m₀ < length (lines s)) × (k ≡ length (lines s)))
+  pub too_long : (k : ℕ) → (r ≡ NotWritten 25 k) ↔ ((checked b ≡ accepted) × (65535 < length s) × (k ≡ length s))
+  pub too_short : (k : ℕ) → (r ≡ NotWritten 26 k) ↔ (((checked b ≡ accepted) × (length s ≤ 65535)) × (length m₀ < length (lines s)) × (k ≡ length (lines s)))
   pub no_other : (n k : ℕ) → r ≡ NotWritten n k → (n ≤ 9) ⊎ ((n ≡ 25) ⊎ (n ≡ 26))
   pub unchanged : (n k : ℕ) → r ≡ NotWritten n k → (chart ≡ chart₀) × (m ≡ m₀)
   pub count : (n : ℕ) → r ≡ Written n → n ≡ length (lines s)
@@ -473,7 +474,7 @@ pub record LineAlone (v : ℕ) (chart : List ℕ) (r : Answer) (chart' : List �
 
 abbrev pub LinesAlone : Type 0
 LinesAlone =
-    (b : List ℕ) → checked b ≡ Accepted → (w chart₀ : List ℕ) (v : ℕ) (chart : List ℕ) → LineBy b w chart₀ v chart
+    (b : List ℕ) → checked b ≡ accepted → (w chart₀ : List ℕ) (v : ℕ) (chart : List ℕ) → LineBy b w chart₀ v chart
     → (l₀ : List ℕ) (r : Answer) (chart' l : List ℕ) → Outcome b w chart₀ l₀ r chart' l → LineAlone v chart r chart'
 
 -- "No line is left once the start is at or past the sheet's end; a start inside a line takes its rest as the line; refused for the book or by 25, it stays where it is."
@@ -481,9 +482,9 @@ LinesAlone =
 -- others start behind it. What was lent determines all of it.
 pub record StepExactly (b s : List ℕ) (start : ℕ) (chart₀ : List ℕ) (r : Step) (next : ℕ) (chart : List ℕ) : Type 0 where
   pub grammar : (n k : ℕ) → n ≤ 9 → (r ≡ NotTaken n k) ↔ (checked b ≡ Refused n k)
-  pub too_long : (k : ℕ) → (r ≡ NotTaken 25 k) ↔ ((checked b ≡ Accepted) × (65535 < length s) × (k ≡ length s))
+  pub too_long : (k : ℕ) → (r ≡ NotTaken 25 k) ↔ ((checked b ≡ accepted) × (65535 < length s) × (k ≡ length s))
   pub no_other : (n k : ℕ) → r ≡ NotTaken n k → (n ≤ 9) ⊎ (n ≡ 25)
-  pub end : (r ≡ End) ↔ (((checked b ≡ Accepted) × (length s ≤ 65535)) × (length s ≤ start))
+  pub end : (r ≡ End) ↔ (((checked b ≡ accepted) × (length s ≤ 65535)) × (length s ≤ start))
   pub stays : ((v : ℕ) → r ≡ LineRead v → ⊥) → (next ≡ start) × (chart ≡ chart₀)
   pub line : (v : ℕ) → r ≡ LineRead v → LineBy b (line_at s start) chart₀ v chart
   pub others : (v : ℕ) → r ≡ LineRead v → (lines (drop start s) ≡ line_at s start ∷ lines (drop next s)) × (start < next) × (next ≤ length s)
@@ -526,7 +527,7 @@ Part b l m = (same : List ℕ) × (p : ℕ) × (q : ℕ) × PartAt b l m same p 
 
 -- The listings of any two readings part so, whatever their size.
 abbrev pub ReadingsPart : Type 0
-ReadingsPart = (b : List ℕ) → checked b ≡ Accepted → (w : List ℕ) (t u : Tree) → Reading b w t → Reading b w u → (t ≡ u → ⊥) → Part b (listing t) (listing u)
+ReadingsPart = (b : List ℕ) → checked b ≡ accepted → (w : List ℕ) (t u : Tree) → Reading b w t → Reading b w u → (t ≡ u → ⊥) → Part b (listing t) (listing u)
 
 -- So whoever gets "several" has two readings whose listings part so.
 abbrev pub SeveralPart : Type 0
@@ -572,8 +573,8 @@ former_checked b =
 -- No grammar is accepted that was refused; one that was accepted still is, or it is refused by 8 (`TwinsRefused`). Where no two classes are the same set, the check gives
 -- what it gave. (No other definition has changed.)
 pub record EqualAsBefore (b : List ℕ) : Type 0 where
-  pub still_refused : checked b ≡ Accepted → former_checked b ≡ Accepted
-  pub refused_now : former_checked b ≡ Accepted → (checked b ≡ Accepted) ⊎ ((place : ℕ) × (checked b ≡ Refused 8 place))
+  pub still_refused : checked b ≡ accepted → former_checked b ≡ accepted
+  pub refused_now : former_checked b ≡ accepted → (checked b ≡ accepted) ⊎ ((place : ℕ) × (checked b ≡ Refused 8 place))
   pub judged : ((j k : ℕ) → j < k → k < classes b → same_class b j k ≡ false) → checked b ≡ former_checked b
 
 -- ---- Request 6. "Show that each numeral, read in base ten, gives its number and begins with 0 only for 0, and that a byte passes a class exactly if some range of it,
@@ -691,7 +692,7 @@ pub record Corners : Type 0 where
 -- no chain has as many declarations as there are productions.
 pub record Chains (b : List ℕ) (x y : ℕ) : Type 0 where
   pub some : Higher b x y ↔ ((chain : List ℕ) × Leads b chain x y)
-  pub short : checked b ≡ Accepted → (chain : List ℕ) → Leads b chain x y → length chain < productions b
+  pub short : checked b ≡ accepted → (chain : List ℕ) → Leads b chain x y → length chain < productions b
 
 -- "Yes and no come exactly as in the plain question"; so do the refusals. Each line comes exactly if it is the lowest that holds (`LowestLine`, reason/specs/Reason: over all that a conflict may
 -- be by), and then "a chain of declarations of kind 1 from p to q …, as short as any" (`Shortest`), or "the lowest declaration, single or group, of a kind that the line names,
@@ -754,7 +755,7 @@ pub record OrderOf (b : List ℕ) : Type 0 where
   pub alike : (l m n k : Uses) → EqualCounts b l m → EqualCounts b n k → Lower b l n → Lower b m k
 
 abbrev pub Orders : Type 0
-Orders = (b : List ℕ) → checked b ≡ Accepted → OrderOf b
+Orders = (b : List ℕ) → checked b ≡ accepted → OrderOf b
 
 -- So are the answers, for the readings of a text.
 pub record AnswersInOrder (b w l m n : List ℕ) : Type 0 where

@@ -1,6 +1,6 @@
 -- `behind_class` meets its contract.
 use Rattle.form.specs.Step.{behind_class}
-use Rattle.grammar.proofs.VerdictLaws.{cases}
+use Rattle.refusal.proofs.VerdictLaws.{cases}
 use Rattle.form.proofs.behind_class.Goals as goal
 
 pub returns-then-byte-eq32 : goal.returns-then-byte-eq32

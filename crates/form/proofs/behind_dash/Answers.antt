@@ -1,6 +1,6 @@
 -- `behind_dash` meets its contract.
 use Rattle.form.specs.Step.{behind_dash}
-use Rattle.grammar.proofs.VerdictLaws.{cases}
+use Rattle.refusal.proofs.VerdictLaws.{cases}
 use Rattle.form.proofs.behind_dash.Goals as goal
 
 pub returns-then-byte-eq92 : goal.returns-then-byte-eq92

@@ -3,7 +3,7 @@ use mathlib.Core.Path.{refl}
 use borrow.Author.Tests.{eq-eqb}
 use Rattle.ccg.specs.Text.{dash}
 use Rattle.form.specs.Step.{behind_number}
-use Rattle.grammar.proofs.VerdictLaws.{cases}
+use Rattle.refusal.proofs.VerdictLaws.{cases}
 use Rattle.form.proofs.behind_number.Goals as goal
 
 pub returns-then-dashed : goal.returns-then-dashed

@@ -1,6 +1,6 @@
 -- `in_line` meets its contract.
 use Rattle.form.specs.Step.{in_line}
-use Rattle.grammar.proofs.VerdictLaws.{cases}
+use Rattle.refusal.proofs.VerdictLaws.{cases}
 use Rattle.form.proofs.in_line.Goals as goal
 
 pub returns-then-line-ge-PRODUCTION_LIMIT : goal.returns-then-line-ge-PRODUCTION_LIMIT

@@ -1,6 +1,6 @@
 -- `is_digit` meets its contract.
 use Rattle.writing.specs.Digits.{is_digit}
-use Rattle.grammar.proofs.VerdictLaws.{cases}
+use Rattle.refusal.proofs.VerdictLaws.{cases}
 use Rattle.form.proofs.is_digit.Goals as goal
 
 pub returns : goal.returns

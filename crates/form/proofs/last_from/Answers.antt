@@ -1,6 +1,6 @@
 -- `last_from` meets its contract.
 use Rattle.form.specs.Step.{last_from}
-use Rattle.grammar.proofs.VerdictLaws.{cases}
+use Rattle.refusal.proofs.VerdictLaws.{cases}
 use Rattle.form.proofs.last_from.Goals as goal
 
 pub returns-then-low-lt-FIRST_PRODUCTION : goal.returns-then-low-lt-FIRST_PRODUCTION

@@ -1,6 +1,6 @@
 -- `meets` meets its contract.
 use Rattle.form.specs.Step.{meets}
-use Rattle.grammar.proofs.VerdictLaws.{cases}
+use Rattle.refusal.proofs.VerdictLaws.{cases}
 use Rattle.form.proofs.meets.Goals as goal
 
 pub returns : goal.returns

@@ -2,7 +2,7 @@
 use mathlib.Core.Path.{sym, ◌∙◌}
 use native.Mathlib.Omega.{arith}
 use Rattle.ccg.specs.Tables.{table_class}
-use Rattle.grammar.proofs.VerdictLaws.{first_none, first_more, first_found, first_done}
+use Rattle.refusal.proofs.VerdictLaws.{first_none, first_more, first_found, first_done}
 use Rattle.load.proofs.AbsentLaws.{absent_found, absent_passed}
 use Rattle.load.specs.Absent.{absent_at, absent_in}
 use Rattle.load.proofs.check_class.Goals as goal

@@ -2,13 +2,13 @@
 use Prim.Native.Nat.{◌-◌, ◌≤◌}
 use mathlib.Core.Path.{◌≡◌}
 use Rattle.ccg.specs.Tables.{table_class}
-use Rattle.grammar.specs.Verdict.{first_refusal}
-use Rattle.grammar.specs.declared.Verdict.TheVariants.{Accepted}
+use Rattle.refusal.specs.Verdict.{first_refusal}
+use Rattle.refusal.specs.Verdict.{accepted}
 use Rattle.load.specs.Absent.{absent_at}
 use Rattle.load.proofs.check_class.Given as goal
 
 abbrev pub invariant-loop-k : goal.invariant-loop-k
-invariant-loop-k l = (l.k ≤ l.absent) × (first_refusal l.k (absent_at l.count (table_class l.tables l.s)) ≡ Accepted)
+invariant-loop-k l = (l.k ≤ l.absent) × (first_refusal l.k (absent_at l.count (table_class l.tables l.s)) ≡ accepted)
 
 abbrev pub decreases-loop-k : goal.decreases-loop-k
 decreases-loop-k l = l.absent - l.k

@@ -4,7 +4,7 @@ use mathlib.Core.Path.{sym, ◌∙◌, ap}
 use native.Mathlib.Omega.{arith}
 use lib.ListN.{length}
 use Rattle.ccg.specs.Tables.{table_class, table_line}
-use Rattle.grammar.proofs.VerdictLaws.{first_none, first_more, first_found, first_done}
+use Rattle.refusal.proofs.VerdictLaws.{first_none, first_more, first_found, first_done}
 use Rattle.layout.specs.Limits.{argument_limit}
 use Rattle.load.proofs.AbsentLaws.{argument_slot, line_arguments}
 use Rattle.load.specs.Absent.{absent_in, absent_in_argument, absent_in_line}

@@ -3,14 +3,14 @@ use Prim.Native.Nat.{◌-◌, ◌≤◌}
 use mathlib.Core.Path.{◌≡◌}
 use lib.ListN.{length}
 use Rattle.ccg.specs.Tables.{table_line}
-use Rattle.grammar.specs.Verdict.{first_refusal}
-use Rattle.grammar.specs.declared.Verdict.TheVariants.{Accepted}
+use Rattle.refusal.specs.Verdict.{first_refusal}
+use Rattle.refusal.specs.Verdict.{accepted}
 use Rattle.load.specs.Absent.{absent_in_argument}
 use Rattle.tables.specs.Layout.{counts_of}
 use Rattle.load.proofs.check_line.Given as goal
 
 abbrev pub invariant-loop-i : goal.invariant-loop-i
-invariant-loop-i l = (l.i ≤ l.arguments) × (first_refusal l.i (absent_in_argument (length (counts_of l.tables)) (table_line l.tables l.p)) ≡ Accepted)
+invariant-loop-i l = (l.i ≤ l.arguments) × (first_refusal l.i (absent_in_argument (length (counts_of l.tables)) (table_line l.tables l.p)) ≡ accepted)
 
 abbrev pub decreases-loop-i : goal.decreases-loop-i
 decreases-loop-i l = l.arguments - l.i

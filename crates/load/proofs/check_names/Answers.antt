@@ -5,7 +5,7 @@ use native.Mathlib.Omega.{arith}
 use lib.ListN.{length}
 use Rattle.ccg.proofs.TablesLaws.{table_length}
 use Rattle.ccg.specs.Tables.{table_grammar}
-use Rattle.grammar.proofs.VerdictLaws.{first_none, first_more, first_found, first_done}
+use Rattle.refusal.proofs.VerdictLaws.{first_none, first_more, first_found, first_done}
 use Rattle.load.proofs.AbsentLaws.{line_at}
 use Rattle.load.specs.Absent.{absent_in_line_at, absent_names}
 use Rattle.tables.proofs.LayoutLaws.{counts_few}

@@ -2,13 +2,13 @@
 use Prim.Native.Nat.{◌-◌, ◌≤◌}
 use mathlib.Core.Path.{◌≡◌}
 use Rattle.ccg.specs.Tables.{table_grammar}
-use Rattle.grammar.specs.Verdict.{first_refusal}
-use Rattle.grammar.specs.declared.Verdict.TheVariants.{Accepted}
+use Rattle.refusal.specs.Verdict.{first_refusal}
+use Rattle.refusal.specs.Verdict.{accepted}
 use Rattle.load.specs.Absent.{absent_in_line_at}
 use Rattle.load.proofs.check_names.Given as goal
 
 abbrev pub invariant-loop-p : goal.invariant-loop-p
-invariant-loop-p l = (l.p ≤ l.count) × (first_refusal l.p (absent_in_line_at (table_grammar l.tables)) ≡ Accepted)
+invariant-loop-p l = (l.p ≤ l.count) × (first_refusal l.p (absent_in_line_at (table_grammar l.tables)) ≡ accepted)
 
 abbrev pub decreases-loop-p : goal.decreases-loop-p
 decreases-loop-p l = l.count - l.p

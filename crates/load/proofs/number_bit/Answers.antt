@@ -1,5 +1,5 @@
 -- `number_bit` meets its contract.
-use Rattle.grammar.proofs.VerdictLaws.{cases}
+use Rattle.refusal.proofs.VerdictLaws.{cases}
 use Rattle.load.specs.Held.{number_bit}
 use Rattle.load.proofs.number_bit.Goals as goal
 

@@ -1,7 +1,7 @@
 -- `check_circles` meets its contract: no production passed is higher than itself.
 use mathlib.Core.Path.{refl, sym}
 use native.Mathlib.Omega.{arith}
-use Rattle.grammar.proofs.VerdictLaws.{first_none, first_more, first_found, first_done}
+use Rattle.refusal.proofs.VerdictLaws.{first_none, first_more, first_found, first_done}
 use Rattle.priority.specs.Chain.{entry}
 use Rattle.priority.specs.Check.{on_diagonal}
 use Rattle.priority.proofs.check_circles.Goals as goal

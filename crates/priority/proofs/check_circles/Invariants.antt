@@ -1,13 +1,13 @@
 -- `check_circles` meets its contract: no production passed is higher than itself.
 use Prim.Native.Nat.{◌-◌, ◌≤◌}
 use mathlib.Core.Path.{◌≡◌}
-use Rattle.grammar.specs.Verdict.{first_refusal}
-use Rattle.grammar.specs.declared.Verdict.TheVariants.{Accepted}
+use Rattle.refusal.specs.Verdict.{first_refusal}
+use Rattle.refusal.specs.Verdict.{accepted}
 use Rattle.priority.specs.Check.{on_diagonal}
 use Rattle.priority.proofs.check_circles.Given as goal
 
 abbrev pub invariant-loop-p : goal.invariant-loop-p
-invariant-loop-p l = (l.p ≤ l.count) × (first_refusal l.p (on_diagonal l.table) ≡ Accepted)
+invariant-loop-p l = (l.p ≤ l.count) × (first_refusal l.p (on_diagonal l.table) ≡ accepted)
 
 abbrev pub decreases-loop-p : goal.decreases-loop-p
 decreases-loop-p l = l.count - l.p

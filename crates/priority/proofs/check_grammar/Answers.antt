@@ -3,8 +3,8 @@ use Prim.Native.Nat.{ℕ}
 use mathlib.Core.Path.{sym, ◌∙◌, ap}
 use native.Mathlib.Omega.{arith}
 use Rattle.grammar.proofs.FormedLaws.{framed, well_formed}
-use Rattle.grammar.proofs.VerdictLaws.{first_same}
-use Rattle.grammar.specs.Verdict.{first_refusal}
+use Rattle.refusal.proofs.VerdictLaws.{first_same}
+use Rattle.refusal.specs.Verdict.{first_refusal}
 use Rattle.layout.specs.Layout.{productions}
 use Rattle.priority.proofs.CheckLaws.{checked_frame, checked_bodies, checked_circles}
 use Rattle.priority.proofs.PriorityLaws.{diagonal_circle}

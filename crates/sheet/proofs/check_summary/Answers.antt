@@ -1,7 +1,7 @@
 -- `check_summary` meets its contract: what refuses a step first, then the length of the summary.
 use mathlib.Core.Path.{sym, ◌∙◌, ap}
 use native.Mathlib.Omega.{arith}
-use Rattle.grammar.specs.declared.Verdict.TheVariants.{Refused}
+use Rattle.std.specs.Prelude.{Err}
 use Rattle.sheet.proofs.RefusalLaws.{sheet_step, sheet_few, sheet_allowed}
 use Rattle.sheet.proofs.check_summary.Goals as goal
 

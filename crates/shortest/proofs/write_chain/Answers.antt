@@ -6,7 +6,7 @@ use mathlib.Core.Logic.{⊎_elim}
 use native.Mathlib.Omega.{arith}
 use lib.ListN.{length, get_or}
 use Rattle.common.proofs.ListLaws.{get_d_there}
-use Rattle.grammar.specs.declared.Verdict.TheVariants.{Accepted}
+use Rattle.refusal.specs.Verdict.{accepted}
 use Rattle.layout.proofs.FramedLaws.{bodies_in}
 use Rattle.layout.specs.Limits.{production_limit}
 use Rattle.priority.proofs.CheckLaws.{accepted_formed}
@@ -19,13 +19,13 @@ use Rattle.shortest.specs.Search.{far, away, Rounds, way, Steps}
 use Rattle.shortest.proofs.write_chain.Goals as goal
 
 -- both productions are there
-there : (b : List ℕ) (p q : ℕ) → checked b ≡ Accepted → Higher b p q → (p < production_limit) × (q < production_limit)
+there : (b : List ℕ) (p q : ℕ) → checked b ≡ accepted → Higher b p q → (p < production_limit) × (q < production_limit)
 there b p q e h =
     let w = accepted_formed b e in
     let (hp, hq) = higher_there_lem b w h in
     (omega (arith, hp, w.framed.few_productions), omega (arith, hq, w.framed.few_productions))
 
-module _ (b : List ℕ) (p q : ℕ) (e : checked b ≡ Accepted) (h : Higher b p q) (k : ℕ) (distance next : List ℕ) (r : Rounds b q k distance next) where
+module _ (b : List ℕ) (p q : ℕ) (e : checked b ≡ accepted) (h : Higher b p q) (k : ℕ) (distance next : List ℕ) (r : Rounds b q k distance next) where
   -- the distance as code reads it
   read : get_or distance p 0 ≡ away distance p
   read = get_d_there distance p 0 far (omega (arith, r.sound.distances, (there b p q e h).0))

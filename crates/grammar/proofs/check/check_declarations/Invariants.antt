@@ -2,13 +2,10 @@
 use Prim.Native.Nat.{◌-◌, ◌≤◌}
 use mathlib.Core.Path.{◌≡◌}
 use Rattle.grammar.specs.Check.{bad_declaration}
-use Rattle.grammar.specs.Verdict.{first_refusal}
-use Rattle.grammar.specs.declared.Verdict.TheVariants.{Accepted}
+use Rattle.refusal.specs.Verdict.{first_refusal}
+use Rattle.refusal.specs.Verdict.{accepted}
 use Rattle.layout.specs.Layout.{declaration_at}
 use Rattle.grammar.proofs.check.check_declarations.Given as goal
 
 abbrev pub invariant-loop-d : goal.invariant-loop-d
-invariant-loop-d l = (l.at ≡ declaration_at l.book l.d) × (l.d ≤ l.count) × (first_refusal l.d (bad_declaration l.book) ≡ Accepted)
-
-abbrev pub decreases-loop-d : goal.decreases-loop-d
-decreases-loop-d l = l.count - l.d
+invariant-loop-d l = (l.at ≡ declaration_at l.book l.d) × (first_refusal l.d (bad_declaration l.book) ≡ accepted)

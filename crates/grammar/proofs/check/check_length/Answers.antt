@@ -17,16 +17,7 @@ unfolding bad_length
 returns-then-book-needed c =
     let b = c.args.book.now in
     let n = needed b _ _ c.declaration_count.ensures c.declaration_at-needed.ensures in
-    let m : min (length b) c.declaration_at-needed.result ≡ length b = omega arith in
-    rw (n, ne_eqb (length b) c.declaration_at-needed.result (λ e. omega arith), m) refl
-
-pub returns-then-needed-book : goal.returns-then-needed-book
-unfolding bad_length
-returns-then-needed-book c =
-    let b = c.args.book.now in
-    let n = needed b _ _ c.declaration_count.ensures c.declaration_at-needed.ensures in
-    let m : min (length b) c.declaration_at-needed.result ≡ c.declaration_at-needed.result = omega arith in
-    rw (n, ne_eqb (length b) c.declaration_at-needed.result (λ e. omega arith), m) refl
+    rw (n, ne_eqb (length b) c.declaration_at-needed.result c.if-book-needed.true, c.at.ensures, c.min.ensures) refl
 
 pub returns : goal.returns
 unfolding bad_length

@@ -12,7 +12,7 @@ byte_at-requires c = omega (arith, production_in c.args.book.now c.requires.fram
 
 pub returns-then-sort_count-byte_at : goal.returns-then-sort_count-byte_at
 unfolding bad_production result_sort
-returns-then-sort_count-byte_at c = rw (← c.requires.at_value, ← c.sort_count.ensures, ← c.byte_at.ensures, le-leb _ _ c.if-sort_count-byte_at.true) refl
+returns-then-sort_count-byte_at c = rw (c.at.ensures, ← c.requires.at_value, ← c.sort_count.ensures, ← c.byte_at.ensures, le-leb _ _ c.if-sort_count-byte_at.true) refl
 
 pub returns : goal.returns
 unfolding bad_production result_sort

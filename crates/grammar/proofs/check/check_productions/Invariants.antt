@@ -2,13 +2,10 @@
 use Prim.Native.Nat.{◌-◌, ◌≤◌}
 use mathlib.Core.Path.{◌≡◌}
 use Rattle.grammar.specs.Check.{bad_production}
-use Rattle.grammar.specs.Verdict.{first_refusal}
-use Rattle.grammar.specs.declared.Verdict.TheVariants.{Accepted}
+use Rattle.refusal.specs.Verdict.{first_refusal}
+use Rattle.refusal.specs.Verdict.{accepted}
 use Rattle.layout.specs.Layout.{production_at}
 use Rattle.grammar.proofs.check.check_productions.Given as goal
 
 abbrev pub invariant-loop-p : goal.invariant-loop-p
-invariant-loop-p l = (l.at ≡ production_at l.book l.p) × (l.p ≤ l.count) × (first_refusal l.p (bad_production l.book) ≡ Accepted)
-
-abbrev pub decreases-loop-p : goal.decreases-loop-p
-decreases-loop-p l = l.count - l.p
+invariant-loop-p l = (l.at ≡ production_at l.book l.p) × (first_refusal l.p (bad_production l.book) ≡ accepted)

@@ -3,35 +3,29 @@ use Prim.Native.Nat.{◌+◌}
 use mathlib.Core.Path.{refl, sym}
 use native.Mathlib.Omega.{arith}
 use borrow.Author.Tests.{lt-ltb, le-ltb}
-use Rattle.grammar.proofs.VerdictLaws.{first_none, first_more, first_found, first_done}
+use Rattle.refusal.proofs.VerdictLaws.{first_none, first_more, first_found, first_done}
 use Rattle.grammar.specs.Check.{bad_range_count}
 use Rattle.layout.specs.Layout.{productions}
 use Rattle.layout.specs.Limits.{header_length}
 use Rattle.grammar.proofs.check.check_range_counts.Goals as goal
 
 pub loop-k-init : goal.loop-k-init
-loop-k-init c = (omega arith, first_none (bad_range_count c.args.book.now))
+loop-k-init c = first_none (bad_range_count c.args.book.now)
 
 pub range_count-requires : goal.range_count-requires
-range_count-requires c = record { book_in_bounds = c.requires; k_bound = omega (arith, c.class_count-count.ensures) }
-
-pub overflow_add-result : goal.overflow_add-result
-overflow_add-result c = omega (arith, c.production_count.ensures, c.type_inv.book 1)
-
-pub overflow_add-result-then-range_count-gt-RANGE_LIMIT : goal.overflow_add-result-then-range_count-gt-RANGE_LIMIT
-overflow_add-result-then-range_count-gt-RANGE_LIMIT c = omega (arith, c.production_count.ensures, c.type_inv.book 1)
+range_count-requires c = record { book_in_bounds = c.requires; k_bound = omega (arith, c.class_count-k-end.ensures) }
 
 pub returns-then-range_count-gt-RANGE_LIMIT : goal.returns-then-range_count-gt-RANGE_LIMIT
 unfolding bad_range_count
 returns-then-range_count-gt-RANGE_LIMIT c =
     let b = c.args.book.now in
     let k = c.loop-k.k in
-    rw c.production_count.ensures
-    (sym (first_found (bad_range_count b) k _ 3 (header_length + productions b + k) (omega (arith, c.class_count-count.ensures)) c.loop-k.invariant.1 (rw (← c.range_count.ensures, lt-ltb _ _ c.if-range_count-gt-RANGE_LIMIT.true) refl)))
+    rw (c.at.ensures, c.production_count.ensures)
+    (sym (first_found (bad_range_count b) k _ (omega (arith, c.class_count-k-end.ensures)) c.loop-k.invariant (rw (← c.range_count.ensures, lt-ltb _ _ c.if-range_count-gt-RANGE_LIMIT.true) refl)))
 
 pub loop-k-preserved : goal.loop-k-preserved
 unfolding bad_range_count
-loop-k-preserved c = (omega arith, first_more (bad_range_count c.args.book.now) c.loop-k.k c.loop-k.invariant.1 (rw (← c.range_count.ensures, le-ltb _ _ c.if-range_count-gt-RANGE_LIMIT.false) refl))
+loop-k-preserved c = first_more (bad_range_count c.args.book.now) c.loop-k.k c.loop-k.invariant (rw (← c.range_count.ensures, le-ltb _ _ c.if-range_count-gt-RANGE_LIMIT.false) refl)
 
 pub returns : goal.returns
-returns c = first_done (bad_range_count c.args.book.now) _ _ c.loop-k.invariant.1 (omega (arith, c.class_count-count.ensures))
+returns c = first_done (bad_range_count c.args.book.now) _ _ c.loop-k.invariant (omega (arith, c.class_count-k-end.ensures))

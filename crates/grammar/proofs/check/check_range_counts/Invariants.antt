@@ -2,12 +2,9 @@
 use Prim.Native.Nat.{◌-◌, ◌≤◌}
 use mathlib.Core.Path.{◌≡◌}
 use Rattle.grammar.specs.Check.{bad_range_count}
-use Rattle.grammar.specs.Verdict.{first_refusal}
-use Rattle.grammar.specs.declared.Verdict.TheVariants.{Accepted}
+use Rattle.refusal.specs.Verdict.{first_refusal}
+use Rattle.refusal.specs.Verdict.{accepted}
 use Rattle.grammar.proofs.check.check_range_counts.Given as goal
 
 abbrev pub invariant-loop-k : goal.invariant-loop-k
-invariant-loop-k l = (l.k ≤ l.count) × (first_refusal l.k (bad_range_count l.book) ≡ Accepted)
-
-abbrev pub decreases-loop-k : goal.decreases-loop-k
-decreases-loop-k l = l.count - l.k
+invariant-loop-k l = first_refusal l.k (bad_range_count l.book) ≡ accepted

@@ -16,7 +16,7 @@ bodies_at-other-requires c = c.requires.framed.header
 pub loop-q-init : goal.loop-q-init
 loop-q-init c =
     let a = c.args in
-    (c.bodies_at-other.ensures ∙ sym (production_first a.book.now), omega arith, any_none (same_production a.book.now a.p))
+    (c.bodies_at-other.ensures ∙ sym (production_first a.book.now), any_none (same_production a.book.now a.p))
 
 pub same_production-requires : goal.same_production-requires
 same_production-requires c = let given = c.requires in
@@ -25,7 +25,7 @@ same_production-requires c = let given = c.requires in
 pub returns-then-same_production : goal.returns-then-same_production
 returns-then-same_production c =
     let a = c.args in
-    sym (any_here (same_production a.book.now a.p) c.loop-q.q _ c.loop-q-test.true (sym c.same_production.ensures ∙ c.if-same_production.true))
+    sym (any_here (same_production a.book.now a.p) c.loop-q.q _ (omega arith) (sym c.same_production.ensures ∙ c.if-same_production.true))
 
 pub argument_count-requires : goal.argument_count-requires
 argument_count-requires c = record { book_in_bounds = bodies_in c.args.book.now c.requires.framed; p_bound = omega (arith, c.requires.p_bound) }
@@ -41,10 +41,10 @@ loop-q-preserved c =
     let a = c.args in
     let b = a.book.now in
     let at = c.loop-q in
-    (omega (arith, c.argument_count.ensures, production_next b at.q), omega arith, any_more (same_production b a.p) at.q at.invariant.2 (sym c.same_production.ensures ∙ c.if-same_production.false))
+    (omega (arith, c.argument_count.ensures, production_next b at.q), any_more (same_production b a.p) at.q at.invariant.1 (sym c.same_production.ensures ∙ c.if-same_production.false))
 
 pub returns : goal.returns
 returns c =
     let a = c.args in
     let e : c.loop-q.q ≡ a.p = omega arith in
-    sym (subst (λ (k : ℕ). any_below k (same_production a.book.now a.p) ≡ false) e c.loop-q.invariant.2)
+    sym (subst (λ (k : ℕ). any_below k (same_production a.book.now a.p) ≡ false) e c.loop-q.invariant.1)

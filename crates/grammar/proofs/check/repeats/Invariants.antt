@@ -8,7 +8,4 @@ use Rattle.layout.specs.Layout.{production_at}
 use Rattle.grammar.proofs.check.repeats.Given as goal
 
 abbrev pub invariant-loop-q : goal.invariant-loop-q
-invariant-loop-q l = (l.other ≡ production_at l.book l.q) × (l.q ≤ l.p) × (any_below l.q (same_production l.book l.p) ≡ false)
-
-abbrev pub decreases-loop-q : goal.decreases-loop-q
-decreases-loop-q l = l.p - l.q
+invariant-loop-q l = (l.other ≡ production_at l.book l.q) × (any_below l.q (same_production l.book l.p) ≡ false)

@@ -11,7 +11,7 @@ use Rattle.grammar.proofs.check.same_arguments.Invariants.{same}
 use Rattle.grammar.proofs.check.same_arguments.Goals as goal
 
 pub loop-i-init : goal.loop-i-init
-loop-i-init c = (omega arith, all_none (same c.args.book.now c.args.at c.args.other))
+loop-i-init c = (all_none (same c.args.book.now c.args.at c.args.other))
 
 pub overflow_add-at : goal.overflow_add-at
 overflow_add-at c = omega (arith, c.requires.count_in_bounds)
@@ -51,11 +51,11 @@ loop-i-preserved c =
     let x = byte_at a.book.now (a.at + i) in
     let y = byte_at a.book.now (a.other + i) in
     let said = s.requires.canonical.decides x y (omega (arith, c.type_inv.table (a.at + i))) (omega (arith, c.type_inv.table (a.other + i))) in
-    (omega arith, all_more (same a.book.now a.at a.other) i c.loop-i.invariant.1 (sym said ∙ eq-eqb _ _ (sym c.stands_for.ensures ∙ c.if-stands_for.false ∙ c.stands_for-in-loop-i.ensures)))
+    all_more (same a.book.now a.at a.other) i c.loop-i.invariant (sym said ∙ eq-eqb _ _ (sym c.stands_for.ensures ∙ c.if-stands_for.false ∙ c.stands_for-in-loop-i.ensures))
 
 pub returns : goal.returns
 unfolding same
 returns c =
     let a = c.args in
     let e : c.loop-i.i ≡ a.count = omega arith in
-    sym (subst (λ (k : ℕ). all_below k (same a.book.now a.at a.other) ≡ true) e c.loop-i.invariant.1)
+    sym (subst (λ (k : ℕ). all_below k (same a.book.now a.at a.other) ≡ true) e c.loop-i.invariant)

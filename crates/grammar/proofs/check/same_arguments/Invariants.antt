@@ -12,7 +12,4 @@ unfoldable pub same : List ℕ → ℕ → ℕ → ℕ → Bool
 same b at other i = same_argument b (byte_at b (at + i)) (byte_at b (other + i))
 
 abbrev pub invariant-loop-i : goal.invariant-loop-i
-invariant-loop-i l = (l.i ≤ l.count) × (all_below l.i (same l.book l.at l.other) ≡ true)
-
-abbrev pub decreases-loop-i : goal.decreases-loop-i
-decreases-loop-i l = l.count - l.i
+invariant-loop-i l = all_below l.i (same l.book l.at l.other) ≡ true

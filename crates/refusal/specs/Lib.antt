@@ -1,0 +1,3 @@
+-- What the contracts of refusals cite.
+pub mod Fault
+pub mod Verdict
