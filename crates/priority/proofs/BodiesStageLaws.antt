@@ -12,12 +12,16 @@ use Rattle.grammar.proofs.FormedLaws.{result_named_lem, argument_named_lem, kind
 use Rattle.refusal.proofs.VerdictLaws.{refuse_accepted, first_all, refuse_case, and_refused, and_first, and_second, FirstIn, here, there, order_first, first_of}
 use Rattle.grammar.specs.Check.{outside, names_argument, bad_argument, bad_arguments, bad_production, bad_productions, is_group, declaration_lines, declaration_bytes, bad_declaration, bad_declarations}
 use Rattle.refusal.specs.Verdict.{refuse_if}
-use Rattle.grammar.specs.declared.Verdict.TheVariants.{Refused, accepted}
+use Rattle.std.specs.Prelude.{Err}
+use Rattle.refusal.specs.Verdict.{accepted, by_number}
+use Rattle.refusal.specs.declared.Refusal.{Refusal}
 use Rattle.layout.proofs.LayoutLaws.{production_before, production_within, class_after_productions, declaration_before, declaration_after_classes}
 use Rattle.layout.specs.Layout.{sorts, productions, classes, declarations, argument_count, production_at, argument_at, result_sort, argument, class_at, declaration_at, kind, first, second}
 use Rattle.layout.specs.Limits.{kind_limit}
 use Rattle.priority.proofs.StageLaws.{in_order, stage, Line, Given}
 use Rattle.priority.specs.Refusals.{NamesNothing, no_result, no_argument, BadDeclarationByte, bad_kind, bad_first, bad_second, bad_group, refusal5, refusal7}
+use Rattle.refusal.specs.declared.Fault.TheVariants.{Name, Absent}
+use Rattle.refusal.specs.Fault.{number_of}
 
 module _ (b : List ℕ) where
   -- ---- 5 and 7: where their bytes stand
@@ -66,34 +70,34 @@ module _ (b : List ℕ) where
   lower5 k h below m j l =
       ⊎_elim (λ x. below j l x.1) (λ x. omega (arith, declaration_in x.1, classes_in))
 
-  by_argument : (p : ℕ) → p < productions b → ((q : ℕ) → q < p → bad_production b q ≡ accepted) → result_sort b p < sorts b → {n k : ℕ} → bad_arguments b p ≡ Refused n k → Given b 5 n k
+  by_argument : (p : ℕ) → p < productions b → ((q : ℕ) → q < p → bad_production b q ≡ accepted) → result_sort b p < sorts b → {r : Refusal} → bad_arguments b p ≡ Err r → Given b 5 (number_of r.fault) r.place
   unfolding bad_argument
   by_argument p l pass own e =
       let f = first_of (bad_argument b p) (argument_count b p) e in
       let i = f.index in
-      refuse_case (Given b 5) (not (names_argument b (argument b p i))) 5 (argument_at b p i) f.refused
+      refuse_case (by_number (Given b 5)) (not (names_argument b (argument b p i))) Name (argument_at b p i) f.refused
       (λ t. (
         refusal5 (no_argument p i l f.below (not-true (names_argument b (argument b p i)) t)),
         lower5 (argument_at b p i) (omega (arith, production_within b p l, f.below))
             (names_lower p (argument_at b p i) pass (omega (arith, f.below)) (λ h. own)
-            (λ x y h. not-false (names_argument b (argument b p x)) (refuse_accepted _ 5 (argument_at b p x) (f.before x (omega arith))))),
+            (λ x y h. not-false (names_argument b (argument b p x)) (refuse_accepted _ Name (argument_at b p x) (f.before x (omega arith))))),
       ))
 
-  bad_production_lem : {n k : ℕ} → bad_productions b ≡ Refused n k → Given b 5 n k
+  bad_production_lem : {r : Refusal} → bad_productions b ≡ Err r → Given b 5 (number_of r.fault) r.place
   unfolding bad_production
   bad_production_lem e =
       let f = first_of (bad_production b) (productions b) e in
       let p = f.index in
       let own = leb (sorts b) (result_sort b p) in
       ⊎_elim
-      (λ a. refuse_case (Given b 5) own 5 (production_at b p) a
+      (λ a. refuse_case (by_number (Given b 5)) own Name (production_at b p) a
       (λ t. (
         refusal5 (no_result p f.below (leb-true (sorts b) (result_sort b p) t)),
         lower5 (production_at b p) (omega (arith, production_within b p f.below))
             (names_lower p (production_at b p) f.before (omega arith) (λ h. absurd (omega arith)) (λ x y h. absurd (omega arith))),
       )))
-      (λ a. by_argument p f.below f.before (leb-false (sorts b) (result_sort b p) (refuse_accepted own 5 (production_at b p) a.0)) a.1)
-      (and_refused (refuse_if own 5 (production_at b p)) (bad_arguments b p) f.refused)
+      (λ a. by_argument p f.below f.before (leb-false (sorts b) (result_sort b p) (refuse_accepted own Name (production_at b p) a.0)) a.1)
+      (and_refused (refuse_if own Name (production_at b p)) (bad_arguments b p) f.refused)
 
   -- ---- 7
 
@@ -132,32 +136,32 @@ module _ (b : List ℕ) where
     lower7 : (k : ℕ) → ((j : ℕ) → j < k → BadDeclarationByte b j → ⊥) → (m j : ℕ) → j < k → Line b 5 m j → ⊥
     lower7 k below m j l = ⊎_elim (λ x. no_names x.1) (λ x. below j l x.1)
 
-    by_declaration : (d : ℕ) → d < declarations b → ((q : ℕ) → q < d → bad_declaration b q ≡ accepted) → {n k : ℕ}
-        → FirstIn (declaration_lines (declaration_at b d) (productions b) (kind b d) (first b d) (second b d)) n k → Given b 5 n k
+    by_declaration : (d : ℕ) → d < declarations b → ((q : ℕ) → q < d → bad_declaration b q ≡ accepted) → {r : Refusal}
+        → FirstIn (declaration_lines (declaration_at b d) (productions b) (kind b d) (first b d) (second b d)) r → Given b 5 (number_of r.fault) r.place
     by_declaration d l pass (here e) =
-        refuse_case (Given b 5) (outside 1 kind_limit (kind b d)) 7 (declaration_at b d) e
+        refuse_case (by_number (Given b 5)) (outside 1 kind_limit (kind b d)) Absent (declaration_at b d) e
         (λ t. (refusal7 (bad_kind d l t), lower7 (declaration_at b d) (declarations_lower d (declaration_at b d) pass (omega arith) (λ h. absurd (omega arith)) (λ h. absurd (omega arith)))))
     by_declaration d l pass (there a (here e)) =
-        refuse_case (Given b 5) (leb (productions b) (first b d)) 7 (declaration_at b d + 1) e
+        refuse_case (by_number (Given b 5)) (leb (productions b) (first b d)) Absent (declaration_at b d + 1) e
         (λ t. (
           refusal7 (bad_first d l (leb-true (productions b) (first b d) t)),
-          lower7 (declaration_at b d + 1) (declarations_lower d (declaration_at b d + 1) pass (omega arith) (λ h. refuse_accepted _ 7 (declaration_at b d) a) (λ h. absurd (omega arith))),
+          lower7 (declaration_at b d + 1) (declarations_lower d (declaration_at b d + 1) pass (omega arith) (λ h. refuse_accepted _ Absent (declaration_at b d) a) (λ h. absurd (omega arith))),
         ))
     by_declaration d l pass (there a (there c (here e))) =
-        refuse_case (Given b 5) (leb (productions b) (second b d)) 7 (declaration_at b d + 2) e
+        refuse_case (by_number (Given b 5)) (leb (productions b) (second b d)) Absent (declaration_at b d + 2) e
         (λ t. (
           refusal7 (bad_second d l (leb-true (productions b) (second b d) t)),
-          lower7 (declaration_at b d + 2) (declarations_lower d (declaration_at b d + 2) pass (omega arith) (λ h. refuse_accepted _ 7 (declaration_at b d) a) (λ h. let f = leb-false (productions b) (first b d) (refuse_accepted _ 7 (declaration_at b d + 1) c) in (f, omega (arith, leb-true (productions b) (second b d) t)))),
+          lower7 (declaration_at b d + 2) (declarations_lower d (declaration_at b d + 2) pass (omega arith) (λ h. refuse_accepted _ Absent (declaration_at b d) a) (λ h. let f = leb-false (productions b) (first b d) (refuse_accepted _ Absent (declaration_at b d + 1) c) in (f, omega (arith, leb-true (productions b) (second b d) t)))),
         ))
     by_declaration d l pass (there a (there c (there s (here e)))) =
-        refuse_case (Given b 5) (is_group (kind b d) && ltb (second b d) (first b d)) 7 (declaration_at b d + 1) e
+        refuse_case (by_number (Given b 5)) (is_group (kind b d) && ltb (second b d) (first b d)) Absent (declaration_at b d + 1) e
         (λ t. (
           refusal7 (bad_group d l (and_first_true (is_group (kind b d)) (ltb (second b d) (first b d)) t) (ltb-true (second b d) (first b d) (and_second_true (is_group (kind b d)) (ltb (second b d) (first b d)) t))),
-          lower7 (declaration_at b d + 1) (declarations_lower d (declaration_at b d + 1) pass (omega arith) (λ h. refuse_accepted _ 7 (declaration_at b d) a) (λ h. absurd (omega arith))),
+          lower7 (declaration_at b d + 1) (declarations_lower d (declaration_at b d + 1) pass (omega arith) (λ h. refuse_accepted _ Absent (declaration_at b d) a) (λ h. absurd (omega arith))),
         ))
     by_declaration d l pass (there a (there c (there s (there _ n)))) = elim n [ ]
 
-    bad_declaration_lem : {n k : ℕ} → bad_declarations b ≡ Refused n k → Given b 5 n k
+    bad_declaration_lem : {r : Refusal} → bad_declarations b ≡ Err r → Given b 5 (number_of r.fault) r.place
     unfolding bad_declaration declaration_bytes
     bad_declaration_lem e =
         let f = first_of (bad_declaration b) (declarations b) e in
@@ -170,7 +174,7 @@ module _ (b : List ℕ) where
   declarations_none pass (bad_second q l t) = omega (arith, second_there_lem b q (pass q l))
   declarations_none pass (bad_group q l g t) = omega (arith, group_rises_lem b q (pass q l) g)
 
-  pub given5 : {n k : ℕ} → stage b 5 ≡ Refused n k → Given b 5 n k
+  pub given5 : {r : Refusal} → stage b 5 ≡ Err r → Given b 5 (number_of r.fault) r.place
   given5 e =
       ⊎_elim (λ a. bad_production_lem a) (λ a. bad_declaration_lem a.0 a.1) (and_refused (bad_productions b) (bad_declarations b) e)
 

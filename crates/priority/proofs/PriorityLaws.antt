@@ -21,6 +21,7 @@ use Rattle.priority.specs.Chain.{link, more}
 use Rattle.priority.specs.Chain.{entry}
 use Rattle.priority.specs.Check.{circle, on_diagonal}
 use Rattle.priority.specs.Priorities.{Kind, higher, kind_number, said_kind, either_way, names_pair, covers, declaration_of, declarations_of, declared, Higher, is_higher_in, is_higher}
+use Rattle.refusal.specs.declared.Fault.TheVariants.{Circle}
 
 -- ---- only productions are related
 
@@ -70,7 +71,7 @@ module _ (b : List ℕ) (w : WellFormed b) (t : List (List Bool)) (h : (x y : �
 
   pub diagonal_circle : (p : ℕ) → on_diagonal t p ≡ circle (productions b) (declarations_of b) p
   unfolding on_diagonal circle
-  diagonal_circle p = ap (λ (v : Bool). refuse_if v 9 p) (table_higher p p)
+  diagonal_circle p = ap (λ (v : Bool). refuse_if v Circle p) (table_higher p p)
 
 -- ---- the bytes of a declaration that stands at `at`
 

@@ -12,7 +12,9 @@ use Rattle.refusal.proofs.VerdictLaws.{refused_not_accepted, refuse_accepted, fi
 use Rattle.grammar.specs.Check.{outside, bad_argument_counts, bad_range_counts, names_argument, bad_productions, bad_declarations, same_production, repeated_production, frame_lines, frame_check, bodies_lines, bodies_check}
 use Rattle.grammar.specs.Formed.{WellFormed}
 use Rattle.refusal.specs.Verdict.{Verdict}
-use Rattle.grammar.specs.declared.Verdict.TheVariants.{Refused, accepted}
+use Rattle.std.specs.Prelude.{Ok, Err}
+use Rattle.refusal.specs.Verdict.{accepted, refused, by_number, RefusedBy}
+use Rattle.refusal.specs.declared.Refusal.{Refusal}
 use Rattle.layout.proofs.FramedLaws.{bodies_in}
 use Rattle.layout.proofs.LayoutLaws.{production_first, production_after, production_before, class_first}
 use Rattle.layout.specs.Layout.{sorts, productions, production_at, argument, kind}
@@ -23,6 +25,8 @@ use Rattle.priority.proofs.StageLaws.{in_order, stage, checked_stages, Line, lin
 use Rattle.priority.specs.Check.{circle, checked}
 use Rattle.priority.specs.Priorities.{declarations_of, Higher, is_higher}
 use Rattle.priority.specs.Refusals.{BadHeaderByte, bad_sorts, bad_production_count, bad_class_count, bad_start, bad_last, LargeCount, many_arguments, many_ranges, NamesNothing, no_result, no_argument, BadDeclarationByte, bad_kind, bad_first, bad_second, bad_group, EqualsEarlier, OnCircle, Holds, refusal1, refusal1', refusal2, refusal3, refusal4, refusal5, refusal7, refusal8, refusal9, First}
+use Rattle.refusal.specs.declared.Fault.TheVariants.{Absent, Repeated, Circle}
+use Rattle.refusal.specs.Fault.{number_of}
 
 module _ (b : List ℕ) where
   -- ---- 8
@@ -31,14 +35,14 @@ module _ (b : List ℕ) where
   unfolding repeated_production
   no_earlier p e h =
       not_both (same_production b p h.earlier) h.same
-      (any_never (same_production b p) p (refuse_accepted _ 8 (production_at b p) e) h.earlier h.is_earlier)
+      (any_never (same_production b p) p (refuse_accepted _ Repeated (production_at b p) e) h.earlier h.is_earlier)
 
-  given8 : {n k : ℕ} → stage b 6 ≡ Refused n k → Given b 6 n k
+  given8 : {r : Refusal} → stage b 6 ≡ Err r → Given b 6 (number_of r.fault) r.place
   unfolding repeated_production
   given8 e =
       let f = first_of (repeated_production b) (productions b) e in
       let p = f.index in
-      refuse_case (Given b 6) (any_below p (same_production b p)) 8 (production_at b p) f.refused
+      refuse_case (by_number (Given b 6)) (any_below p (same_production b p)) Repeated (production_at b p) f.refused
       (λ t. let (q, l, s) = any_found (same_production b p) p t in (
         refusal8 (record { there = f.below; earlier = q; is_earlier = l; same = s }),
         λ m j h (_, r, place, x). ⊎_elim
@@ -55,14 +59,14 @@ module _ (b : List ℕ) where
   module _ (w : WellFormed b) where
     no_circle : (p : ℕ) → circle (productions b) (declarations_of b) p ≡ accepted → OnCircle b p → ⊥
     unfolding circle
-    no_circle p e h = not_both (is_higher b p p) ((higher_chain b w p p).1 h.circle) (refuse_accepted _ 9 p e)
+    no_circle p e h = not_both (is_higher b p p) ((higher_chain b w p p).1 h.circle) (refuse_accepted _ Circle p e)
 
-    given9 : {n k : ℕ} → stage b 7 ≡ Refused n k → Given b 7 n k
+    given9 : {r : Refusal} → stage b 7 ≡ Err r → Given b 7 (number_of r.fault) r.place
     unfolding circle
     given9 e =
         let f = first_of (circle (productions b) (declarations_of b)) (productions b) e in
         let p = f.index in
-        refuse_case (Given b 7) (is_higher b p p) 9 p f.refused
+        refuse_case (by_number (Given b 7)) (is_higher b p p) Circle p f.refused
         (λ t. (refusal9 (record { there = f.below; circle = (higher_chain b w p p).0 t }), λ m j h x. no_circle j (f.before j h) x.1))
 
     none9 : stage b 7 ≡ accepted → {n k : ℕ} → Line b 7 n k → ⊥
@@ -80,7 +84,7 @@ module _ (b : List ℕ) where
       (order_accepted (frame_lines b) (pass 0 (omega arith), (pass 1 (omega arith), (pass 2 (omega arith), (and_first (bad_argument_counts b) (bad_range_counts b) counts, (and_second (bad_argument_counts b) (bad_range_counts b) counts, (pass 4 (omega arith), tt)))))))
       (order_accepted (bodies_lines b) (and_first (bad_productions b) (bad_declarations b) bodies, (and_second (bad_productions b) (bad_declarations b) bodies, (pass 6 (omega arith), tt))))
 
-  given : (s : ℕ) → ((r : ℕ) → r < s → stage b r ≡ accepted) → {n k : ℕ} → stage b s ≡ Refused n k → Given b s n k
+  given : (s : ℕ) → ((r : ℕ) → r < s → stage b r ≡ accepted) → {r : Refusal} → stage b s ≡ Err r → Given b s (number_of r.fault) r.place
   given zero pass e = given1 b e
   given (suc zero) pass e = given2 b e
   given (suc (suc zero)) pass e = given1' b e
@@ -89,7 +93,7 @@ module _ (b : List ℕ) where
   given (suc (suc (suc (suc (suc zero))))) pass e = given5 b e
   given (suc (suc (suc (suc (suc (suc zero)))))) pass e = given8 e
   given (suc (suc (suc (suc (suc (suc (suc zero))))))) pass e = given9 (formed pass) e
-  given (suc (suc (suc (suc (suc (suc (suc (suc s)))))))) pass {n} {k} e = refused_not_accepted n k (sym e)
+  given (suc (suc (suc (suc (suc (suc (suc (suc s)))))))) pass {r} e = refused_not_accepted r (sym e)
 
   none_at : (s : ℕ) → ((r : ℕ) → r < s → stage b r ≡ accepted) → stage b s ≡ accepted → (n k : ℕ) → Line b s n k → ⊥
   none_at zero pass e n k h = none1 b e h
@@ -118,22 +122,22 @@ module _ (b : List ℕ) where
   number_same (suc (suc (suc (suc (suc (suc (suc zero))))))) n m k a c = omega (arith, a.0, c.0)
   number_same (suc (suc (suc (suc (suc (suc (suc (suc s)))))))) n m k a c = absurd a
 
-  -- there are eight stages, and numbers up to 9 without 6
-  holds_small : {s n k : ℕ} → Holds b s n k → (s < 8) × (n ≤ 9) × (n ≢ 6)
-  holds_small (refusal1 h) = (omega arith, omega arith, λ e. omega arith)
-  holds_small (refusal2 h) = (omega arith, omega arith, λ e. omega arith)
-  holds_small (refusal1' h) = (omega arith, omega arith, λ e. omega arith)
-  holds_small (refusal3 h) = (omega arith, omega arith, λ e. omega arith)
-  holds_small (refusal4 h) = (omega arith, omega arith, λ e. omega arith)
-  holds_small (refusal5 h) = (omega arith, omega arith, λ e. omega arith)
-  holds_small (refusal7 h) = (omega arith, omega arith, λ e. omega arith)
-  holds_small (refusal8 h) = (omega arith, omega arith, λ e. omega arith)
-  holds_small (refusal9 h) = (omega arith, omega arith, λ e. omega arith)
+  -- there are eight stages, and numbers up to 9
+  holds_small : {s n k : ℕ} → Holds b s n k → (s < 8) × (n ≤ 9)
+  holds_small (refusal1 h) = (omega arith, omega arith)
+  holds_small (refusal2 h) = (omega arith, omega arith)
+  holds_small (refusal1' h) = (omega arith, omega arith)
+  holds_small (refusal3 h) = (omega arith, omega arith)
+  holds_small (refusal4 h) = (omega arith, omega arith)
+  holds_small (refusal5 h) = (omega arith, omega arith)
+  holds_small (refusal7 h) = (omega arith, omega arith)
+  holds_small (refusal8 h) = (omega arith, omega arith)
+  holds_small (refusal9 h) = (omega arith, omega arith)
 
   -- ---- the table, both ways
 
   -- A refusal is the first of the table.
-  pub refused_first : {n k : ℕ} → checked b ≡ Refused n k → First b n k
+  pub refused_first : {r : Refusal} → checked b ≡ Err r → First b (number_of r.fault) r.place
   refused_first e =
       let f = first_of (stage b) 8 (sym (checked_stages b) ∙ e) in
       let g = given f.index f.before f.refused in
@@ -145,12 +149,8 @@ module _ (b : List ℕ) where
       }
 
   -- Its number is one of 1 to 9.
-  pub checked_number : {n k : ℕ} → checked b ≡ Refused n k → n ≤ 9
+  pub checked_number : {r : Refusal} → checked b ≡ Err r → number_of r.fault ≤ 9
   checked_number e = (holds_small (refused_first e).holds).1
-
-  -- It is never 6.
-  pub checked_not_six : {k : ℕ} → checked b ≡ Refused 6 k → ⊥
-  checked_not_six e = (holds_small (refused_first e).holds).2 refl
 
   -- Of an accepted grammar no condition holds.
   pub accepted_free : checked b ≡ accepted → (s n k : ℕ) → Holds b s n k → ⊥
@@ -171,23 +171,23 @@ module _ (b : List ℕ) where
       (number_same a.stage n m j (line b (subst (λ (x : ℕ). Holds b a.stage n x) place a.holds)) (line b other), place)
 
   -- The first of the table is the refusal.
-  pub first_refused : {n k : ℕ} → First b n k → checked b ≡ Refused n k
+  pub first_refused : {n k : ℕ} → First b n k → RefusedBy (checked b) n k
   first_refused {n} {k} f = by_verdict (checked b) refl
     where
-      by_verdict : (v : Verdict) → checked b ≡ v → checked b ≡ Refused n k
-      by_verdict accepted e = absurd (accepted_free e f.stage n k f.holds)
-      by_verdict (Refused m j) e = let (x, y) = first_unique (refused_first e) f in e ∙ ap₂ Refused x y
+      by_verdict : (v : Verdict) → checked b ≡ v → RefusedBy (checked b) n k
+      by_verdict (Ok _) e = absurd (accepted_free e f.stage n k f.holds)
+      by_verdict (Err r) e = let (x, y) = first_unique (refused_first e) f in (r, e, x, y)
 
   -- A grammar of which no condition holds is accepted.
   pub free_accepted : ((s n k : ℕ) → Holds b s n k → ⊥) → checked b ≡ accepted
   free_accepted free = by_verdict (checked b) refl
     where
       by_verdict : (v : Verdict) → checked b ≡ v → checked b ≡ accepted
-      by_verdict accepted e = e
-      by_verdict (Refused n k) e = let f = refused_first e in absurd (free f.stage n k f.holds)
+      by_verdict (Ok _) e = e
+      by_verdict (Err r) e = let f = refused_first e in absurd (free f.stage _ _ f.holds)
 
   -- The place of 7 is a byte behind the header.
-  pub seven_place : {k : ℕ} → checked b ≡ Refused 7 k → header_length ≤ k
+  pub seven_place : {k : ℕ} → checked b ≡ refused Absent k → header_length ≤ k
   seven_place {k} e = by_stage (refused_first e).holds refl
     where
       by_stage : {s n j : ℕ} → Holds b s n j → n ≡ 7 → header_length ≤ j

@@ -15,11 +15,15 @@ use Rattle.refusal.proofs.VerdictLaws.{refuse_accepted, and_assoc, first_all, re
 use Rattle.grammar.specs.Check.{outside, short_header, header_lines, header_bytes, bad_header, short_contents, bad_argument_count, bad_range_count, bad_argument_counts, bad_range_counts, bad_length, bad_productions, bad_declarations, repeated_productions}
 use Rattle.refusal.specs.Verdict.{and_then, first_refusal}
 use Rattle.refusal.specs.Verdict.{Verdict}
-use Rattle.grammar.specs.declared.Verdict.TheVariants.{Refused, accepted}
+use Rattle.std.specs.Prelude.{Err}
+use Rattle.refusal.specs.Verdict.{accepted, by_number}
+use Rattle.refusal.specs.declared.Refusal.{Refusal}
 use Rattle.layout.specs.Layout.{byte_at, sorts, productions, classes, start_sort, argument_count_at, range_count_at, argument_count, range_count, bodies_at, production_at, needed_length}
 use Rattle.layout.specs.Limits.{sort_limit, production_limit, class_limit, argument_limit, range_limit, header_length}
 use Rattle.priority.specs.Check.{circles, checked}
 use Rattle.priority.specs.Refusals.{BadHeaderByte, bad_sorts, bad_production_count, bad_class_count, bad_start, bad_last, LargeCount, many_arguments, many_ranges, NamesNothing, BadDeclarationByte, EqualsEarlier, OnCircle, Holds, refusal1, refusal1', refusal2, refusal3, refusal4, refusal5, refusal7, refusal8, refusal9}
+use Rattle.refusal.specs.declared.Fault.TheVariants.{Short, Header, Count, Length}
+use Rattle.refusal.specs.Fault.{number_of}
 
 -- two numbers in order, or the same
 pub in_order : (p q : ℕ) → (p < q) ⊎ ((p ≡ q) ⊎ (q < p))
@@ -72,25 +76,25 @@ module _ (b : List ℕ) where
 
   -- ---- 1
 
-  pub given1 : {n k : ℕ} → stage 0 ≡ Refused n k → Given 0 n k
+  pub given1 : {r : Refusal} → stage 0 ≡ Err r → Given 0 (number_of r.fault) r.place
   unfolding short_header
   given1 e =
-      refuse_case (Given 0) (ltb (length b) header_length) 1 (length b) e
+      refuse_case (by_number (Given 0)) (ltb (length b) header_length) Short (length b) e
       (λ t. (refusal1 (ltb-true (length b) header_length t), λ m j l h. omega (arith, h.1)))
 
   pub none1 : stage 0 ≡ accepted → {n k : ℕ} → Line 0 n k → ⊥
   unfolding short_header
-  none1 e h = omega (arith, ltb-false (length b) header_length (refuse_accepted _ 1 (length b) e), h.2)
+  none1 e h = omega (arith, ltb-false (length b) header_length (refuse_accepted _ Short (length b) e), h.2)
 
-  pub given1' : {n k : ℕ} → stage 2 ≡ Refused n k → Given 2 n k
+  pub given1' : {r : Refusal} → stage 2 ≡ Err r → Given 2 (number_of r.fault) r.place
   unfolding short_contents
   given1' e =
-      refuse_case (Given 2) (ltb (length b) (bodies_at b)) 1 (length b) e
+      refuse_case (by_number (Given 2)) (ltb (length b) (bodies_at b)) Short (length b) e
       (λ t. (refusal1' (ltb-true (length b) (bodies_at b) t), λ m j l h. omega (arith, h.1)))
 
   pub none1' : stage 2 ≡ accepted → {n k : ℕ} → Line 2 n k → ⊥
   unfolding short_contents
-  none1' e h = omega (arith, ltb-false (length b) (bodies_at b) (refuse_accepted _ 1 (length b) e), h.2)
+  none1' e h = omega (arith, ltb-false (length b) (bodies_at b) (refuse_accepted _ Short (length b) e), h.2)
 
   -- ---- 2
 
@@ -111,24 +115,24 @@ module _ (b : List ℕ) where
   abbrev bytes : List Verdict
   bytes = header_lines (sorts b) (productions b) (classes b) (start_sort b) (byte_at b 5)
 
-  by_header : {n k : ℕ} → FirstIn bytes n k → Given 1 n k
+  by_header : {r : Refusal} → FirstIn bytes r → Given 1 (number_of r.fault) r.place
   by_header (here e) =
-      refuse_case (Given 1) (outside 1 sort_limit (sorts b)) 2 0 e (λ t. (refusal2 (bad_sorts t), λ m j l h. absurd (omega arith)))
+      refuse_case (by_number (Given 1)) (outside 1 sort_limit (sorts b)) Header 0 e (λ t. (refusal2 (bad_sorts t), λ m j l h. absurd (omega arith)))
   by_header (there s (here e)) =
-      refuse_case (Given 1) (outside 1 production_limit (productions b)) 2 1 e
-      (λ t. (refusal2 (bad_production_count t), λ m j l h. header_below 1 (omega arith) (λ x. refuse_accepted _ 2 0 s) (never 1 1 (omega arith)) (never 2 1 (omega arith)) (never 4 1 (omega arith)) (never 5 1 (omega arith)) j l h.1))
+      refuse_case (by_number (Given 1)) (outside 1 production_limit (productions b)) Header 1 e
+      (λ t. (refusal2 (bad_production_count t), λ m j l h. header_below 1 (omega arith) (λ x. refuse_accepted _ Header 0 s) (never 1 1 (omega arith)) (never 2 1 (omega arith)) (never 4 1 (omega arith)) (never 5 1 (omega arith)) j l h.1))
   by_header (there s (there p (here e))) =
-      refuse_case (Given 1) (ltb class_limit (classes b)) 2 2 e
-      (λ t. (refusal2 (bad_class_count (ltb-true class_limit (classes b) t)), λ m j l h. header_below 2 (omega arith) (λ x. refuse_accepted _ 2 0 s) (λ x. refuse_accepted _ 2 1 p) (never 2 2 (omega arith)) (never 4 2 (omega arith)) (never 5 2 (omega arith)) j l h.1))
+      refuse_case (by_number (Given 1)) (ltb class_limit (classes b)) Header 2 e
+      (λ t. (refusal2 (bad_class_count (ltb-true class_limit (classes b) t)), λ m j l h. header_below 2 (omega arith) (λ x. refuse_accepted _ Header 0 s) (λ x. refuse_accepted _ Header 1 p) (never 2 2 (omega arith)) (never 4 2 (omega arith)) (never 5 2 (omega arith)) j l h.1))
   by_header (there s (there p (there c (here e)))) =
-      refuse_case (Given 1) (leb (sorts b) (start_sort b)) 2 4 e
-      (λ t. (refusal2 (bad_start (leb-true (sorts b) (start_sort b) t)), λ m j l h. header_below 4 (omega arith) (λ x. refuse_accepted _ 2 0 s) (λ x. refuse_accepted _ 2 1 p) (λ x. refuse_accepted _ 2 2 c) (never 4 4 (omega arith)) (never 5 4 (omega arith)) j l h.1))
+      refuse_case (by_number (Given 1)) (leb (sorts b) (start_sort b)) Header 4 e
+      (λ t. (refusal2 (bad_start (leb-true (sorts b) (start_sort b) t)), λ m j l h. header_below 4 (omega arith) (λ x. refuse_accepted _ Header 0 s) (λ x. refuse_accepted _ Header 1 p) (λ x. refuse_accepted _ Header 2 c) (never 4 4 (omega arith)) (never 5 4 (omega arith)) j l h.1))
   by_header (there s (there p (there c (there a (here e))))) =
-      refuse_case (Given 1) (ltb 0 (byte_at b 5)) 2 5 e
-      (λ t. (refusal2 (bad_last (ltb-true 0 (byte_at b 5) t)), λ m j l h. header_below 5 (omega arith) (λ x. refuse_accepted _ 2 0 s) (λ x. refuse_accepted _ 2 1 p) (λ x. refuse_accepted _ 2 2 c) (λ x. refuse_accepted _ 2 4 a) (never 5 5 (omega arith)) j l h.1))
+      refuse_case (by_number (Given 1)) (ltb 0 (byte_at b 5)) Header 5 e
+      (λ t. (refusal2 (bad_last (ltb-true 0 (byte_at b 5) t)), λ m j l h. header_below 5 (omega arith) (λ x. refuse_accepted _ Header 0 s) (λ x. refuse_accepted _ Header 1 p) (λ x. refuse_accepted _ Header 2 c) (λ x. refuse_accepted _ Header 4 a) (never 5 5 (omega arith)) j l h.1))
   by_header (there s (there p (there c (there a (there _ n))))) = elim n [ ]
 
-  pub given2 : {n k : ℕ} → stage 1 ≡ Refused n k → Given 1 n k
+  pub given2 : {r : Refusal} → stage 1 ≡ Err r → Given 1 (number_of r.fault) r.place
   unfolding bad_header header_bytes
   given2 e = by_header (order_first bytes e)
 
@@ -143,18 +147,18 @@ module _ (b : List ℕ) where
   unfolding bad_header header_bytes
   none2 e {n} {k} h =
       let a = each_accepted bytes e in
-      header_below 6 (omega arith) (λ x. refuse_accepted _ 2 0 a.0) (λ x. refuse_accepted _ 2 1 a.1.0) (λ x. refuse_accepted _ 2 2 a.1.1.0) (λ x. refuse_accepted _ 2 4 a.1.1.1.0) (λ x. refuse_accepted _ 2 5 a.1.1.1.1.0)
+      header_below 6 (omega arith) (λ x. refuse_accepted _ Header 0 a.0) (λ x. refuse_accepted _ Header 1 a.1.0) (λ x. refuse_accepted _ Header 2 a.1.1.0) (λ x. refuse_accepted _ Header 4 a.1.1.1.0) (λ x. refuse_accepted _ Header 5 a.1.1.1.1.0)
       k (header_at h.1) h.1
 
   -- ---- 3
 
   few_arguments_lem : (p : ℕ) → bad_argument_count b p ≡ accepted → argument_count b p ≤ argument_limit
   unfolding bad_argument_count
-  few_arguments_lem p e = ltb-false argument_limit (argument_count b p) (refuse_accepted _ 3 (argument_count_at b p) e)
+  few_arguments_lem p e = ltb-false argument_limit (argument_count b p) (refuse_accepted _ Count (argument_count_at b p) e)
 
   few_ranges_lem : (k : ℕ) → bad_range_count b k ≡ accepted → range_count b k ≤ range_limit
   unfolding bad_range_count
-  few_ranges_lem k e = ltb-false range_limit (range_count b k) (refuse_accepted _ 3 (range_count_at b k) e)
+  few_ranges_lem k e = ltb-false range_limit (range_count b k) (refuse_accepted _ Count (range_count_at b k) e)
 
   arguments_below : (i : ℕ) → i < productions b → ((q : ℕ) → q < i → bad_argument_count b q ≡ accepted) → (j : ℕ) → j < argument_count_at b i → LargeCount b j → ⊥
   arguments_below i l before j h (many_arguments q m t) = omega (arith, few_arguments_lem q (before q (omega arith)))
@@ -165,23 +169,23 @@ module _ (b : List ℕ) where
   ranges_below i arguments before j h (many_arguments q m t) = omega (arith, few_arguments_lem q (arguments q m))
   ranges_below i arguments before j h (many_ranges q m t) = omega (arith, few_ranges_lem q (before q (omega arith)))
 
-  many_arguments_lem : {n k : ℕ} → bad_argument_counts b ≡ Refused n k → Given 3 n k
+  many_arguments_lem : {r : Refusal} → bad_argument_counts b ≡ Err r → Given 3 (number_of r.fault) r.place
   unfolding bad_argument_count
   many_arguments_lem e =
       let f = first_of (bad_argument_count b) (productions b) e in
       let i = f.index in
-      refuse_case (Given 3) (ltb argument_limit (argument_count b i)) 3 (argument_count_at b i) f.refused
+      refuse_case (by_number (Given 3)) (ltb argument_limit (argument_count b i)) Count (argument_count_at b i) f.refused
       (λ t. (refusal3 (many_arguments i f.below (ltb-true argument_limit (argument_count b i) t)), λ m j l h. arguments_below i f.below f.before j l h.1))
 
-  many_ranges_lem : {n k : ℕ} → bad_argument_counts b ≡ accepted → bad_range_counts b ≡ Refused n k → Given 3 n k
+  many_ranges_lem : {r : Refusal} → bad_argument_counts b ≡ accepted → bad_range_counts b ≡ Err r → Given 3 (number_of r.fault) r.place
   unfolding bad_range_count
   many_ranges_lem a e =
       let f = first_of (bad_range_count b) (classes b) e in
       let i = f.index in
-      refuse_case (Given 3) (ltb range_limit (range_count b i)) 3 (range_count_at b i) f.refused
+      refuse_case (by_number (Given 3)) (ltb range_limit (range_count b i)) Count (range_count_at b i) f.refused
       (λ t. (refusal3 (many_ranges i f.below (ltb-true range_limit (range_count b i) t)), λ m j l h. ranges_below i (first_all (bad_argument_count b) (productions b) a) f.before j l h.1))
 
-  pub given3 : {n k : ℕ} → stage 3 ≡ Refused n k → Given 3 n k
+  pub given3 : {r : Refusal} → stage 3 ≡ Err r → Given 3 (number_of r.fault) r.place
   given3 e = ⊎_elim (λ a. many_arguments_lem a) (λ a. many_ranges_lem a.0 a.1) (and_refused (bad_argument_counts b) (bad_range_counts b) e)
 
   pub none3 : stage 3 ≡ accepted → {n k : ℕ} → Line 3 n k → ⊥
@@ -194,12 +198,12 @@ module _ (b : List ℕ) where
 
   -- ---- 4
 
-  pub given4 : {n k : ℕ} → stage 4 ≡ Refused n k → Given 4 n k
+  pub given4 : {r : Refusal} → stage 4 ≡ Err r → Given 4 (number_of r.fault) r.place
   unfolding bad_length
   given4 e =
-      refuse_case (Given 4) (not (eqb (length b) (needed_length b))) 4 (min (length b) (needed_length b)) e
+      refuse_case (by_number (Given 4)) (not (eqb (length b) (needed_length b))) Length (min (length b) (needed_length b)) e
       (λ t. (refusal4 (eqb-false (length b) (needed_length b) (not-true (eqb (length b) (needed_length b)) t)), λ m j l h. omega (arith, h.1)))
 
   pub none4 : stage 4 ≡ accepted → {n k : ℕ} → Line 4 n k → ⊥
   unfolding bad_length
-  none4 e h = h.2 (eqb-true (length b) (needed_length b) (not-false (eqb (length b) (needed_length b)) (refuse_accepted _ 4 _ e)))
+  none4 e h = h.2 (eqb-true (length b) (needed_length b) (not-false (eqb (length b) (needed_length b)) (refuse_accepted _ Length _ e)))

@@ -7,14 +7,15 @@ use Rattle.layout.specs.Layout.{productions}
 use Rattle.priority.specs.Chain.{entry}
 use Rattle.priority.specs.Priorities.{is_higher_in, declarations_of}
 use Rattle.priority.specs.declared.Declaration.{Declaration}
+use Rattle.refusal.specs.declared.Fault.TheVariants.{Circle}
 
 -- 9: a circle by a list of declarations; the place is the lowest production higher than itself
 unfoldable pub circle : ℕ → List Declaration → ℕ → Verdict
-circle count ls p = refuse_if (is_higher_in count ls p p) 9 p
+circle count ls p = refuse_if (is_higher_in count ls p p) Circle p
 
 -- the same, read off a table of "higher"
 unfoldable pub on_diagonal : List (List Bool) → ℕ → Verdict
-on_diagonal table p = refuse_if (entry table p p) 9 p
+on_diagonal table p = refuse_if (entry table p p) Circle p
 
 -- the first of them; by the grammar's own declarations
 abbrev pub circles_in : List ℕ → List Declaration → Verdict

@@ -11,11 +11,10 @@ ghost use Rattle.priority.specs.Chain.{Chain, entry, Square};
 ghost use Rattle.priority.specs.Priorities.{said_kind, declaration_of, DeclaredPairs, WithGroup, Higher};
 ghost use Rattle.priority.specs.Check.{checked, on_diagonal};
 
-use common::{both, either};
-use grammar::Verdict;
 use grammar::check::{check_bodies, check_frame, is_group};
 use layout::limits::{DECLARATION_LENGTH, GROUP_STEP, PRODUCTION_LIMIT};
 use layout::{byte_at, declaration_at, declaration_count, production_count};
+use refusal::{Fault, Refusal};
 
 // 01's numbers of the kinds of declaration.
 pub const HIGHER: usize = 1;
@@ -35,17 +34,11 @@ pub struct Declaration {
 }
 
 // The operation "checking a grammar" (01's checking a book): accepted, or refused with number 1 to 9 and place.
-pub fn check_grammar(book: &[u8]) -> Verdict
+pub fn check_grammar(book: &[u8]) -> Result<(), Refusal>
     ensures { result ≡ checked book.now }
 {
-    let frame = check_frame(book);
-    let Verdict::Accepted = frame else {
-        return frame;
-    };
-    let bodies = check_bodies(book);
-    let Verdict::Accepted = bodies else {
-        return bodies;
-    };
+    check_frame(book)?;
+    check_bodies(book)?;
     check_circles(priorities(book), production_count(book))
 }
 
@@ -58,18 +51,19 @@ pub fn priorities(book: &[u8]) -> [[bool; PRODUCTION_LIMIT]; PRODUCTION_LIMIT]
 }
 
 // 9: the lowest production higher than itself.
-fn check_circles(table: [[bool; PRODUCTION_LIMIT]; PRODUCTION_LIMIT], count: usize) -> Verdict
+fn check_circles(
+    table: [[bool; PRODUCTION_LIMIT]; PRODUCTION_LIMIT],
+    count: usize,
+) -> Result<(), Refusal>
     requires { count ≤ production_limit }
     ensures { result ≡ first_refusal count (on_diagonal table) }
 {
-    let mut p = 0;
-    while p < count {
+    for p in 0..count {
         if table[p][p] {
-            return Verdict::Refused(9, p);
+            return Err(Fault::Circle.at(p));
         }
-        p += 1;
     }
-    Verdict::Accepted
+    Ok(())
 }
 
 // The pairs that declarations of kind `kind` or `also` cover: "higher" as it is written, the other kinds both ways round, and of a group every two.
@@ -82,23 +76,18 @@ pub fn declared_pairs(
     ensures { DeclaredPairs book.now kind also result }
 {
     let mut table = no_pairs();
-    let count = declaration_count(book);
     let start = declaration_at(book, 0);
-    let mut d = 0;
-    while d < count {
+    for d in 0..declaration_count(book) {
         let own = read_declaration(book, start, d);
         let first = own.first;
         let second = own.second;
         let said = said_kind(own.kind);
-        let written = either(said == kind, said == also);
-        let turned = both(written, said != HIGHER);
-        table[first][second] = either(table[first][second], written);
-        table[second][first] = either(table[second][first], turned);
-        if both(written, is_group(own.kind)) {
-            let wider = with_group(table, first, second);
-            table = wider;
+        let written = (said == kind) | (said == also);
+        table[first][second] |= written;
+        table[second][first] |= written & (said != HIGHER);
+        if written & is_group(own.kind) {
+            table = with_group(table, first, second);
         }
-        d += 1;
     }
     table
 }
@@ -147,10 +136,8 @@ fn with_group(
 {
     let mut wider = table;
     let group = members(first, second);
-    let mut x = first;
-    while x <= second {
+    for x in first..second + 1 {
         wider[x] = merged(wider[x], group);
-        x += 1;
     }
     wider
 }
@@ -161,10 +148,8 @@ fn members(first: usize, second: usize) -> [bool; PRODUCTION_LIMIT]
     ensures { (y : ℕ) → get_or result y false ≡ between first second y }
 {
     let mut row = [false; PRODUCTION_LIMIT];
-    let mut y = first;
-    while y <= second {
+    for y in first..second + 1 {
         row[y] = true;
-        y += 1;
     }
     row
 }
@@ -178,13 +163,10 @@ pub fn closed(
     ensures { (x y : ℕ) → (entry result x y ≡ true) ↔ Chain (entry table) x y }
 {
     let mut closure = table;
-    let mut middle = 0;
-    while middle < count {
+    for middle in 0..count {
         if leads_on(closure[middle]) {
-            let wider = with_middle(closure, middle);
-            closure = wider;
+            closure = with_middle(closure, middle);
         }
-        middle += 1;
     }
     closure
 }
@@ -195,10 +177,8 @@ pub fn leads_on(row: [bool; PRODUCTION_LIMIT]) -> bool
     ensures false_value { result ≡ false → (y : ℕ) → get_or row y false ≡ false }
 {
     let mut found = false;
-    let mut y = 0;
-    while y < PRODUCTION_LIMIT {
-        found = either(found, row[y]);
-        y += 1;
+    for y in 0..PRODUCTION_LIMIT {
+        found |= row[y];
     }
     found
 }
@@ -213,12 +193,10 @@ fn with_middle(
 {
     let mut wider = table;
     let beyond = wider[middle];
-    let mut x = 0;
-    while x < PRODUCTION_LIMIT {
+    for x in 0..PRODUCTION_LIMIT {
         if wider[x][middle] {
             wider[x] = merged(wider[x], beyond);
         }
-        x += 1;
     }
     wider
 }
@@ -231,10 +209,8 @@ pub fn merged(
     ensures { (y : ℕ) → get_or result y false ≡ (get_or row y false || get_or other y false) }
 {
     let mut out = row;
-    let mut y = 0;
-    while y < PRODUCTION_LIMIT {
-        out[y] = either(row[y], other[y]);
-        y += 1;
+    for y in 0..PRODUCTION_LIMIT {
+        out[y] |= other[y];
     }
     out
 }

@@ -1,2 +1,3 @@
 -- Laws of refusals.
+pub mod FaultLaws
 pub mod VerdictLaws

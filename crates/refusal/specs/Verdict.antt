@@ -1,5 +1,6 @@
 -- Verdicts on an input, and how one is made of many checks: the first refusal stands (01, "Refused because of the input").
-use Rattle.std.specs.Prelude.{ℕ, zero, suc, Bool, cond, List, [], ◌∷◌, Result, Ok, Err, ⊤}
+use Rattle.std.specs.Prelude.{ℕ, zero, suc, Bool, cond, List, [], ◌∷◌, Result, Ok, Err, ⊤, ◌≡◌}
+use Rattle.refusal.specs.Fault.{number_of}
 use Rattle.refusal.specs.declared.Fault.{Fault}
 use Rattle.refusal.specs.declared.Refusal.{Refusal}
 
@@ -15,6 +16,14 @@ refusal fault place = record { fault = fault; place = place }
 
 abbrev pub refused : {A : Type 0} → Fault → ℕ → Result A Refusal
 refused fault place = Err (refusal fault place)
+
+-- What is said of a refusal's number and place.
+abbrev pub by_number : (ℕ → ℕ → Type 0) → Refusal → Type 0
+by_number Q r = Q (number_of r.fault) r.place
+
+-- An answer is a refusal with this number and this place.
+abbrev pub RefusedBy : {A : Type 0} → Result A Refusal → ℕ → ℕ → Type 0
+RefusedBy v number place = (r : Refusal) × (v ≡ Err r) × (number_of r.fault ≡ number) × (r.place ≡ place)
 
 -- Refused with this fault and place if the test holds.
 abbrev pub refuse_if : Bool → Fault → ℕ → Verdict

@@ -7,15 +7,15 @@ use Rattle.priority.specs.Check.{on_diagonal}
 use Rattle.priority.proofs.check_circles.Goals as goal
 
 pub loop-p-init : goal.loop-p-init
-loop-p-init c = (omega arith, first_none (on_diagonal c.args.table))
+loop-p-init c = first_none (on_diagonal c.args.table)
 
 pub returns-then-table-p : goal.returns-then-table-p
 unfolding on_diagonal entry
-returns-then-table-p c = sym (first_found (on_diagonal c.args.table) c.loop-p.p _ 9 c.loop-p.p c.loop-p-test.true c.loop-p.invariant.1 (rw c.if-table-p.true refl))
+returns-then-table-p c = rw c.at.ensures (sym (first_found (on_diagonal c.args.table) c.loop-p.p _ (omega arith) c.loop-p.invariant (rw c.if-table-p.true refl)))
 
 pub loop-p-preserved : goal.loop-p-preserved
 unfolding on_diagonal entry
-loop-p-preserved c = (omega arith, first_more (on_diagonal c.args.table) c.loop-p.p c.loop-p.invariant.1 (rw c.if-table-p.false refl))
+loop-p-preserved c = first_more (on_diagonal c.args.table) c.loop-p.p c.loop-p.invariant (rw c.if-table-p.false refl)
 
 pub returns : goal.returns
-returns c = first_done (on_diagonal c.args.table) _ _ c.loop-p.invariant.1 (omega arith)
+returns c = first_done (on_diagonal c.args.table) _ _ c.loop-p.invariant (omega arith)

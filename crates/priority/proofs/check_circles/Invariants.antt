@@ -7,7 +7,4 @@ use Rattle.priority.specs.Check.{on_diagonal}
 use Rattle.priority.proofs.check_circles.Given as goal
 
 abbrev pub invariant-loop-p : goal.invariant-loop-p
-invariant-loop-p l = (l.p ≤ l.count) × (first_refusal l.p (on_diagonal l.table) ≡ accepted)
-
-abbrev pub decreases-loop-p : goal.decreases-loop-p
-decreases-loop-p l = l.count - l.p
+invariant-loop-p l = first_refusal l.p (on_diagonal l.table) ≡ accepted

@@ -6,7 +6,4 @@ use Rattle.priority.specs.Chain.{entry}
 use Rattle.priority.proofs.closed.Given as goal
 
 abbrev pub invariant-loop-middle : goal.invariant-loop-middle
-invariant-loop-middle l = ((x y : ℕ) → entry l.closure x y ≡ through (entry l.initial.closure) l.middle x y) × (l.middle ≤ l.count)
-
-abbrev pub decreases-loop-middle : goal.decreases-loop-middle
-decreases-loop-middle l = l.count - l.middle
+invariant-loop-middle l = (x y : ℕ) → entry l.closure x y ≡ through (entry l.initial.closure) l.middle x y

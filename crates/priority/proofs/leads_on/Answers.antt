@@ -21,7 +21,7 @@ unfolding at
 loop-y-preserved c =
     let l = c.loop-y in
     let f = at c.args.row in
-    (omega arith, c.either-found.ensures ∙ ap (λ (b : Bool). b || f l.y) l.invariant.1 ∙ sym (any_next f l.y))
+    (omega arith, ap (λ (b : Bool). b || f l.y) l.invariant.1 ∙ sym (any_next f l.y))
 
 pub returns : goal.returns
 unfolding at

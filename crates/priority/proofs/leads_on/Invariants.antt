@@ -14,6 +14,3 @@ at row y = get_or row y false
 
 abbrev pub invariant-loop-y : goal.invariant-loop-y
 invariant-loop-y l = (l.y ≤ production_limit) × (l.found ≡ any_below l.y (at l.row))
-
-abbrev pub decreases-loop-y : goal.decreases-loop-y
-decreases-loop-y l = production_limit - l.y

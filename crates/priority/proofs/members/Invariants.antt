@@ -13,7 +13,4 @@ unfoldable pub Member : ℕ → ℕ → ℕ → Bool → Type 0
 Member first second k v = v ≡ between first second k
 
 abbrev pub invariant-loop-y : goal.invariant-loop-y
-invariant-loop-y l = Filled (Member l.first l.second) false (replicate production_limit false) l.y l.row × (l.first ≤ l.y)
-
-abbrev pub decreases-loop-y : goal.decreases-loop-y
-decreases-loop-y l = l.second + 1 - l.y
+invariant-loop-y l = Filled (Member l.first l.second) false (replicate production_limit false) l.y l.row

@@ -13,7 +13,4 @@ unfoldable pub Joined : List Bool → List Bool → ℕ → Bool → Type 0
 Joined row other k v = v ≡ (get_or row k false || get_or other k false)
 
 abbrev pub invariant-loop-y : goal.invariant-loop-y
-invariant-loop-y l = Filled (Joined l.row l.other) false l.row l.y l.out × (l.y ≤ production_limit)
-
-abbrev pub decreases-loop-y : goal.decreases-loop-y
-decreases-loop-y l = production_limit - l.y
+invariant-loop-y l = Filled (Joined l.initial.out l.other) false l.initial.out l.y l.out

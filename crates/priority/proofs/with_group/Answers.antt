@@ -34,11 +34,9 @@ members-group-requires c = c.requires.0
 
 pub loop-x-init : goal.loop-x-init
 loop-x-init c =
-    let start = c in (
-      filled_from (Grouped start.args.table start.args.first start.args.second) [] start.args.table start.args.first
-          (λ k l. grouped_out start.args.table start.args.first start.args.second k start.requires.1 (between_below start.args.first start.args.second k l)),
-      omega arith,
-    )
+    let start = c in
+    filled_from (Grouped start.args.table start.args.first start.args.second) [] start.args.table start.args.first
+    (λ k l. grouped_out start.args.table start.args.first start.args.second k start.requires.1 (between_below start.args.first start.args.second k l))
 
 pub loop-x-preserved : goal.loop-x-preserved
 unfolding entry
@@ -47,17 +45,15 @@ loop-x-preserved c =
     let members = c.members-group in
     let turn = c.loop-x in
     let n : length start.args.table ≡ production_limit = search rules in
-    let own : get_or turn.wider turn.x [] ≡ get_or start.args.table turn.x [] = turn.invariant.0.rest turn.x (omega arith) in (
-      filled_more (Grouped start.args.table start.args.first start.args.second) [] start.args.table turn.x turn.wider c.merged.result (omega arith) turn.invariant.0
-          (grouped_in start.args.table start.args.first start.args.second turn.x c.merged.result members.result (search rules) turn.invariant.1 (omega arith) members.ensures (rw own at c.merged.ensures)),
-      omega arith,
-    )
+    let own : get_or turn.wider turn.x [] ≡ get_or start.args.table turn.x [] = turn.invariant.rest turn.x (omega arith) in
+    filled_more (Grouped start.args.table start.args.first start.args.second) [] start.args.table turn.x turn.wider c.merged.result (omega arith) turn.invariant
+    (grouped_in start.args.table start.args.first start.args.second turn.x c.merged.result members.result (search rules) (omega arith) (omega arith) members.ensures (rw own at c.merged.ensures))
 
 pub returns : goal.returns
 unfolding entry
 returns c = let start = c in
     let table = start.args.table in
-    let done = c.loop-x.invariant.0 in
+    let done = c.loop-x.invariant in
     let n : length table ≡ production_limit = search rules in
     let each : (x : ℕ) → Grouped table start.args.first start.args.second x (get_or c.loop-x.wider x []) =
     λ x. by_cases (dec_lt x c.loop-x.x)

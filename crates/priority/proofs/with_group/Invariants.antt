@@ -16,7 +16,4 @@ pub record Grouped (table : List (List Bool)) (first second x : ℕ) (row : List
   pub entries : (y : ℕ) → get_or row y false ≡ (entry table x y || between first second x && between first second y)
 
 abbrev pub invariant-loop-x : goal.invariant-loop-x
-invariant-loop-x l = Filled (Grouped l.initial.wider l.first l.second) [] l.initial.wider l.x l.wider × (l.first ≤ l.x)
-
-abbrev pub decreases-loop-x : goal.decreases-loop-x
-decreases-loop-x l = l.second + 1 - l.x
+invariant-loop-x l = Filled (Grouped l.initial.wider l.first l.second) [] l.initial.wider l.x l.wider

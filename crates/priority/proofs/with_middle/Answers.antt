@@ -29,7 +29,7 @@ module _ (t : List (List Bool)) (m x : ℕ) where
   beyond_all y e h = rw (entry_out t x y (omega arith), entry_out t x m (omega arith)) refl
 
 pub loop-x-init : goal.loop-x-init
-loop-x-init c = (filled_none (Passes c.args.table c.args.middle) [] c.args.table, omega arith)
+loop-x-init c = filled_none (Passes c.args.table c.args.middle) [] c.args.table
 
 pub loop-x-preserved : goal.loop-x-preserved
 unfolding Passes entry
@@ -39,10 +39,10 @@ loop-x-preserved c =
     let m = l.args.middle in
     let x = l.loop-x.x in
     let n : length t ≡ production_limit = search rules in
-    let own : get_or l.loop-x.wider x [] ≡ get_or t x [] = l.loop-x.invariant.0.rest x (omega arith) in
+    let own : get_or l.loop-x.wider x [] ≡ get_or t x [] = l.loop-x.invariant.rest x (omega arith) in
     elim c.if-wider-x.branch [
-      | then-wider-x w ↦ (rw w.wider-is (filled_more (Passes t m) [] t x l.loop-x.wider w.merged.result (omega arith) l.loop-x.invariant.0 (passes_on t m x w.merged.result (rw own at w.if-wider-x.true) (rw own at w.merged.ensures))), omega arith)
-      | else-wider-x w ↦ (rw w.wider-is (filled_kept (Passes t m) [] t x l.loop-x.wider l.loop-x.invariant.0 (passes_off t m x (rw own at w.if-wider-x.false))), omega arith)
+      | then-wider-x w ↦ rw w.wider-is (filled_more (Passes t m) [] t x l.loop-x.wider w.merged.result (omega arith) l.loop-x.invariant (passes_on t m x w.merged.result (rw own at w.if-wider-x.true) (rw own at w.merged.ensures)))
+      | else-wider-x w ↦ rw w.wider-is (filled_kept (Passes t m) [] t x l.loop-x.wider l.loop-x.invariant (passes_off t m x (rw own at w.if-wider-x.false)))
     ]
 
 pub returns : goal.returns
@@ -51,5 +51,5 @@ returns c x y =
     let t = c.args.table in
     let n : length t ≡ production_limit = search rules in
     by_cases (dec_lt x production_limit)
-    (λ l. c.loop-x.invariant.0.done x (omega arith) y)
-    (λ l. ap (λ (row : List Bool). get_or row y false) (c.loop-x.invariant.0.rest x (omega arith)) ∙ beyond_all t c.args.middle x y n (omega arith))
+    (λ l. c.loop-x.invariant.done x (omega arith) y)
+    (λ l. ap (λ (row : List Bool). get_or row y false) (c.loop-x.invariant.rest x (omega arith)) ∙ beyond_all t c.args.middle x y n (omega arith))

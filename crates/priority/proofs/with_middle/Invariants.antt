@@ -14,7 +14,4 @@ unfoldable pub Passes : List (List Bool) → ℕ → ℕ → List Bool → Type 
 Passes table middle x row = (y : ℕ) → get_or row y false ≡ (entry table x y || entry table x middle && entry table middle y)
 
 abbrev pub invariant-loop-x : goal.invariant-loop-x
-invariant-loop-x l = Filled (Passes l.initial.wider l.middle) [] l.initial.wider l.x l.wider × (l.x ≤ production_limit)
-
-abbrev pub decreases-loop-x : goal.decreases-loop-x
-decreases-loop-x l = production_limit - l.x
+invariant-loop-x l = Filled (Passes l.initial.wider l.middle) [] l.initial.wider l.x l.wider
