@@ -1,27 +1,18 @@
 // The conflict question (01's clash question): may production q stand as argument i of production p?
 #![tactic(auto)]
 
-ghost use Rattle.std.specs.Prelude.{◌≡◌, true, cond, ◌↔◌, ℕ, ◌<◌};
+ghost use Rattle.std.specs.Prelude.{◌≡◌, true, ◌↔◌, ℕ, ◌<◌};
 ghost use Rattle.grammar.specs.Formed.{WellFormed};
 ghost use Rattle.layout.specs.Limits.{production_limit};
 ghost use Rattle.priority.specs.Chain.{entry};
 ghost use Rattle.priority.specs.Priorities.{Higher, is_higher};
 ghost use Rattle.priority.specs.Conflict.{conflicts};
-ghost use Rattle.question.specs.Answer.{There, is_there, yes_or_no, conflict_answer};
+ghost use Rattle.question.specs.Answer.{There, is_there, own_answer, conflict_answer};
 
-use grammar::Verdict;
 use layout::limits::PRODUCTION_LIMIT;
 use layout::{argument, argument_count, production_count, result};
 use priority::{LEFT, NONASSOC, RIGHT, check_grammar, declared_pairs, priorities};
-
-// What the conflict question answers.
-#[derive(Clone, Copy)]
-pub enum ConflictAnswer {
-    Yes,
-    No,
-    // The refusal's number and its place.
-    Refused(usize, usize),
-}
+use refusal::{Fault, Refusal};
 
 // What asking over the closed priorities gives: the answer, and the priorities as they were passed.
 #[derive(Clone, Copy)]
@@ -31,35 +22,33 @@ pub struct Asked {
 }
 
 // The operation "conflict question": productions and arguments are counted from 0.
-pub fn conflict(book: &[u8], p: usize, i: usize, q: usize) -> ConflictAnswer
+#[tactic(auto, unfolding(crate::specs::Answer::conflict_answer))]
+pub fn conflict(book: &[u8], p: usize, i: usize, q: usize) -> Result<bool, Refusal>
     ensures { result ≡ conflict_answer book.now p i q }
 {
-    let verdict = check_grammar(book);
-    match verdict {
-        Verdict::Refused(number, place) => ConflictAnswer::Refused(number, place),
-        Verdict::Accepted => answer(book, p, i, q),
-    }
+    check_grammar(book)?;
+    answer(book, p, i, q)
 }
 
 // The answer for an accepted grammar.
-fn answer(book: &[u8], p: usize, i: usize, q: usize) -> ConflictAnswer
+fn answer(book: &[u8], p: usize, i: usize, q: usize) -> Result<bool, Refusal>
     requires { WellFormed book.now }
-    ensures { result ≡ cond (is_there book.now p i q) (yes_or_no (conflicts book.now p i q)) (ConflictAnswer.Refused 7 0) }
+    ensures { result ≡ own_answer book.now p i q }
 {
-    if production_count(book) <= p {
-        return ConflictAnswer::Refused(7, 0);
-    }
-    if argument_count(book, p) <= i {
-        return ConflictAnswer::Refused(7, 0);
-    }
-    if production_count(book) <= q {
-        return ConflictAnswer::Refused(7, 0);
+    if !is_there(book, p, i, q) {
+        return Err(Fault::Absent.at(0));
     }
     let asked = ask(priorities(book), book, p, i, q);
-    if asked.conflict {
-        return ConflictAnswer::Yes;
-    }
-    ConflictAnswer::No
+    Ok(asked.conflict)
+}
+
+// Whether both productions are there, and argument i of p.
+#[tactic(auto, unfolding(crate::specs::Answer::is_there))]
+fn is_there(book: &[u8], p: usize, i: usize, q: usize) -> bool
+    requires { WellFormed book.now }
+    ensures { result ≡ is_there book.now p i q }
+{
+    p < production_count(book) && i < argument_count(book, p) && q < production_count(book)
 }
 
 // The question over the closed priorities, which come back with the answer, so that a caller can ask again.

@@ -1,15 +1,14 @@
 -- Why a production may not stand somewhere (02, [8], "Why it clashes"): which of the three lines of 01, "Ranks and clashes", and which declarations.
-use Rattle.std.specs.Prelude.{ℕ, ◌≤◌, ◌<◌, ◌≡◌, Bool, false, true, ◌||◌, List}
+use Rattle.std.specs.Prelude.{ℕ, ◌≤◌, ◌<◌, ◌≡◌, Bool, false, true, ◌||◌, List, Option, None, Some, is_some, Result, Ok, Err}
 use Rattle.refusal.specs.Verdict.{accepted}
 use Rattle.layout.specs.Layout.{declarations}
 use Rattle.priority.specs.Check.{checked}
 use Rattle.priority.specs.Conflict.{Conflict, anywhere, at_first, at_last}
 use Rattle.priority.specs.Priorities.{Kind, left, right, nonassoc, covers, declaration_of}
 use Rattle.question.specs.Answer.{There, conflict_answer}
-use Rattle.question.specs.declared.ConflictAnswer.{ConflictAnswer}
-use Rattle.question.specs.declared.ConflictAnswer.TheVariants.{Yes, No, Refused as NotAsked}
-use Rattle.reason.specs.declared.ReasonAnswer.{ReasonAnswer}
-use Rattle.reason.specs.declared.ReasonAnswer.TheVariants.{Free, Higher, AtFirst, AtLast, Refused}
+use Rattle.reason.specs.declared.Cause.{Cause}
+use Rattle.reason.specs.declared.Cause.TheVariants.{Higher, AtFirst, AtLast}
+use Rattle.refusal.specs.declared.Refusal.{Refusal}
 use Rattle.shortest.specs.Written.{ShortestWritten}
 
 -- The line of 01 that a conflict is by.
@@ -40,22 +39,19 @@ Asked b p i q = (checked b ≡ accepted) × There b p i q
 
 -- What is behind an answer, if the buffer for a chain held c₀ and then holds c: of a conflict its line, and for line 1 a shortest chain of declarations, which
 -- stands in the buffer, for the others the lowest declaration. By any other answer than line 1 the buffer is as it was.
-unfoldable pub Behind : (b : List ℕ) (p i q : ℕ) (c₀ : List ℕ) → ReasonAnswer → (c : List ℕ) → Type 0
-Behind b p i q c₀ Free c = c ≡ c₀
-Behind b p i q c₀ (Higher n) c = LowestLine b p i q 1 × ShortestWritten b p q c₀ n c
-Behind b p i q c₀ (AtFirst d) c = LowestLine b p i q 2 × LowestDeclaration b right p q d × (c ≡ c₀)
-Behind b p i q c₀ (AtLast d) c = LowestLine b p i q 3 × LowestDeclaration b left p q d × (c ≡ c₀)
-Behind b p i q c₀ (Refused number place) c = c ≡ c₀
+unfoldable pub Behind : (b : List ℕ) (p i q : ℕ) (c₀ : List ℕ) → Result (Option Cause) Refusal → (c : List ℕ) → Type 0
+Behind b p i q c₀ (Ok None) c = c ≡ c₀
+Behind b p i q c₀ (Ok (Some (Higher n))) c = LowestLine b p i q 1 × ShortestWritten b p q c₀ n c
+Behind b p i q c₀ (Ok (Some (AtFirst d))) c = LowestLine b p i q 2 × LowestDeclaration b right p q d × (c ≡ c₀)
+Behind b p i q c₀ (Ok (Some (AtLast d))) c = LowestLine b p i q 3 × LowestDeclaration b left p q d × (c ≡ c₀)
+Behind b p i q c₀ (Err r) c = c ≡ c₀
 
 -- The answer to the plain question that a reason is an answer to.
-unfoldable pub plainly : ReasonAnswer → ConflictAnswer
-plainly Free = No
-plainly (Higher n) = Yes
-plainly (AtFirst d) = Yes
-plainly (AtLast d) = Yes
-plainly (Refused number place) = NotAsked number place
+unfoldable pub plainly : Result (Option Cause) Refusal → Result Bool Refusal
+plainly (Ok reason) = Ok (is_some reason)
+plainly (Err r) = Err r
 
 -- What the question for the reason gives: yes, no and the refusals as the plain question has them, and what is behind.
-pub record Reasoned (b : List ℕ) (p i q : ℕ) (c₀ : List ℕ) (r : ReasonAnswer) (c : List ℕ) : Type 0 where
+pub record Reasoned (b : List ℕ) (p i q : ℕ) (c₀ : List ℕ) (r : Result (Option Cause) Refusal) (c : List ℕ) : Type 0 where
   pub plain : plainly r ≡ conflict_answer b p i q
   pub behind : Behind b p i q c₀ r c

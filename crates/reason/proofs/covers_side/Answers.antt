@@ -12,10 +12,7 @@ unfolding kind_number
 returns c k side =
     let a = c.args in
     let said = c.said_kind-said in
-    let one = c.names_pair in
-    let other = c.names_pair-2 in
-    c.both.ensures
-    ∙ ap₂ ◌&&◌
-    (c.either.ensures ∙ ap₂ (λ (n m : ℕ). eqb n m || eqb n (kind_number nonassoc)) said.ensures side.0)
-    (c.either-2.ensures ∙ ap₂ ◌||◌ one.ensures other.ensures)
+    ap₂ ◌&&◌
+    (ap₂ (λ (n m : ℕ). eqb n m || eqb n (kind_number nonassoc)) said.ensures side.0)
+    (ap₂ ◌||◌ c.names_pair.ensures c.names_pair-2.ensures)
     ∙ covers_side_lem a.own a.p a.q k side.1

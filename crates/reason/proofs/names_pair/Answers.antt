@@ -7,9 +7,9 @@ use Rattle.reason.proofs.names_pair.Goals as goal
 pub returns-then-is_group : goal.returns-then-is_group
 returns-then-is_group c =
     let a = c.args in
-    c.both.ensures ∙ ap₂ ◌&&◌ c.is_member.ensures c.is_member-then-is_group.ensures ∙ sym (named_group a.own a.x a.y (sym c.is_group.ensures ∙ c.if-is_group.true))
+    ap₂ ◌&&◌ c.is_member.ensures c.is_member-then-is_group.ensures ∙ sym (named_group a.own a.x a.y (sym c.is_group.ensures ∙ c.if-is_group.true))
 
 pub returns : goal.returns
 returns c =
     let a = c.args in
-    c.both-2.ensures ∙ sym (named_two a.own a.x a.y (sym c.is_group.ensures ∙ c.if-is_group.false))
+    sym (named_two a.own a.x a.y (sym c.is_group.ensures ∙ c.if-is_group.false))
