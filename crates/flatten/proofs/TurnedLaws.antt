@@ -22,7 +22,7 @@ use Rattle.priority.specs.Priorities.{declarations_of}
 use Rattle.priority.specs.declared.Declaration.{Declaration}
 use Rattle.theory.specs.Tree.{Tree, Forest}
 use Rattle.writing.specs.Answer.{fitted}
-use Rattle.writing.specs.declared.WriteAnswer.TheVariants.{Refused}
+use Rattle.refusal.specs.declared.Fault.TheVariants.{LongFlat}
 
 module _ (b c : List ℕ) (t : TurnedRound b c) where
   abbrev same : SameFront b c
@@ -39,7 +39,7 @@ module _ (b c : List ℕ) (t : TurnedRound b c) where
   pub turned_flat_answer : (room : ℕ) → flat_answer c room ≡ flat_answer b room
   unfolding flat_answer
   turned_flat_answer room =
-      ap₂ (λ (v : Verdict) (g : List Line). unless_refused Refused v (fitted 21 (length (grammar_text g)) room)) (turned_checked b c t) turned_flat
+      ap₂ (λ (v : Verdict) (g : List Line). unless_refused v (fitted LongFlat (length (grammar_text g)) room)) (turned_checked b c t) turned_flat
 
   -- The class at the root is the same.
   pub turned_root : plain_class c (start_sort c) ≡ plain_class b (start_sort b)

@@ -13,44 +13,42 @@ ghost use Rattle.flatten.specs.Flat.{flat_grammar};
 ghost use Rattle.ccg.specs.Text.{grammar_text};
 ghost use Rattle.flatten.specs.Answer.{flat_answer};
 ghost use Rattle.writing.specs.Answer.{fitted, buffer_after};
+ghost use Rattle.refusal.specs.declared.Fault.TheVariants.{LongFlat};
 
 use ccg::put_grammar;
 use charset::CharSet;
 use classes::class_set;
-use common::{both, wide};
-use grammar::Verdict;
+use common::wide;
 use layout::limits::{ARGUMENT_LIMIT, CLASS_BASE, HEADER_LENGTH, SORT_LIMIT};
 use layout::{argument_count, bodies_at, production_count};
 use priority::{LEFT, NONASSOC, RIGHT, check_grammar, declared_pairs, priorities};
+use refusal::{Fault, Refusal};
 use tables::{PRODUCTION_WORDS, ProductionSet, ROOT_SLOT, put_class, put_counts, zero_tables};
-use writing::WriteAnswer;
 
 // The operation "writing a character class grammar" (01's writing a flat book). A text longer than the buffer is refused and changes nothing.
-pub fn write_flat(book: &[u8], out: &mut [u8]) -> WriteAnswer
+#[tactic(auto, unfolding(crate::specs::Answer::flat_answer))]
+pub fn write_flat(book: &[u8], out: &mut [u8]) -> Result<usize, Refusal>
     ensures value { result ≡ flat_answer book.now (length out.old) }
     ensures out_after { out.new ≡ buffer_after (flat_answer book.now (length out.old)) (grammar_text (flat_grammar book.now)) out.old }
 {
-    let verdict = check_grammar(book);
-    match verdict {
-        Verdict::Refused(number, place) => WriteAnswer::Refused(number, place),
-        Verdict::Accepted => write_accepted(book, out),
-    }
+    check_grammar(book)?;
+    write_accepted(book, out)
 }
 
 // The same for an accepted grammar: the length first, and then, if it fits, the text.
-fn write_accepted(book: &[u8], out: &mut [u8]) -> WriteAnswer
+fn write_accepted(book: &[u8], out: &mut [u8]) -> Result<usize, Refusal>
     requires { WellFormed book.now }
-    ensures value { result ≡ fitted 21 (length (grammar_text (flat_grammar book.now))) (length out.old) }
-    ensures out_after { out.new ≡ buffer_after (fitted 21 (length (grammar_text (flat_grammar book.now))) (length out.old)) (grammar_text (flat_grammar book.now)) out.old }
+    ensures value { result ≡ fitted LongFlat (length (grammar_text (flat_grammar book.now))) (length out.old) }
+    ensures out_after { out.new ≡ buffer_after (fitted LongFlat (length (grammar_text (flat_grammar book.now))) (length out.old)) (grammar_text (flat_grammar book.now)) out.old }
 {
     let mut tables = zero_tables();
     flatten(book, &mut tables);
     let needed = put_grammar(&mut out[..0], &tables);
     if out.len() < needed {
-        return WriteAnswer::Refused(21, needed);
+        return Err(Fault::LongFlat.at(needed));
     }
     put_grammar(out, &tables);
-    WriteAnswer::Written(needed)
+    Ok(needed)
 }
 
 // ---- the tables: at each argument the characters and the productions that may stand there, and at the root the productions of the start sort
@@ -64,14 +62,11 @@ fn by_result(book: &[u8]) -> [u64; RESULT_WORDS]
     ensures { ByResult book.now (productions book.now) result }
 {
     let mut sets = [0u64; RESULT_WORDS];
-    let count = production_count(book);
     let mut at = bodies_at(book);
-    let mut q = 0;
-    while q < count {
+    for q in 0..production_count(book) {
         let word = wide(book[at]) * PRODUCTION_WORDS + q / 64;
-        sets[word] = sets[word] | 1u64 << (q % 64);
+        sets[word] |= 1u64 << (q % 64);
         at += 1 + argument_count(book, q);
-        q += 1;
     }
     sets
 }
@@ -111,8 +106,8 @@ fn standing(
     ensures { (q : ℕ) → q < production_limit → has result.words q ≡ (has fitting.words q && not (has above.words q || (eqb i 0 && leb 2 count) && has firsts.words q || (eqb (i + 1) count && leb 2 count) && has lasts.words q)) }
 {
     let lower = fitting.without(true, above);
-    let inner = lower.without(both(i == 0, 2 <= count), firsts);
-    inner.without(both(i + 1 == count, 2 <= count), lasts)
+    let inner = lower.without((i == 0) & (2 <= count), firsts);
+    inner.without((i + 1 == count) & (2 <= count), lasts)
 }
 
 // Writes the argument counts, and the class of the root: the productions of the start sort, which is byte 4.
@@ -151,8 +146,7 @@ fn write_production(
     ensures { WrittenBelow book.now (slot (p + 1) 0) tables.new }
 {
     let count = argument_count(book, p);
-    let mut i = 0;
-    while i < count {
+    for i in 0..count {
         let x = book[at + 1 + i];
         let stands = standing(with_result(sets, x), above, firsts, lasts, count, i);
         put_class(
@@ -161,7 +155,6 @@ fn write_production(
             argument_set(book, wide(x)),
             stands,
         );
-        i += 1;
     }
 }
 
@@ -176,10 +169,8 @@ pub fn flatten(book: &[u8], tables: &mut [u64])
     let lasts = declared_pairs(book, LEFT, NONASSOC);
     let sets = by_result(book);
     write_counts_and_root(book, sets, tables);
-    let count = production_count(book);
     let mut at = bodies_at(book);
-    let mut p = 0;
-    while p < count {
+    for p in 0..production_count(book) {
         write_production(
             book,
             p,
@@ -191,6 +182,5 @@ pub fn flatten(book: &[u8], tables: &mut [u64])
             tables,
         );
         at += 1 + argument_count(book, p);
-        p += 1;
     }
 }

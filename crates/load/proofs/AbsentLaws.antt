@@ -11,7 +11,9 @@ use Rattle.ccg.specs.Tables.{table_class, table_line, table_grammar}
 use Rattle.common.proofs.ListLaws.{length_tabulate, get_d_tabulate}
 use Rattle.refusal.proofs.VerdictLaws.{refuse_case, first_of}
 use Rattle.std.specs.Prelude.{Err}
-use Rattle.refusal.specs.Verdict.{accepted}
+use Rattle.refusal.specs.Verdict.{accepted, refused}
+use Rattle.refusal.specs.declared.Fault.TheVariants.{NoLine}
+use Rattle.refusal.specs.declared.Refusal.{Refusal}
 use Rattle.layout.specs.Limits.{production_limit, argument_limit}
 use Rattle.load.specs.Absent.{absent_at, absent_in, absent_in_argument, absent_in_line, absent_in_line_at, absent_names}
 use Rattle.tables.specs.Layout.{slot, counts_of, arity_in, takes_production}
@@ -25,7 +27,7 @@ module _ (t : List ℕ) (s count k : ℕ) (there : count + k < production_limit)
       let e : production_number (count + k) - production_number 0 ≡ count + k = omega arith in
       table_of_production t s (production_number (count + k)) (omega arith) (omega arith) ∙ ap (takes_production t s) e
 
-  pub absent_found : takes_production t s (count + k) ≡ true → absent_at count (table_class t s) k ≡ Refused 28 (production_number (count + k))
+  pub absent_found : takes_production t s (count + k) ≡ true → absent_at count (table_class t s) k ≡ refused NoLine (production_number (count + k))
   unfolding absent_at
   absent_found e = rw (has_production, e) refl
 
@@ -54,20 +56,20 @@ line_at t p l =
 
 -- ---- the number of the refusal
 
-pub class_number : (count : ℕ) (cc : Class) (n k : ℕ) → absent_in count cc ≡ Refused n k → n ≡ 28
+pub class_number : (count : ℕ) (cc : Class) (r : Refusal) → absent_in count cc ≡ Err r → r.fault ≡ NoLine
 unfolding absent_in absent_at
-class_number count cc n k e =
+class_number count cc r e =
     let first = first_of (absent_at count cc) (production_limit - count) e in
-    refuse_case (λ m j. m ≡ 28) (cc (production_number (count + first.index))) 28 (production_number (count + first.index)) first.refused (λ t. refl)
+    refuse_case (λ x. x.fault ≡ NoLine) (cc (production_number (count + first.index))) NoLine (production_number (count + first.index)) first.refused (λ t. refl)
 
-line_number : (count : ℕ) (l : Line) (n k : ℕ) → absent_in_line count l ≡ Refused n k → n ≡ 28
+line_number : (count : ℕ) (l : Line) (r : Refusal) → absent_in_line count l ≡ Err r → r.fault ≡ NoLine
 unfolding absent_in_line absent_in_argument
-line_number count l n k e =
+line_number count l r e =
     let first = first_of (absent_in_argument count l) (length l.arguments) e in
-    class_number count (get_or l.arguments first.index no_class) n k first.refused
+    class_number count (get_or l.arguments first.index no_class) r first.refused
 
-pub names_number : (g : List Line) (n k : ℕ) → absent_names g ≡ Refused n k → n ≡ 28
+pub names_number : (g : List Line) (r : Refusal) → absent_names g ≡ Err r → r.fault ≡ NoLine
 unfolding absent_names absent_in_line_at
-names_number g n k e =
+names_number g r e =
     let first = first_of (absent_in_line_at g) (length g) e in
-    line_number (length g) (get_or g first.index no_line) n k first.refused
+    line_number (length g) (get_or g first.index no_line) r first.refused

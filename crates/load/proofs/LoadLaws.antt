@@ -18,13 +18,15 @@ use Rattle.common.proofs.BoolLaws.{true_or_false}
 use Rattle.common.proofs.ListLaws.{tabulate_members}
 use Rattle.form.specs.Form.{Writable, Says}
 use Rattle.form.specs.Read.{Memory}
-use Rattle.grammar.specs.declared.Verdict.TheVariants.{accepted, Refused as Rejected}
+use Rattle.refusal.specs.Verdict.{accepted, refusal}
+use Rattle.refusal.specs.declared.Fault.{Fault}
+use Rattle.refusal.specs.declared.Fault.TheVariants.{Form}
+use Rattle.std.specs.Prelude.{Result, Ok, Err}
+use Rattle.refusal.specs.declared.Refusal.{Refusal}
 use Rattle.layout.specs.Limits.{production_limit}
 use Rattle.load.specs.Absent.{absent_names}
 use Rattle.load.specs.Check.{lines_answer, Loaded, Checked}
 use Rattle.load.specs.Held.{Held, LinesRead, Few}
-use Rattle.load.specs.declared.FlatAnswer.{FlatAnswer}
-use Rattle.load.specs.declared.FlatAnswer.TheVariants.{Lines, Refused}
 use Rattle.tables.proofs.PutLaws.{put_counts, put_tables}
 use Rattle.tables.specs.Layout.{slot, slot_at, counts_of, arity_in, takes_char, takes_production, ParserTables}
 use Rattle.tables.specs.Put.{CountsPut, ClassesKept}
@@ -32,11 +34,11 @@ use Rattle.theory.specs.Tree.{production_number}
 
 -- ---- the answer
 
-pub answer_refused : (g : List Line) (number place : ℕ) → absent_names g ≡ Rejected number place → Refused number place ≡ lines_answer g
+pub answer_refused : (g : List Line) (r : Refusal) → absent_names g ≡ Err r → Err r ≡ lines_answer g
 unfolding lines_answer
-answer_refused g number place e = rw e refl
+answer_refused g r e = rw e refl
 
-pub answer_lines : (g : List Line) (n : ℕ) → absent_names g ≡ accepted → n ≡ length g → Lines n ≡ lines_answer g
+pub answer_lines : (g : List Line) (n : ℕ) → absent_names g ≡ accepted → n ≡ length g → Ok n ≡ lines_answer g
 unfolding lines_answer
 answer_lines g n e f = rw (e, f) refl
 
@@ -113,10 +115,10 @@ pub record Known (text : List ℕ) (n : ℕ) (t c : List ℕ) : Type 0 where
   pub says : Says text memory.lines
   pub count : n ≡ length memory.lines
 
-pub lines_known : (text : List ℕ) (r : FlatAnswer) (n : ℕ) (t c : List ℕ) → LinesRead text r t c → r ≡ Lines n → Known text n t c
+pub lines_known : (text : List ℕ) (r : Result ℕ Refusal) (n : ℕ) (t c : List ℕ) → LinesRead text r t c → r ≡ Ok n → Known text n t c
 unfolding LinesRead
 lines_known text r n t c h e =
-    let (m, held, says, count) : LinesRead text (Lines n) t c = subst (λ (x : FlatAnswer). LinesRead text x t c) e h in
+    let (m, held, says, count) : LinesRead text (Ok n) t c = subst (λ (x : Result ℕ Refusal). LinesRead text x t c) e h in
     record { memory = m; held = held; says = says; count = count }
 
 pub known_short : (text : List ℕ) (n : ℕ) (t c : List ℕ) → Known text n t c → (n ≤ length c) × (length (take n c) ≤ production_limit)
@@ -134,13 +136,13 @@ known_few text n t c k p =
 
 -- ---- the promise
 
-pub loaded_refused : (text : List ℕ) (r : FlatAnswer) (number place : ℕ) (t₁ c t : List ℕ) → LinesRead text r t₁ c → r ≡ Refused number place → Loaded text (Refused number place) t
+pub loaded_refused : (text : List ℕ) (r : Result ℕ Refusal) (x : Refusal) (t₁ c t : List ℕ) → LinesRead text r t₁ c → r ≡ Err x → Loaded text (Err x) t
 unfolding LinesRead Loaded
-loaded_refused text r number place t₁ c t h e =
-    let (is, not) : LinesRead text (Refused number place) t₁ c = subst (λ (x : FlatAnswer). LinesRead text x t₁ c) e h in
-    inl (place, not, ap (λ (n : ℕ). Refused n place) is)
+loaded_refused text r x t₁ c t h e =
+    let (is, not) : LinesRead text (Err x) t₁ c = subst (λ (y : Result ℕ Refusal). LinesRead text y t₁ c) e h in
+    inl (x.place, not, ap (λ (f : Fault). Err (refusal f x.place)) is)
 
-pub loaded_lines : (text : List ℕ) (r : FlatAnswer) (n : ℕ) (t₀ c t : List ℕ) → Known text n t₀ c → CountsPut (take n c) (length (take n c)) t → ClassesKept t₀ t
+pub loaded_lines : (text : List ℕ) (r : Result ℕ Refusal) (n : ℕ) (t₀ c t : List ℕ) → Known text n t₀ c → CountsPut (take n c) (length (take n c)) t → ClassesKept t₀ t
     → r ≡ lines_answer (table_grammar t) → Loaded text r t
 unfolding Loaded
 loaded_lines text r n t₀ c t k put kept e =
@@ -151,6 +153,6 @@ loaded_lines text r n t₀ c t k put kept e =
     inr (tables_are m t₀ c t k.held few (take n c) are put kept, subst⁻¹ (Says text) same k.says, e)
 
 -- the tables apart, it is the promise of checking
-pub loaded_checked : (text : List ℕ) (r : FlatAnswer) (t : List ℕ) → Loaded text r t → Checked text r
+pub loaded_checked : (text : List ℕ) (r : Result ℕ Refusal) (t : List ℕ) → Loaded text r t → Checked text r
 unfolding Loaded Checked
 loaded_checked text r t h = ⊎_elim (λ a. inl a) (λ a. inr (table_grammar t, a.1, a.2)) h

@@ -3,15 +3,18 @@ use Prim.Native.Nat.{ℕ, ◌+◌, ◌-◌, ◌≤◌, ◌<◌}
 use mathlib.Core.Bool.{false, true, true≢false}
 use mathlib.Core.List.{List}
 use mathlib.Core.Logic.{◌↔◌, by_cases}
-use mathlib.Core.Path.{◌≡◌, refl, sym, ◌∙◌, ap, subst}
+use mathlib.Core.Path.{◌≡◌, refl, sym, ◌∙◌, ap₂, subst}
 use native.Mathlib.Decide.{dec_lt}
 use native.Mathlib.Omega.{arith}
 use lib.ListN.{length, get_or}
 use Rattle.ccg.specs.Ccg.{Class, Line, no_line, no_class}
 use Rattle.refusal.proofs.VerdictLaws.{refuse_case, refuse_accepted, FirstOf, first_of, first_all, first_pass}
 use Rattle.refusal.specs.Verdict.{Verdict}
-use Rattle.std.specs.Prelude.{Err}
-use Rattle.refusal.specs.Verdict.{accepted}
+use Rattle.std.specs.Prelude.{Ok, Err}
+use Rattle.refusal.specs.Verdict.{accepted, refusal, refused}
+use Rattle.refusal.specs.declared.Fault.{Fault}
+use Rattle.refusal.specs.declared.Fault.TheVariants.{NoLine}
+use Rattle.refusal.specs.declared.Refusal.{Refusal}
 use Rattle.layout.specs.Limits.{production_limit}
 use Rattle.load.proofs.AbsentLaws.{names_number}
 use Rattle.load.specs.Absent.{absent_at, absent_in, absent_in_argument, absent_in_line, absent_in_line_at, absent_names, Names, FirstNamed}
@@ -25,7 +28,7 @@ class_names count cc e q l h =
     let k = q - count in
     let same : count + k ≡ q = omega arith in
     subst (λ (n : ℕ). cc (production_number n) ≡ false) same
-    (refuse_accepted (cc (production_number (count + k))) 28 (production_number (count + k)) (first_all (absent_at count cc) (production_limit - count) e k (omega arith)))
+    (refuse_accepted (cc (production_number (count + k))) NoLine (production_number (count + k)) (first_all (absent_at count cc) (production_limit - count) e k (omega arith)))
 
 pub class_accepted : (count : ℕ) (cc : Class) → ((q : ℕ) → count ≤ q → q < production_limit → cc (production_number q) ≡ false) → absent_in count cc ≡ accepted
 unfolding absent_in absent_at
@@ -50,12 +53,12 @@ module _ (g : List Line) where
 
   module _ (p : ℕ) (lp : p < length g) (earlier : (p' : ℕ) → p' < p → absent_in_line_at g p' ≡ accepted)
       (i : ℕ) (li : i < length (get_or g p no_line).arguments) (before : (i' : ℕ) → i' < i → absent_in_argument (length g) (get_or g p no_line) i' ≡ accepted) where
-    first_in_class : (k : ℕ) → FirstOf (absent_at (length g) (class_at p i)) (production_limit - length g) 28 k → FirstNamed g k
+    first_in_class : (r : Refusal) → FirstOf (absent_at (length g) (class_at p i)) (production_limit - length g) r → FirstNamed g r.place
     unfolding absent_at absent_in_argument
-    first_in_class k f =
+    first_in_class r f =
         let q = length g + f.index in
-        let (set, is) : (class_at p i (production_number q) ≡ true) × (k ≡ production_number q) =
-        refuse_case (λ m j. (class_at p i (production_number q) ≡ true) × (j ≡ production_number q)) (class_at p i (production_number q)) 28 (production_number q) f.refused (λ t. (t, refl)) in
+        let (set, is) : (class_at p i (production_number q) ≡ true) × (r.place ≡ production_number q) =
+        refuse_case (λ x. (class_at p i (production_number q) ≡ true) × (x.place ≡ production_number q)) (class_at p i (production_number q)) NoLine (production_number q) f.refused (λ t. (t, refl)) in
         let below = f.below in
         record {
           p = p;
@@ -67,18 +70,18 @@ module _ (g : List Line) where
           before = λ i' q' l. accepted_none p i' (before i' l) q';
           lower = λ q' l h. let j = q' - length g in
               let same : length g + j ≡ q' = omega (arith, h.absent) in
-              let passed = refuse_accepted (class_at p i (production_number (length g + j))) 28 (production_number (length g + j)) (f.before j (omega (arith, h.absent))) in
+              let passed = refuse_accepted (class_at p i (production_number (length g + j))) NoLine (production_number (length g + j)) (f.before j (omega (arith, h.absent))) in
               true≢false (sym h.named ∙ subst (λ (n : ℕ). class_at p i (production_number n) ≡ false) same passed);
         }
 
-  refused_first : (k : ℕ) → absent_names g ≡ Refused 28 k → FirstNamed g k
+  refused_first : (r : Refusal) → absent_names g ≡ Err r → FirstNamed g r.place
   unfolding absent_names absent_in_line_at absent_in_line absent_in_argument absent_in
-  refused_first k e =
+  refused_first r e =
       let line = first_of (absent_in_line_at g) (length g) e in
       let p = line.index in
       let l = get_or g p no_line in
       let argument = first_of (absent_in_argument (length g) l) (length l.arguments) line.refused in
-      first_in_class p line.below line.before argument.index argument.below argument.before k
+      first_in_class p line.below line.before argument.index argument.below argument.before r
       (first_of (absent_at (length g) (class_at p argument.index)) (production_limit - length g) argument.refused)
 
   -- there is one first name
@@ -96,23 +99,17 @@ module _ (g : List Line) where
       (λ s. by_cases (dec_lt b.q a.q) (λ l. absurd (a.lower b.q l (subst (λ (x : ℕ). Names g a.p x b.q) (sym arguments) bn)))
       (λ t. omega (arith, a.is_place, b.is_place)))))))
 
-  first_refused : (v : Verdict) → absent_names g ≡ v → (k : ℕ) → FirstNamed g k → v ≡ Refused 28 k
-  first_refused accepted e k f = absurd (names_none e f.p f.i f.q f.names)
-  first_refused (Refused n j) e k f =
-      let is : n ≡ 28 = names_number g n j e in
-      let refused : absent_names g ≡ Refused 28 j = e ∙ ap (λ (m : ℕ). Refused m j) is in
-      ap (λ (m : ℕ). Refused m j) is ∙ ap (Refused 28) (first_unique j k (refused_first j refused) f)
+  first_refused : (v : Verdict) → absent_names g ≡ v → (k : ℕ) → FirstNamed g k → v ≡ refused NoLine k
+  first_refused (Ok _) e k f = absurd (names_none e f.p f.i f.q f.names)
+  first_refused (Err r) e k f = ap₂ (λ (x : Fault) (j : ℕ). Err (refusal x j)) (names_number g r e) (first_unique r.place k (refused_first r e) f)
 
-  pub names_first : (k : ℕ) → (absent_names g ≡ Refused 28 k) ↔ FirstNamed g k
-  names_first k = (refused_first k, λ f. first_refused (absent_names g) refl k f)
+  pub names_first : (k : ℕ) → (absent_names g ≡ refused NoLine k) ↔ FirstNamed g k
+  names_first k = (refused_first (refusal NoLine k), λ f. first_refused (absent_names g) refl k f)
 
   -- and none is accepted exactly if there is no such name
   none_accepted : (v : Verdict) → absent_names g ≡ v → ((p i q : ℕ) → Names g p i q → ⊥) → v ≡ accepted
-  none_accepted accepted e none = refl
-  none_accepted (Refused n k) e none =
-      let is : n ≡ 28 = names_number g n k e in
-      let f = refused_first k (e ∙ ap (λ (m : ℕ). Refused m k) is) in
-      absurd (none f.p f.i f.q f.names)
+  none_accepted (Ok _) e none = refl
+  none_accepted (Err r) e none = let f = refused_first r e in absurd (none f.p f.i f.q f.names)
 
   pub names_accepted : (absent_names g ≡ accepted) ↔ ((p i q : ℕ) → Names g p i q → ⊥)
   names_accepted = (names_none, λ none. none_accepted (absent_names g) refl none)

@@ -19,7 +19,9 @@ use Rattle.form.specs.declared.State.{State}
 use Rattle.layout.specs.Limits.{production_limit}
 use Rattle.load.proofs.HeldLaws.{held_step, held_nothing}
 use Rattle.load.specs.Held.{Noted, Reached, end_answer, LinesRead}
-use Rattle.load.specs.declared.FlatAnswer.TheVariants.{Lines, Refused}
+use Rattle.refusal.specs.Verdict.{refused}
+use Rattle.refusal.specs.declared.Fault.TheVariants.{Form}
+use Rattle.std.specs.Prelude.{Ok}
 use Rattle.tables.specs.Layout.{table_words}
 
 -- ---- the bytes
@@ -53,7 +55,7 @@ reached_more text i s t₀ c₀ t c h l on noted =
 
 module _ (text : List ℕ) (i : ℕ) (s : State) (t c : List ℕ) (h : Reached text i s t c) where
   -- before the end: no text goes on behind the next byte
-  pub reached_off : i < length text → goes_on (step s (get_or text i 0)).spot ≡ false → LinesRead text (Refused 27 i) t c
+  pub reached_off : i < length text → goes_on (step s (get_or text i 0)).spot ≡ false → LinesRead text (refused Form i) t c
   unfolding LinesRead
   reached_off l stop =
       let up : suc i ≡ i + 1 = omega arith in
@@ -74,7 +76,7 @@ module _ (text : List ℕ) (i : ℕ) (s : State) (t c : List ℕ) (h : Reached t
         subst⁻¹ (λ (k : ℕ). NotInForm text k) same (stops_short text (rw ended h.on) (rw ended e))
 
     -- and where it may
-    stopped_whole : may_end s ≡ true → LinesRead text (Lines s.line) t c
+    stopped_whole : may_end s ≡ true → LinesRead text (Ok s.line) t c
     unfolding LinesRead
     stopped_whole e = (h.memory, h.held, end_says s h.memory text (rw whole at h.told) e, h.told.line)
 

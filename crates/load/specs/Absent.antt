@@ -3,12 +3,13 @@ use Rattle.std.specs.Prelude.{ℕ, ◌+◌, ◌-◌, ◌≤◌, ◌<◌, true, �
 use Rattle.ccg.specs.Ccg.{Class, Line, no_line, no_class}
 use Rattle.refusal.specs.Verdict.{refuse_if, first_refusal}
 use Rattle.refusal.specs.Verdict.{Verdict}
+use Rattle.refusal.specs.declared.Fault.TheVariants.{NoLine}
 use Rattle.layout.specs.Limits.{production_limit}
 use Rattle.theory.specs.Tree.{production_number}
 
 -- Of `count` lines, a class names one that is not there: the one with number k behind them.
 unfoldable pub absent_at : (count : ℕ) → Class → ℕ → Verdict
-absent_at count cc k = refuse_if (cc (production_number (count + k))) 28 (production_number (count + k))
+absent_at count cc k = refuse_if (cc (production_number (count + k))) NoLine (production_number (count + k))
 
 -- The place is the number; of several in a class it is the lowest.
 unfoldable pub absent_in : (count : ℕ) → Class → Verdict

@@ -1,5 +1,8 @@
 -- What the tables hold while a flat text is read: what is complete, and nothing else.
-use Rattle.std.specs.Prelude.{ℕ, ◌+◌, ◌-◌, ◌<◌, ◌≤◌, ◌≡◌, Bool, false, true, cond, ◌&&◌, ◌||◌, List, ◌⊎◌, leb, ltb, eqb, length, get_or, set, take}
+use Rattle.std.specs.Prelude.{ℕ, ◌+◌, ◌-◌, ◌<◌, ◌≤◌, ◌≡◌, Bool, false, true, cond, ◌&&◌, ◌||◌, List, ◌⊎◌, leb, ltb, eqb, length, get_or, set, take, Result, Ok, Err}
+use Rattle.refusal.specs.Verdict.{refused}
+use Rattle.refusal.specs.declared.Fault.TheVariants.{Form}
+use Rattle.refusal.specs.declared.Refusal.{Refusal}
 use Rattle.ccg.specs.Ccg.{no_line, no_class}
 use Rattle.ccg.specs.Tables.{table_class}
 use Rattle.ccg.specs.Text.{number_limit}
@@ -12,8 +15,6 @@ use Rattle.form.specs.declared.Spot.{Spot}
 use Rattle.form.specs.declared.Spot.TheVariants.{Between, Opened, Slash, Number, Dash, Closed, Ending, Stuck}
 use Rattle.form.specs.declared.State.{State}
 use Rattle.layout.specs.Limits.{production_limit, argument_limit}
-use Rattle.load.specs.declared.FlatAnswer.{FlatAnswer}
-use Rattle.load.specs.declared.FlatAnswer.TheVariants.{Lines, Refused}
 use Rattle.tables.specs.Layout.{slot, slots, class_bits, class_bit, table_words}
 use Rattle.theory.specs.Tree.{production_number}
 
@@ -81,13 +82,13 @@ pub record Reached (text : List ℕ) (i : ℕ) (s : State) (t counts : List ℕ)
   pub held : Held memory t counts
 
 -- the answer at the end of a text: all its lines, or 27
-unfoldable pub end_answer : ℕ → State → FlatAnswer
-end_answer i s = cond (may_end s) (Lines s.line) (Refused 27 i)
+unfoldable pub end_answer : ℕ → State → Result ℕ Refusal
+end_answer i s = cond (may_end s) (Ok s.line) (refused Form i)
 
 -- A text that is read: its lines are in the tables, or it is not in the form.
-unfoldable pub LinesRead : List ℕ → FlatAnswer → (t counts : List ℕ) → Type 0
-LinesRead text (Lines n) t counts = (m : Memory) × Held m t counts × Says text m.lines × (n ≡ length m.lines)
-LinesRead text (Refused number place) t counts = (number ≡ 27) × NotInForm text place
+unfoldable pub LinesRead : List ℕ → Result ℕ Refusal → (t counts : List ℕ) → Type 0
+LinesRead text (Ok n) t counts = (m : Memory) × Held m t counts × Says text m.lines × (n ≡ length m.lines)
+LinesRead text (Err r) t counts = (r.fault ≡ Form) × NotInForm text r.place
 
 -- Counts of arguments within the limit.
 abbrev pub Few : List ℕ → Type 0

@@ -14,23 +14,13 @@ ghost use Rattle.load.specs.Check.{lines_answer, Checked, Loaded};
 ghost use Rattle.load.specs.Held.{number_bit, BitsAdded, RangeNoted, Noted, Notable, end_answer, LinesRead, Few};
 
 use charset::CHARACTERS;
-use common::either;
 use form::{Spot, State, goes_on, may_end, start, step};
-use grammar::Verdict;
 use layout::limits::{ARGUMENT_LIMIT, PRODUCTION_LIMIT};
+use refusal::{Fault, Refusal};
 use tables::{
     FIRST_PRODUCTION, add_member, argument_count, production_count, put_counts, takes_production,
     zero_tables,
 };
-
-// What checking a flat text gives.
-#[derive(Clone, Copy)]
-pub enum FlatAnswer {
-    // How many lines there are.
-    Lines(usize),
-    // The refusal's number and its place.
-    Refused(usize, usize),
-}
 
 // ---- what is complete behind one byte more
 
@@ -49,18 +39,17 @@ fn add_bits(tables: &mut [u64], s: usize, first: usize, last: usize)
     requires { (length tables.old ≡ table_words) × (s ≤ slots) × (last < class_bits) }
     ensures { BitsAdded s first (last + 1) tables.old tables.new }
 {
-    let mut x = first;
-    while x <= last {
+    for x in first..last + 1 {
         add_member(tables, s, x);
-        x += 1;
     }
 }
 
 // Whether a byte ends a range if it stands behind a number.
+#[tactic(auto, unfolding(form::specs::Read::ends_range))]
 fn ends_range(byte: u8) -> bool
     ensures { result ≡ ends_range byte }
 {
-    either(byte == b'\\', byte == b']')
+    byte == b'\\' || byte == b']'
 }
 
 // Where the range that v ends begins.
@@ -120,120 +109,96 @@ fn note(state: State, byte: u8, tables: &mut [u64], counts: &mut [u8])
 // ---- all bytes
 
 // At the end of a text: all its lines, or 27.
-fn end_answer(i: usize, state: State) -> FlatAnswer
+fn end_answer(i: usize, state: State) -> Result<usize, Refusal>
     ensures { result ≡ end_answer i state }
 {
     if may_end(state) {
-        return FlatAnswer::Lines(state.line);
+        return Ok(state.line);
     }
-    FlatAnswer::Refused(27, i)
+    Err(Fault::Form.at(i))
 }
 
 // Reads a text as far as one of the form begins so.
-fn read_lines(text: &[u8], tables: &mut [u64], counts: &mut [u8]) -> FlatAnswer
+fn read_lines(text: &[u8], tables: &mut [u64], counts: &mut [u8]) -> Result<usize, Refusal>
     requires { AllZero table_words tables.old × (length counts.old ≡ production_limit) }
     ensures { LinesRead text.now result tables.new counts.new }
 {
     let mut state = start();
-    let mut i = 0;
-    while i < text.len() {
+    for i in 0..text.len() {
         let next = step(state, text[i]);
-        let spot = next.spot;
-        if !goes_on(spot) {
-            return FlatAnswer::Refused(27, i);
+        if !goes_on(next.spot) {
+            return Err(Fault::Form.at(i));
         }
         note(state, text[i], tables, counts);
         state = next;
-        i += 1;
     }
-    end_answer(i, state)
+    end_answer(text.len(), state)
 }
 
 // ---- numbers of lines that are not there
 
 // 28 for the class of slot s, if there are so many lines.
-pub fn check_class(tables: &[u64], s: usize, count: usize) -> Verdict
+pub fn check_class(tables: &[u64], s: usize, count: usize) -> Result<(), Refusal>
     requires { (length tables.now ≡ table_words) × (s ≤ slots) × (count ≤ production_limit) }
     ensures { result ≡ absent_in count (table_class tables.now s) }
 {
-    let absent = PRODUCTION_LIMIT - count;
-    let mut k = 0;
-    while k < absent {
+    for k in 0..PRODUCTION_LIMIT - count {
         if takes_production(tables, s, count + k) {
-            return Verdict::Refused(28, FIRST_PRODUCTION + (count + k));
+            return Err(Fault::NoLine.at(FIRST_PRODUCTION + (count + k)));
         }
-        k += 1;
     }
-    Verdict::Accepted
+    Ok(())
 }
 
 // 28 for the arguments of line p.
-fn check_line(tables: &[u64], p: usize) -> Verdict
+fn check_line(tables: &[u64], p: usize) -> Result<(), Refusal>
     requires { ParserTables tables.now × (p < length (counts_of tables.now)) }
     ensures { result ≡ absent_in_line (length (counts_of tables.now)) (table_line tables.now p) }
 {
     let count = production_count(tables);
-    let arguments = argument_count(tables, p);
-    let mut i = 0;
-    while i < arguments {
-        let found = check_class(tables, p * ARGUMENT_LIMIT + i, count);
-        let Verdict::Accepted = found else {
-            return found;
-        };
-        i += 1;
+    for i in 0..argument_count(tables, p) {
+        check_class(tables, p * ARGUMENT_LIMIT + i, count)?;
     }
-    Verdict::Accepted
+    Ok(())
 }
 
 // 28 for all lines.
-fn check_names(tables: &[u64]) -> Verdict
+fn check_names(tables: &[u64]) -> Result<(), Refusal>
     requires { ParserTables tables.now }
     ensures { result ≡ absent_names (table_grammar tables.now) }
 {
-    let count = production_count(tables);
-    let mut p = 0;
-    while p < count {
-        let found = check_line(tables, p);
-        let Verdict::Accepted = found else {
-            return found;
-        };
-        p += 1;
+    for p in 0..production_count(tables) {
+        check_line(tables, p)?;
     }
-    Verdict::Accepted
+    Ok(())
 }
 
 // ---- the whole text
 
 // Puts the counts to the classes that were read, and answers.
-fn with_counts(tables: &mut [u64], counts: &[u8]) -> FlatAnswer
+fn with_counts(tables: &mut [u64], counts: &[u8]) -> Result<usize, Refusal>
     requires { (length tables.old ≡ table_words) × (length counts.now ≤ production_limit) × Few counts.now }
     ensures counts_put { CountsPut counts.now (length counts.now) tables.new }
     ensures classes_kept { ClassesKept tables.old tables.new }
     ensures value { result ≡ lines_answer (table_grammar tables.new) }
 {
     put_counts(tables, counts);
-    let verdict = check_names(tables);
-    match verdict {
-        Verdict::Refused(number, place) => FlatAnswer::Refused(number, place),
-        Verdict::Accepted => FlatAnswer::Lines(counts.len()),
-    }
+    check_names(tables)?;
+    Ok(counts.len())
 }
 
 // Reads a flat text into tables that hold nothing: 27, and 28 for a class.
-pub fn load(text: &[u8], tables: &mut [u64]) -> FlatAnswer
+pub fn load(text: &[u8], tables: &mut [u64]) -> Result<usize, Refusal>
     requires { AllZero table_words tables.old }
     ensures { Loaded text.now result tables.new }
 {
     let mut counts = [0; PRODUCTION_LIMIT];
-    let read = read_lines(text, tables, &mut counts);
-    match read {
-        FlatAnswer::Refused(number, place) => FlatAnswer::Refused(number, place),
-        FlatAnswer::Lines(count) => with_counts(tables, &counts[..count]),
-    }
+    let count = read_lines(text, tables, &mut counts)?;
+    with_counts(tables, &counts[..count])
 }
 
 // The operation "checking a flat text": how many lines it has, or 27, or 28.
-pub fn check_flat(text: &[u8]) -> FlatAnswer
+pub fn check_flat(text: &[u8]) -> Result<usize, Refusal>
     ensures { Checked text.now result }
 {
     let mut tables = zero_tables();

@@ -5,15 +5,6 @@ ghost use Rattle.std.specs.Prelude.{◌≡◌, [], ◌∷◌, ◌+◌, ◌<◌, 
 ghost use Rattle.writing.specs.Put.{Put, farthest};
 ghost use Rattle.writing.specs.Numeral.{digit_zero, numeral_base, numeral, set_right};
 
-// What writing a text into a lent buffer gives.
-#[derive(Clone, Copy)]
-pub enum WriteAnswer {
-    // How many bytes were written, from the buffer's start on.
-    Written(usize),
-    // The refusal's number and its place.
-    Refused(usize, usize),
-}
-
 const NUMERAL_BASE: usize = 10;
 
 // One byte.

@@ -6,7 +6,4 @@ use Rattle.layout.specs.Layout.{production_at}
 use Rattle.flatten.proofs.by_result.Given as goal
 
 abbrev pub invariant-loop-q : goal.invariant-loop-q
-invariant-loop-q l = ByResult l.book l.q l.sets × (l.at ≡ production_at l.book l.q) × (l.q ≤ l.count)
-
-abbrev pub decreases-loop-q : goal.decreases-loop-q
-decreases-loop-q l = l.count - l.q
+invariant-loop-q l = ByResult l.book l.q l.sets × (l.at ≡ production_at l.book l.q)

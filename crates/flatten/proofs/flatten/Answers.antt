@@ -27,32 +27,32 @@ pub write_counts_and_root-requires : goal.write_counts_and_root-requires
 write_counts_and_root-requires c = let start = c in
     record { well_formed = start.requires.well_formed; by_result = c.by_result-sets.ensures; tables_len = start.requires.tables_len }
 
-pub production_count-count-requires : goal.production_count-count-requires
-production_count-count-requires c = c.requires.well_formed.framed.header
+pub production_count-p-end-requires : goal.production_count-p-end-requires
+production_count-p-end-requires c = c.requires.well_formed.framed.header
 
 pub bodies_at-at-requires : goal.bodies_at-at-requires
 bodies_at-at-requires c = c.requires.well_formed.framed.header
 
 pub loop-p-init : goal.loop-p-init
-loop-p-init c = (c.write_counts_and_root.ensures, (c.bodies_at-at.ensures ∙ sym (production_first c.args.book.now), omega arith))
+loop-p-init c = (c.write_counts_and_root.ensures, c.bodies_at-at.ensures ∙ sym (production_first c.args.book.now))
 
 pub offset_bounds-above-p : goal.offset_bounds-above-p
-offset_bounds-above-p c = omega (arith, c.production_count-count.ensures, c.requires.well_formed.framed.few_productions)
+offset_bounds-above-p c = omega (arith, c.production_count-p-end.ensures, c.requires.well_formed.framed.few_productions)
 
 pub bounds-above-p : goal.bounds-above-p
-bounds-above-p c = omega (arith, c.production_count-count.ensures, c.requires.well_formed.framed.few_productions)
+bounds-above-p c = omega (arith, c.production_count-p-end.ensures, c.requires.well_formed.framed.few_productions)
 
 pub offset_bounds-firsts-p : goal.offset_bounds-firsts-p
-offset_bounds-firsts-p c = omega (arith, c.production_count-count.ensures, c.requires.well_formed.framed.few_productions)
+offset_bounds-firsts-p c = omega (arith, c.production_count-p-end.ensures, c.requires.well_formed.framed.few_productions)
 
 pub bounds-firsts-p : goal.bounds-firsts-p
-bounds-firsts-p c = omega (arith, c.production_count-count.ensures, c.requires.well_formed.framed.few_productions)
+bounds-firsts-p c = omega (arith, c.production_count-p-end.ensures, c.requires.well_formed.framed.few_productions)
 
 pub offset_bounds-lasts-p : goal.offset_bounds-lasts-p
-offset_bounds-lasts-p c = omega (arith, c.production_count-count.ensures, c.requires.well_formed.framed.few_productions)
+offset_bounds-lasts-p c = omega (arith, c.production_count-p-end.ensures, c.requires.well_formed.framed.few_productions)
 
 pub bounds-lasts-p : goal.bounds-lasts-p
-bounds-lasts-p c = omega (arith, c.production_count-count.ensures, c.requires.well_formed.framed.few_productions)
+bounds-lasts-p c = omega (arith, c.production_count-p-end.ensures, c.requires.well_formed.framed.few_productions)
 
 pub write_production-requires : goal.write_production-requires
 unfolding kind_number
@@ -66,30 +66,30 @@ write_production-requires c = let start = c in
     let lasts = c.declared_pairs-lasts in
     let rows = barring_rows b start.requires.well_formed above.result firsts.result lasts.result above.ensures firsts.ensures lasts.ensures turn.p in
     let sets = barring_sets rows of.result.words of2.result.words c.of-in-loop-p-2.result.words of.ensures of2.ensures c.of-in-loop-p-2.ensures in
-    record { well_formed = start.requires.well_formed; p_bound = (omega (arith, c.production_count-count.ensures, c.loop-p-test.true), turn.invariant.1.0); barring_sets = sets; by_result = c.by_result-sets.ensures; written_below = turn.invariant.0 }
+    record { well_formed = start.requires.well_formed; p_bound = (omega (arith, c.production_count-p-end.ensures, c.loop-p-test.true), turn.invariant.1); barring_sets = sets; by_result = c.by_result-sets.ensures; written_below = turn.invariant.0 }
 
 pub argument_count-requires : goal.argument_count-requires
 argument_count-requires c = let start = c in
-    record { book_in_bounds = bodies_in start.args.book.now start.requires.well_formed.framed; p_bound = omega (arith, c.production_count-count.ensures, c.loop-p-test.true) }
+    record { book_in_bounds = bodies_in start.args.book.now start.requires.well_formed.framed; p_bound = omega (arith, c.production_count-p-end.ensures, c.loop-p-test.true) }
 
 pub overflow_add-at : goal.overflow_add-at
 overflow_add-at c =
     let start = c in
     let turn = c.loop-p in
-    let l : turn.p < productions start.args.book.now = omega (arith, c.production_count-count.ensures, c.loop-p-test.true) in
-    omega (arith, c.argument_count.ensures, turn.invariant.1.0, production_in start.args.book.now start.requires.well_formed.framed turn.p l)
+    let l : turn.p < productions start.args.book.now = omega (arith, c.production_count-p-end.ensures, c.loop-p-test.true) in
+    omega (arith, c.argument_count.ensures, turn.invariant.1, production_in start.args.book.now start.requires.well_formed.framed turn.p l)
 
 pub overflow_add-at-in-loop-p : goal.overflow_add-at-in-loop-p
 overflow_add-at-in-loop-p c =
     let start = c in
     let turn = c.loop-p in
-    let l : turn.p < productions start.args.book.now = omega (arith, c.production_count-count.ensures, c.loop-p-test.true) in
-    omega (arith, c.argument_count.ensures, turn.invariant.1.0, production_in start.args.book.now start.requires.well_formed.framed turn.p l)
+    let l : turn.p < productions start.args.book.now = omega (arith, c.production_count-p-end.ensures, c.loop-p-test.true) in
+    omega (arith, c.argument_count.ensures, turn.invariant.1, production_in start.args.book.now start.requires.well_formed.framed turn.p l)
 
 pub loop-p-preserved : goal.loop-p-preserved
 loop-p-preserved c =
     let turn = c.loop-p in
-    (c.write_production.ensures, (omega (arith, c.argument_count.ensures, production_next c.args.book.now turn.p, turn.invariant.1.0), omega (arith, c.loop-p-test.true)))
+    (c.write_production.ensures, omega (arith, c.argument_count.ensures, production_next c.args.book.now turn.p, turn.invariant.1))
 
 pub shape_of-tables : goal.shape_of-tables
 shape_of-tables c = c.loop-p.invariant.0.counts.long ∙ sym c.requires.tables_len
@@ -98,5 +98,5 @@ pub returns : goal.returns
 returns c =
     let start = c in
     let b = start.args.book.now in
-    let e : c.loop-p.p ≡ productions b = omega (arith, c.production_count-count.ensures) in
+    let e : c.loop-p.p ≡ productions b = omega (arith, c.production_count-p-end.ensures) in
     written_all b start.requires.well_formed c.loop-p.tables (subst (λ (n : ℕ). WrittenBelow b (slot n 0) c.loop-p.tables) e c.loop-p.invariant.0)

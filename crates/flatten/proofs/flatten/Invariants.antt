@@ -7,7 +7,4 @@ use Rattle.tables.specs.Layout.{slot}
 use Rattle.flatten.proofs.flatten.Given as goal
 
 abbrev pub invariant-loop-p : goal.invariant-loop-p
-invariant-loop-p l = WrittenBelow l.book (slot l.p 0) l.tables × ((l.at ≡ production_at l.book l.p) × (l.p ≤ l.count))
-
-abbrev pub decreases-loop-p : goal.decreases-loop-p
-decreases-loop-p l = l.count - l.p
+invariant-loop-p l = WrittenBelow l.book (slot l.p 0) l.tables × (l.at ≡ production_at l.book l.p)

@@ -10,4 +10,4 @@ use Rattle.flatten.proofs.standing.Goals as goal
 pub returns : goal.returns
 returns c =
     let start = c in
-    λ q l. c.without.ensures q l ∙ rw (c.without-inner.ensures q l, c.without-lower.ensures q l, c.both.ensures, c.both-2.ensures) (taken_three (has start.args.fitting.words q) (has start.args.above.words q) (eqb start.args.i 0 && leb 2 start.args.count) (has start.args.firsts.words q) (eqb (start.args.i + 1) start.args.count && leb 2 start.args.count) (has start.args.lasts.words q))
+    λ q l. c.without.ensures q l ∙ rw (c.without-inner.ensures q l, c.without-lower.ensures q l) (taken_three (has start.args.fitting.words q) (has start.args.above.words q) (eqb start.args.i 0 && leb 2 start.args.count) (has start.args.firsts.words q) (eqb (start.args.i + 1) start.args.count && leb 2 start.args.count) (has start.args.lasts.words q))

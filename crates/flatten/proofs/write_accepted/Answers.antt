@@ -10,7 +10,9 @@ use Rattle.flatten.proofs.TableTextLaws.{table_grammar_lem}
 use Rattle.flatten.specs.Flat.{flat_grammar}
 use Rattle.ccg.specs.Text.{grammar_text}
 use Rattle.writing.specs.Answer.{fitted}
-use Rattle.writing.specs.declared.WriteAnswer.TheVariants.{Written, Refused}
+use Rattle.std.specs.Prelude.{Ok, Err}
+use Rattle.refusal.specs.Verdict.{refused}
+use Rattle.refusal.specs.declared.Fault.TheVariants.{LongFlat}
 use Rattle.charset.specs.Set.{characters}
 use Rattle.writing.proofs.PutLaws.{put_same, put_nowhere, put_start}
 use Rattle.writing.specs.Put.{Put}
@@ -34,8 +36,8 @@ returns-then-out-needed c = let start = c in
     let same = unchanged _ _ out _ first.ensures in
     let needed : first.result ≡ length (text_of b) = first.ensures.next ∙ zero-add _ ∙ ap length text in
     let long : length out < length (text_of b) = omega (arith, c.if-out-needed.true, ap (length {A = ℕ}) same) in
-    let refused = lt-leb (length (text_of b)) (length out) long in
-    record { value = rw refused (ap (λ (n : ℕ). Refused 21 n) needed); out_after = rw refused same }
+    let longer = lt-leb (length (text_of b)) (length out) long in
+    record { value = rw (longer, c.at.ensures) (ap (λ (n : ℕ). refused LongFlat n) needed); out_after = rw longer same }
 
 pub returns : goal.returns
 unfolding fitted
@@ -52,4 +54,4 @@ returns c = let start = c in
     let written = le-leb (length (text_of b)) (length out) fits in
     let put = put_same _ _ _ _ _ _ text second.ensures in
     let put₀ = subst (λ (l : List ℕ). Put (text_of b) l 0 second.new.out second.result) same put in
-    record { value = rw written (ap (λ (n : ℕ). Written n) needed); out_after = rw written (put_start (text_of b) out _ _ put₀ fits) }
+    record { value = rw written (ap (λ (n : ℕ). Ok n) needed); out_after = rw written (put_start (text_of b) out _ _ put₀ fits) }

@@ -24,7 +24,7 @@ argument_count-count-requires c = let start = c in
     record { book_in_bounds = bodies_in start.args.book.now start.requires.well_formed.framed; p_bound = start.requires.p_bound.0 }
 
 pub loop-i-init : goal.loop-i-init
-loop-i-init c = (c.requires.written_below, omega arith)
+loop-i-init c = c.requires.written_below
 
 pub overflow_add-x : goal.overflow_add-x
 overflow_add-x c =
@@ -65,7 +65,7 @@ argument_set-requires c = let start = c in
 pub put_class-requires : goal.put_class-requires
 put_class-requires c =
     let start = c in
-    (c.loop-i.invariant.0.counts.long, omega (arith, c.argument_count-count.ensures, start.requires.well_formed.framed.few_productions, start.requires.well_formed.framed.few_arguments start.args.p start.requires.p_bound.0))
+    (c.loop-i.invariant.counts.long, omega (arith, c.argument_count-count.ensures, start.requires.well_formed.framed.few_productions, start.requires.well_formed.framed.few_arguments start.args.p start.requires.p_bound.0))
 
 pub loop-i-preserved : goal.loop-i-preserved
 unfolding slot
@@ -79,20 +79,18 @@ loop-i-preserved c =
     let i = turn.i in
     let li : i < argument_count b p = omega (arith, argument-count.ensures, c.loop-i-test.true) in
     let x = argument_read b p i start.args.at wide.result start.requires.p_bound.1 wide.ensures in
-    let bars = barred_set b p i argument-count.result start.args.above.words start.args.firsts.words start.args.lasts.words start.requires.barring_sets argument-count.ensures in (
-      written_more b start.requires.well_formed p i start.requires.p_bound.0 li _ _ _ _ c.put_class.ensures
-          (λ z l. c.argument_set.ensures z l ∙ ap (λ (y : ℕ). is_class b y && class_has b (y - class_base) z) x)
-          (λ q l. c.standing-stands.ensures q l ∙ rw (c.with_result.ensures q l, bars q l) (stands_at_argument b start.requires.well_formed start.args.sets start.requires.by_result q l p i start.requires.p_bound.0 li _ (sym wide.ensures ∙ x)))
-          turn.invariant.0,
-      omega arith,
-    )
+    let bars = barred_set b p i argument-count.result start.args.above.words start.args.firsts.words start.args.lasts.words start.requires.barring_sets argument-count.ensures in
+    written_more b start.requires.well_formed p i start.requires.p_bound.0 li _ _ _ _ c.put_class.ensures
+    (λ z l. c.argument_set.ensures z l ∙ ap (λ (y : ℕ). is_class b y && class_has b (y - class_base) z) x)
+    (λ q l. c.standing-stands.ensures q l ∙ rw (c.with_result.ensures q l, bars q l) (stands_at_argument b start.requires.well_formed start.args.sets start.requires.by_result q l p i start.requires.p_bound.0 li _ (sym wide.ensures ∙ x)))
+    turn.invariant
 
 pub shape_of-tables : goal.shape_of-tables
-shape_of-tables c = c.loop-i.invariant.0.counts.long ∙ sym c.requires.written_below.counts.long
+shape_of-tables c = c.loop-i.invariant.counts.long ∙ sym c.requires.written_below.counts.long
 
 pub returns : goal.returns
 returns c =
     let start = c in
     let b = start.args.book.now in
     let e : c.loop-i.i ≡ argument_count b start.args.p = omega (arith, c.argument_count-count.ensures) in
-    written_next b start.requires.well_formed start.args.p c.loop-i.tables (subst (λ (n : ℕ). WrittenBelow b (slot start.args.p n) c.loop-i.tables) e c.loop-i.invariant.0)
+    written_next b start.requires.well_formed start.args.p c.loop-i.tables (subst (λ (n : ℕ). WrittenBelow b (slot start.args.p n) c.loop-i.tables) e c.loop-i.invariant)

@@ -5,7 +5,4 @@ use Rattle.tables.specs.Layout.{slot}
 use Rattle.flatten.proofs.write_production.Given as goal
 
 abbrev pub invariant-loop-i : goal.invariant-loop-i
-invariant-loop-i l = WrittenBelow l.book (slot l.p l.i) l.tables × (l.i ≤ l.count)
-
-abbrev pub decreases-loop-i : goal.decreases-loop-i
-decreases-loop-i l = l.count - l.i
+invariant-loop-i l = WrittenBelow l.book (slot l.p l.i) l.tables

@@ -16,9 +16,6 @@ add_member-requires c =
     let start = c in
     (c.loop-x.invariant.0.long ∙ start.requires.0, start.requires.1, omega (arith, start.requires.2))
 
-pub overflow_add-x : goal.overflow_add-x
-overflow_add-x c = omega (arith, c.requires.2)
-
 pub loop-x-preserved : goal.loop-x-preserved
 loop-x-preserved c =
     let turn = c.loop-x in

@@ -5,6 +5,3 @@ use Rattle.load.proofs.add_bits.Given as goal
 
 abbrev pub invariant-loop-x : goal.invariant-loop-x
 invariant-loop-x l = BitsAdded l.s l.first l.x l.initial.tables l.tables × (l.first ≤ l.x) × (l.x ≤ max l.first (l.last + 1))
-
-abbrev pub decreases-loop-x : goal.decreases-loop-x
-decreases-loop-x l = l.last + 1 - l.x

@@ -7,11 +7,11 @@ use Rattle.load.proofs.AbsentLaws.{absent_found, absent_passed}
 use Rattle.load.specs.Absent.{absent_at, absent_in}
 use Rattle.load.proofs.check_class.Goals as goal
 
-pub overflow_sub-absent : goal.overflow_sub-absent
-overflow_sub-absent c = c.requires.2
+pub overflow_sub-k-end : goal.overflow_sub-k-end
+overflow_sub-k-end c = c.requires.2
 
 pub loop-k-init : goal.loop-k-init
-loop-k-init c = (omega arith, first_none _)
+loop-k-init c = first_none _
 
 pub takes_production-requires : goal.takes_production-requires
 takes_production-requires c =
@@ -25,20 +25,18 @@ returns-then-takes_production c =
     let turn = c.loop-k in
     let t = start.args.tables.now in
     let s = start.args.s in
-    sym (first_found (absent_at start.args.count (table_class t s)) turn.k _ 28 _ c.loop-k-test.true turn.invariant.1
-    (absent_found t s start.args.count turn.k (omega (arith, start.requires.2)) (sym c.takes_production.ensures ∙ c.if-takes_production.true)))
+    rw c.at.ensures (sym (first_found (absent_at start.args.count (table_class t s)) turn.k _ (omega arith) turn.invariant
+    (absent_found t s start.args.count turn.k (omega (arith, start.requires.2)) (sym c.takes_production.ensures ∙ c.if-takes_production.true))))
 
 pub loop-k-preserved : goal.loop-k-preserved
 loop-k-preserved c =
     let start = c in
     let turn = c.loop-k in
     let t = start.args.tables.now in
-    let s = start.args.s in (
-      omega arith,
-      first_more (absent_at start.args.count (table_class t s)) turn.k turn.invariant.1
-          (absent_passed t s start.args.count turn.k (omega (arith, start.requires.2)) (sym c.takes_production.ensures ∙ c.if-takes_production.false)),
-    )
+    let s = start.args.s in
+    first_more (absent_at start.args.count (table_class t s)) turn.k turn.invariant
+    (absent_passed t s start.args.count turn.k (omega (arith, start.requires.2)) (sym c.takes_production.ensures ∙ c.if-takes_production.false))
 
 pub returns : goal.returns
 unfolding absent_in
-returns c = first_done _ _ _ c.loop-k.invariant.1 (omega arith)
+returns c = first_done _ _ _ c.loop-k.invariant (omega arith)

@@ -8,7 +8,4 @@ use Rattle.load.specs.Absent.{absent_at}
 use Rattle.load.proofs.check_class.Given as goal
 
 abbrev pub invariant-loop-k : goal.invariant-loop-k
-invariant-loop-k l = (l.k ≤ l.absent) × (first_refusal l.k (absent_at l.count (table_class l.tables l.s)) ≡ accepted)
-
-abbrev pub decreases-loop-k : goal.decreases-loop-k
-decreases-loop-k l = l.absent - l.k
+invariant-loop-k l = first_refusal l.k (absent_at l.count (table_class l.tables l.s)) ≡ accepted

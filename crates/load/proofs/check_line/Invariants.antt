@@ -10,7 +10,4 @@ use Rattle.tables.specs.Layout.{counts_of}
 use Rattle.load.proofs.check_line.Given as goal
 
 abbrev pub invariant-loop-i : goal.invariant-loop-i
-invariant-loop-i l = (l.i ≤ l.arguments) × (first_refusal l.i (absent_in_argument (length (counts_of l.tables)) (table_line l.tables l.p)) ≡ accepted)
-
-abbrev pub decreases-loop-i : goal.decreases-loop-i
-decreases-loop-i l = l.arguments - l.i
+invariant-loop-i l = (first_refusal l.i (absent_in_argument (length (counts_of l.tables)) (table_line l.tables l.p)) ≡ accepted)

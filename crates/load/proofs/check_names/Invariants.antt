@@ -8,7 +8,4 @@ use Rattle.load.specs.Absent.{absent_in_line_at}
 use Rattle.load.proofs.check_names.Given as goal
 
 abbrev pub invariant-loop-p : goal.invariant-loop-p
-invariant-loop-p l = (l.p ≤ l.count) × (first_refusal l.p (absent_in_line_at (table_grammar l.tables)) ≡ accepted)
-
-abbrev pub decreases-loop-p : goal.decreases-loop-p
-decreases-loop-p l = l.count - l.p
+invariant-loop-p l = first_refusal l.p (absent_in_line_at (table_grammar l.tables)) ≡ accepted

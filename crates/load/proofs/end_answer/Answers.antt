@@ -9,4 +9,4 @@ returns-then-may_end c = rw (← c.may_end.ensures, c.if-may_end.true) refl
 
 pub returns : goal.returns
 unfolding end_answer
-returns c = rw (← c.may_end.ensures, c.if-may_end.false) refl
+returns c = rw (← c.may_end.ensures, c.if-may_end.false, c.at.ensures) refl

@@ -1,6 +1,7 @@
 -- `read_lines` meets its contract: behind the bytes passed, the tables hold what is complete.
-use mathlib.Core.Path.{sym, ◌∙◌, ap}
+use mathlib.Core.Path.{◌≡◌, sym, ◌∙◌, ap}
 use native.Mathlib.Omega.{arith}
+use lib.ListN.{length}
 use Rattle.form.proofs.ReadLaws.{small_told}
 use Rattle.form.proofs.StepLaws.{short_after}
 use Rattle.form.specs.Step.{goes_on}
@@ -35,14 +36,11 @@ pub returns-then-not-goes_on : goal.returns-then-not-goes_on
 returns-then-not-goes_on c =
     let turn = c.loop-i in
     let off = sym (ap (λ (s : State). goes_on s.spot) c.step-next.ensures) ∙ sym c.goes_on.ensures ∙ c.if-not-goes_on.true in
-    reached_off _ turn.i turn.state turn.tables turn.counts turn.invariant (omega arith) off
+    rw c.at.ensures (reached_off _ turn.i turn.state turn.tables turn.counts turn.invariant (omega arith) off)
 
 pub note-requires : goal.note-requires
 note-requires c = let turn = c.loop-i in
     record { notable = notable_told turn.state turn.invariant.memory _ turn.invariant.told turn.invariant.on; tables_len = (turn.invariant.held.long, turn.invariant.held.many) }
-
-pub overflow_add-i : goal.overflow_add-i
-overflow_add-i c = omega (arith, c.loop-i.invariant.within)
 
 pub loop-i-preserved : goal.loop-i-preserved
 loop-i-preserved c =
@@ -59,4 +57,6 @@ shape_of-counts c = c.loop-i.invariant.held.many ∙ sym c.requires.1
 pub returns : goal.returns
 returns c =
     let turn = c.loop-i in
-    rw c.end_answer.ensures (reached_end _ turn.i turn.state turn.tables turn.counts turn.invariant (omega arith))
+    let text = c.args.text.now in
+    let e : turn.i ≡ length text = omega arith in
+    rw (c.end_answer.ensures, ← e) (reached_end _ turn.i turn.state turn.tables turn.counts turn.invariant (omega arith))

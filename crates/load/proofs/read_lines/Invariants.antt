@@ -1,11 +1,6 @@
 -- `read_lines` meets its contract: behind the bytes passed, the tables hold what is complete.
-use Prim.Native.Nat.{◌-◌}
-use lib.ListN.{length}
 use Rattle.load.specs.Held.{Reached}
 use Rattle.load.proofs.read_lines.Given as goal
 
 abbrev pub invariant-loop-i : goal.invariant-loop-i
 invariant-loop-i l = Reached l.text l.i l.state l.tables l.counts
-
-abbrev pub decreases-loop-i : goal.decreases-loop-i
-decreases-loop-i l = length l.text - l.i
