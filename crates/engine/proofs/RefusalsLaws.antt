@@ -11,14 +11,18 @@ use Rattle.engine.specs.Refusals.{too_long, chart_too_short, text_refusal}
 use Rattle.refusal.proofs.VerdictLaws.{refuse_accepted, refuse_case}
 use Rattle.refusal.specs.Verdict.{and_then}
 use Rattle.refusal.specs.Verdict.{Verdict}
-use Rattle.std.specs.Prelude.{Err}
+use Rattle.std.specs.Prelude.{Ok, Err}
 use Rattle.refusal.specs.Verdict.{accepted}
 use Rattle.tables.specs.Layout.{ParserTables}
+use Rattle.refusal.specs.declared.Fault.TheVariants.{LongText, ShortChart}
+use Rattle.refusal.specs.Verdict.{refused}
+use Rattle.refusal.specs.Fault.{number_of}
+use Rattle.refusal.specs.declared.Refusal.{Refusal}
 
 -- ---- 10
 
 module _ (w : List ℕ) where
-  pub long_text : text_limit < length w → too_long w ≡ Refused 10 (length w)
+  pub long_text : text_limit < length w → too_long w ≡ refused LongText (length w)
   unfolding too_long
   long_text h = rw (lt-ltb text_limit (length w) h) refl
 
@@ -28,18 +32,18 @@ module _ (w : List ℕ) where
 
   pub text_short : too_long w ≡ accepted → length w ≤ text_limit
   unfolding too_long
-  text_short e = ltb-false text_limit (length w) (refuse_accepted _ 10 (length w) e)
+  text_short e = ltb-false text_limit (length w) (refuse_accepted _ LongText (length w) e)
 
-  pub text_long : {n k : ℕ} → too_long w ≡ Refused n k → (n ≡ 10) × (text_limit < length w) × (k ≡ length w)
+  pub text_long : {r : Refusal} → too_long w ≡ Err r → (number_of r.fault ≡ 10) × (text_limit < length w) × (r.place ≡ length w)
   unfolding too_long
   text_long e =
-      refuse_case (λ n k. (n ≡ 10) × (text_limit < length w) × (k ≡ length w)) (ltb text_limit (length w)) 10 (length w) e
+      refuse_case (λ x. (number_of x.fault ≡ 10) × (text_limit < length w) × (x.place ≡ length w)) (ltb text_limit (length w)) LongText (length w) e
       (λ t. (refl, ltb-true text_limit (length w) t, refl))
 
 -- ---- 20
 
 module _ (need : ℕ) (chart : List ℕ) where
-  pub short_chart : length chart < need → chart_too_short need chart ≡ Refused 20 need
+  pub short_chart : length chart < need → chart_too_short need chart ≡ refused ShortChart need
   unfolding chart_too_short
   short_chart h = rw (lt-ltb (length chart) need h) refl
 
@@ -47,22 +51,22 @@ module _ (need : ℕ) (chart : List ℕ) where
   unfolding chart_too_short
   long_chart h = rw (le-ltb (length chart) need h) refl
 
-  pub chart_short : {n k : ℕ} → chart_too_short need chart ≡ Refused n k → (n ≡ 20) × (k ≡ need) × (length chart < k)
+  pub chart_short : {r : Refusal} → chart_too_short need chart ≡ Err r → (number_of r.fault ≡ 20) × (r.place ≡ need) × (length chart < r.place)
   unfolding chart_too_short
-  chart_short e = refuse_case (λ n k. (n ≡ 20) × (k ≡ need) × (length chart < k)) (ltb (length chart) need) 20 need e (λ t. (refl, refl, ltb-true (length chart) need t))
+  chart_short e = refuse_case (λ x. (number_of x.fault ≡ 20) × (x.place ≡ need) × (length chart < x.place)) (ltb (length chart) need) ShortChart need e (λ t. (refl, refl, ltb-true (length chart) need t))
 
   pub chart_enough : chart_too_short need chart ≡ accepted → need ≤ length chart
   unfolding chart_too_short
-  chart_enough e = ltb-false (length chart) need (refuse_accepted _ 20 need e)
+  chart_enough e = ltb-false (length chart) need (refuse_accepted _ ShortChart need e)
 
 -- ---- both in order
 
 module _ (tables w chart : List ℕ) where
-  pub refused_text : {n k : ℕ} → too_long w ≡ Refused n k → text_refusal tables w chart ≡ Refused n k
+  pub refused_text : {r : Refusal} → too_long w ≡ Err r → text_refusal tables w chart ≡ Err r
   unfolding text_refusal
   refused_text e = rw e refl
 
-  pub refused_chart : (need : ℕ) → need ≡ chart_need tables (length w) → too_long w ≡ accepted → length chart < need → text_refusal tables w chart ≡ Refused 20 need
+  pub refused_chart : (need : ℕ) → need ≡ chart_need tables (length w) → too_long w ≡ accepted → length chart < need → text_refusal tables w chart ≡ refused ShortChart need
   unfolding text_refusal
   refused_chart need e a h = rw a (rw e (short_chart (chart_need tables (length w)) chart (omega arith)))
 
@@ -78,5 +82,5 @@ module _ (tables w chart : List ℕ) where
       record { tables = h; short = text_short w both.0; long_enough = chart_enough (chart_need tables (length w)) chart both.1 }
     where
       accepted_both : (u v : Verdict) → and_then u v ≡ accepted → (u ≡ accepted) × (v ≡ accepted)
-      accepted_both accepted v e = (refl, e)
-      accepted_both (Refused n k) v e = let z : ◌≡◌ {A = ℕ} 0 1 = cc in absurd (omega arith)
+      accepted_both (Ok _) v e = (refl, e)
+      accepted_both (Err r) v e = let z : ◌≡◌ {A = ℕ} 0 1 = cc in absurd (omega arith)

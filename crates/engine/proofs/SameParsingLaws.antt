@@ -9,14 +9,16 @@ use Rattle.chart.specs.Counted.{entry_of}
 use Rattle.chart.specs.Layout.{row_of, span_count, cell_at, chart_bytes, entry_at}
 use Rattle.common.proofs.BelowLaws.{sum_same}
 use Rattle.engine.specs.Outcome.{Parsing, Answered, ChartAfter, Parsed, UnlessRefused}
-use Rattle.engine.specs.declared.Answer.{Answer}
-use Rattle.engine.specs.declared.Answer.TheVariants.{Refused, None, One, Several}
 use Rattle.refusal.specs.Verdict.{Verdict}
-use Rattle.grammar.specs.declared.Verdict.TheVariants.{accepted, Refused as Rejected}
 use Rattle.tables.specs.Layout.{row_count}
 use Rattle.theory.proofs.CountLaws.{counts_same}
 use Rattle.theory.specs.Counts.{Only, Counts}
 use Rattle.theory.specs.Tree.{Tree, Forest}
+use Rattle.engine.specs.declared.Parses.TheVariants.{None, One, Several}
+use Rattle.refusal.specs.Verdict.{accepted}
+use Rattle.engine.specs.Outcome.{Answer}
+use Rattle.std.specs.Prelude.{Ok, Err}
+use Rattle.refusal.specs.declared.Refusal.{Refusal}
 
 -- The same parses, and the same lists of trees to count for each entry in range.
 pub record SameParsing (s u : Parsing) : Type 0 where
@@ -33,10 +35,10 @@ only_same P Q e t o = record { holds = (e t).0 o.holds; alone = λ u h. o.alone 
 
 answered_same : (P Q : Tree → Type 0) → ((t : Tree) → P t ↔ Q t) → (l₀ : List ℕ) (r : Answer) (l : List ℕ) → Answered P l₀ r l → Answered Q l₀ r l
 unfolding Answered
-answered_same P Q e l₀ None l a = ((λ t h. a.0 t ((e t).1 h)), a.1)
-answered_same P Q e l₀ (One n) l a = (a.0, only_same P Q e a.0 a.1, a.2, a.3, a.4)
-answered_same P Q e l₀ Several l a = ((a.0.0, a.0.1, (e a.0.0).0 a.0.2, (e a.0.1).0 a.0.3, a.0.4), a.1)
-answered_same P Q e l₀ (Refused number place) l a = (a.0, only_same P Q e a.0 a.1, a.2, a.3, a.4, a.5)
+answered_same P Q e l₀ (Ok None) l a = ((λ t h. a.0 t ((e t).1 h)), a.1)
+answered_same P Q e l₀ (Ok (One n)) l a = (a.0, only_same P Q e a.0 a.1, a.2, a.3, a.4)
+answered_same P Q e l₀ (Ok Several) l a = ((a.0.0, a.0.1, (e a.0.0).0 a.0.2, (e a.0.1).0 a.0.3, a.0.4), a.1)
+answered_same P Q e l₀ (Err r) l a = (a.0, only_same P Q e a.0 a.1, a.2, a.3, a.4, a.5)
 
 -- ---- the same chart for the same argument counts
 
@@ -86,5 +88,5 @@ module _ (s u : Parsing) (same : SameParsing s u) where
   -- A refusal, or none, is the same of both.
   pub unless_same : (v : Verdict) (c₀ l₀ : List ℕ) (r : Answer) (c l : List ℕ) → UnlessRefused v s c₀ l₀ r c l → UnlessRefused v u c₀ l₀ r c l
   unfolding UnlessRefused
-  unless_same accepted c₀ l₀ r c l h = parsed_same c₀ l₀ r c l h
-  unless_same (Rejected number place) c₀ l₀ r c l h = h
+  unless_same (Ok _) c₀ l₀ r c l h = parsed_same c₀ l₀ r c l h
+  unless_same (Err x) c₀ l₀ r c l h = h

@@ -17,51 +17,43 @@ use chart::sums::capped;
 use common::wide;
 use extract::write_only;
 use fill::fill;
-use grammar::Verdict;
 use prepare::{prepare, zero_prepared};
+use refusal::{Fault, Refusal};
 use tables::{ROOT_SLOT, argument_count, production_count, takes_production};
 
-// What parsing a text gives.
+// How many parses a text has.
 #[derive(Clone, Copy)]
-pub enum Answer {
-    // No parse.
+pub enum Parses {
     None,
-    // One parse; its listing has this many numbers.
+    // One; its listing has this many numbers.
     One(usize),
-    // Two parses or more.
+    // Two or more.
     Several,
-    // The refusal's number and its place.
-    Refused(usize, usize),
 }
 
 // ---- refusals
 
 // 10: the text is over its limit.
-pub fn check_text(text: &[u8]) -> Verdict
+pub fn check_text(text: &[u8]) -> Result<(), Refusal>
     ensures { result ≡ too_long text.now }
 {
     if TEXT_LIMIT < text.len() {
-        return Verdict::Refused(10, text.len());
+        return Err(Fault::LongText.at(text.len()));
     }
-    Verdict::Accepted
+    Ok(())
 }
 
 // 10, and then 20: the chart is too short.
-fn check_input(tables: &[u64], text: &[u8], chart: &[u8]) -> Verdict
+fn check_input(tables: &[u64], text: &[u8], chart: &[u8]) -> Result<(), Refusal>
     requires { ParserTables tables.now }
     ensures { result ≡ text_refusal tables.now text.now chart.now }
 {
-    let verdict = check_text(text);
-    match verdict {
-        Verdict::Refused(number, place) => Verdict::Refused(number, place),
-        Verdict::Accepted => {
-            let needed = chart_need(tables, text.len());
-            if chart.len() < needed {
-                return Verdict::Refused(20, needed);
-            }
-            Verdict::Accepted
-        }
+    check_text(text)?;
+    let needed = chart_need(tables, text.len());
+    if chart.len() < needed {
+        return Err(Fault::ShortChart.at(needed));
     }
+    Ok(())
 }
 
 // ---- counting
@@ -85,12 +77,9 @@ fn root_sum(chart: &[u8], text: &[u8], tables: &[u64]) -> usize
     requires { ChartFits tables.now (length text.now) chart.now }
     ensures { result ≡ sum_below (length (counts_of tables.now)) (root_term tables.now text.now chart.now) }
 {
-    let count = production_count(tables);
     let mut sum = 0;
-    let mut p = 0;
-    while p < count {
+    for p in 0..production_count(tables) {
         sum += root_at(chart, text, tables, p);
-        p += 1;
     }
     sum
 }
@@ -101,13 +90,12 @@ fn first_root(chart: &[u8], text: &[u8], tables: &[u64]) -> usize
     requires bound { 1 ≤ sum_below (length (counts_of tables.now)) (root_term tables.now text.now chart.now) }
     ensures { (result < length (counts_of tables.now)) × (1 ≤ root_term tables.now text.now chart.now result) }
 {
-    let mut p = 0;
-    let mut trees = root_at(chart, text, tables, p);
-    while trees == 0 {
-        p += 1;
-        trees = root_at(chart, text, tables, p);
+    for p in 0..production_count(tables) {
+        if root_at(chart, text, tables, p) > 0 {
+            return p;
+        }
     }
-    p
+    unreachable!()
 }
 
 // Fills the chart by the tables and what is prepared for them, and counts the parses: 0, 1, or 2 for more.
@@ -125,7 +113,12 @@ pub fn count_parses(tables: &[u64], prepared: &[u8], text: &[u8], chart: &mut [u
 // ---- parsing
 
 // Writes the listing of the only parse, as far as there is room.
-pub fn write_parse(tables: &[u64], text: &[u8], chart: &[u8], listing: &mut [u8]) -> Answer
+pub fn write_parse(
+    tables: &[u64],
+    text: &[u8],
+    chart: &[u8],
+    listing: &mut [u8],
+) -> Result<Parses, Refusal>
     requires filled { Filled tables.now text.now chart.now }
     requires counts { Counts (ParseBy tables.now text.now) 1 }
     ensures { Answered (ParseBy tables.now text.now) listing.old result listing.new }
@@ -133,9 +126,9 @@ pub fn write_parse(tables: &[u64], text: &[u8], chart: &[u8], listing: &mut [u8]
     let root = first_root(chart, text, tables);
     let next = write_only(chart, text, tables, listing, root);
     if listing.len() / 2 < next {
-        return Answer::Refused(22, listing.len() / 2);
+        return Err(Fault::LongListing.at(listing.len() / 2));
     }
-    Answer::One(next)
+    Ok(Parses::One(next))
 }
 
 // Fills a chart that fits; a text with one parse has its listing written, as far as there is room.
@@ -145,17 +138,17 @@ fn parse_fitting(
     text: &[u8],
     chart: &mut [u8],
     listing: &mut [u8],
-) -> Answer
+) -> Result<Parses, Refusal>
     requires chart_fits { ChartFits tables.now (length text.now) chart.old }
     requires prepared { Prepared tables.now prepared.now }
     ensures { Parsed (parsing_by tables.now text.now) chart.old listing.old result chart.new listing.new }
 {
     let found = count_parses(tables, prepared, text, chart);
     if found == 0 {
-        return Answer::None;
+        return Ok(Parses::None);
     }
     if 1 < found {
-        return Answer::Several;
+        return Ok(Parses::Several);
     }
     write_parse(tables, text, chart, listing)
 }
@@ -167,20 +160,22 @@ pub fn parse_prepared(
     text: &[u8],
     chart: &mut [u8],
     listing: &mut [u8],
-) -> Answer
+) -> Result<Parses, Refusal>
     requires parser_tables { ParserTables tables.now }
     requires prepared { Prepared tables.now prepared.now }
     ensures { TablesOutcome tables.now text.now chart.old listing.old result chart.new listing.new }
 {
-    let verdict = check_input(tables, text, chart);
-    match verdict {
-        Verdict::Refused(number, place) => Answer::Refused(number, place),
-        Verdict::Accepted => parse_fitting(tables, prepared, text, chart, listing),
-    }
+    check_input(tables, text, chart)?;
+    parse_fitting(tables, prepared, text, chart, listing)
 }
 
 // Parses one text by tables.
-pub fn parse_tables(tables: &[u64], text: &[u8], chart: &mut [u8], listing: &mut [u8]) -> Answer
+pub fn parse_tables(
+    tables: &[u64],
+    text: &[u8],
+    chart: &mut [u8],
+    listing: &mut [u8],
+) -> Result<Parses, Refusal>
     requires { ParserTables tables.now }
     ensures { TablesOutcome tables.now text.now chart.old listing.old result chart.new listing.new }
 {

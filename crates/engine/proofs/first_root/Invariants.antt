@@ -7,8 +7,5 @@ use Rattle.engine.specs.Roots.{root_term}
 use Rattle.tables.specs.Layout.{counts_of}
 use Rattle.engine.proofs.first_root.Given as goal
 
-abbrev pub invariant-loop-trees : goal.invariant-loop-trees
-invariant-loop-trees l = (l.trees ≡ root_term l.tables l.text l.chart l.p) × (sum_below l.p (root_term l.tables l.text l.chart) ≡ 0) × (l.p < length (counts_of l.tables))
-
-abbrev pub decreases-loop-trees : goal.decreases-loop-trees
-decreases-loop-trees l = length (counts_of l.tables) - l.p
+abbrev pub invariant-loop-p : goal.invariant-loop-p
+invariant-loop-p l = sum_below l.p (root_term l.tables l.text l.chart) ≡ 0

@@ -5,22 +5,24 @@ use Rattle.engine.proofs.RefusalsLaws.{accepted_fits}
 use Rattle.engine.specs.Refusals.{text_refusal}
 use Rattle.engine.specs.Roots.{parsing_by, TablesOutcome}
 use Rattle.engine.proofs.parse_prepared.Goals as goal
+use Rattle.std.proofs.lemmas.Result.{err_from_is_err_and}
 
 pub parse_fitting-requires : goal.parse_fitting-requires
 parse_fitting-requires c = let start = c in
     let a = start.args in
-    record { chart_fits = accepted_fits a.tables.now a.text.now a.chart.now start.requires.parser_tables (sym c.check_input-verdict.ensures ∙ c.in-Accepted.is); prepared = start.requires.prepared }
+    record { chart_fits = accepted_fits a.tables.now a.text.now a.chart.now start.requires.parser_tables (sym c.check_input.ensures ∙ c.in_ok-check_input.was); prepared = start.requires.prepared }
 
-pub returns-in-Refused : goal.returns-in-Refused
+pub returns-in_err-check_input : goal.returns-in_err-check_input
 unfolding TablesOutcome
-returns-in-Refused c =
+returns-in_err-check_input c =
     let a = c.args in
-    outcome_refused (parsing_by a.tables.now a.text.now) a.chart.now a.listing.now (text_refusal a.tables.now a.text.now a.chart.now) _ _ (sym c.check_input-verdict.ensures ∙ c.in-Refused.is)
+    let p = err_from_is_err_and c.from_residual.result c.from_residual.ensures.1 in
+    rw (p.1, p.2) (outcome_refused (parsing_by a.tables.now a.text.now) a.chart.now a.listing.now (text_refusal a.tables.now a.text.now a.chart.now) _ (sym c.check_input.ensures ∙ c.in_err-check_input.was))
 
-pub returns-in-Accepted : goal.returns-in-Accepted
+pub returns : goal.returns
 unfolding TablesOutcome
-returns-in-Accepted c =
+returns c =
     let a = c.args in
     let parsed = c.parse_fitting in
-    let accepted = sym c.check_input-verdict.ensures ∙ c.in-Accepted.is in
+    let accepted = sym c.check_input.ensures ∙ c.in_ok-check_input.was in
     outcome_accepted (parsing_by a.tables.now a.text.now) a.chart.now a.listing.now (text_refusal a.tables.now a.text.now a.chart.now) parsed.result parsed.new.chart parsed.new.listing accepted parsed.ensures

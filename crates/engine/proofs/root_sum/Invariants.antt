@@ -7,7 +7,4 @@ use Rattle.engine.specs.Roots.{root_term}
 use Rattle.engine.proofs.root_sum.Given as goal
 
 abbrev pub invariant-loop-p : goal.invariant-loop-p
-invariant-loop-p l = (l.sum ≡ sum_below l.p (root_term l.tables l.text l.chart)) × (l.sum ≤ l.p * byte_values) × (l.p ≤ l.count)
-
-abbrev pub decreases-loop-p : goal.decreases-loop-p
-decreases-loop-p l = l.count - l.p
+invariant-loop-p l = (l.sum ≡ sum_below l.p (root_term l.tables l.text l.chart)) × (l.sum ≤ l.p * byte_values)

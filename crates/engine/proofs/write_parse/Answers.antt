@@ -26,7 +26,7 @@ returns-then-listing-next c =
     let root = first-root.ensures in
     let listing = write-only.new.out in
     let place : length listing / 2 ≡ length a.listing.now / 2 = ap (λ (n : ℕ). n / 2) write-only.auto.out in
-    answered_long a.tables.now a.text.now a.chart.now start.requires.filled start.requires.counts first-root.result first-root.ensures.0 first-root.ensures.1 a.listing.now listing write-only.result write-only.ensures (length listing / 2) place (omega (arith, place))
+    rw c.at.ensures (answered_long a.tables.now a.text.now a.chart.now start.requires.filled start.requires.counts first-root.result first-root.ensures.0 first-root.ensures.1 a.listing.now listing write-only.result write-only.ensures (length listing / 2) place (omega (arith, place)))
 
 pub returns : goal.returns
 unfolding room
