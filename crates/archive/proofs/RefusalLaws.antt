@@ -15,6 +15,10 @@ use Rattle.refusal.specs.Verdict.{Verdict}
 use Rattle.std.specs.Prelude.{Err}
 use Rattle.load.proofs.AbsentLaws.{class_number, names_number}
 use Rattle.load.specs.Absent.{absent_in, absent_names}
+use Rattle.refusal.specs.declared.Refusal.{Refusal}
+use Rattle.engine.proofs.RefusalsLaws.{text_long, chart_short}
+use Rattle.refusal.specs.Fault.{number_of}
+use mathlib.Core.Path.{ap}
 
 -- one of the three
 abbrev pub Numbers : ℕ → Type 0
@@ -27,14 +31,13 @@ module _ (g : List Line) (roots : List Bool) (w c₀ : List ℕ) where
   abbrev refusals : List Verdict
   refusals = absent_names g ∷ absent_in (length g) (root_class roots) ∷ too_long w ∷ chart_too_short need c₀ ∷ []
 
-  first_number : (n k : ℕ) → FirstIn refusals n k → Numbers n
-  unfolding too_long chart_too_short
-  first_number n k (here e) = inl (names_number g n k e)
-  first_number n k (there a (here e)) = inl (class_number (length g) (root_class roots) n k e)
-  first_number n k (there a (there b (here e))) = refuse_case (λ m j. Numbers m) (ltb text_limit (length w)) 10 (length w) e (λ t. inr (inl refl))
-  first_number n k (there a (there b (there c (here e)))) = refuse_case (λ m j. Numbers m) (ltb (length c₀) need) 20 need e (λ t. inr (inr refl))
-  first_number n k (there a (there b (there c (there _ e)))) = elim e [ ]
+  first_number : (r : Refusal) → FirstIn refusals r → Numbers (number_of r.fault)
+  first_number r (here e) = inl (ap number_of (names_number g r e))
+  first_number r (there a (here e)) = inl (ap number_of (class_number (length g) (root_class roots) r e))
+  first_number r (there a (there b (here e))) = inr (inl (text_long w e).0)
+  first_number r (there a (there b (there c (here e)))) = inr (inr (chart_short need c₀ e).0)
+  first_number r (there a (there b (there c (there _ e)))) = elim e [ ]
 
-  pub flat_numbers : (n k : ℕ) → flat_refusal g roots w c₀ ≡ Refused n k → Numbers n
+  pub flat_numbers : (r : Refusal) → flat_refusal g roots w c₀ ≡ Err r → Numbers (number_of r.fault)
   unfolding flat_refusal
-  flat_numbers n k e = first_number n k (order_first refusals e)
+  flat_numbers r e = first_number r (order_first refusals e)

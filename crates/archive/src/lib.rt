@@ -9,10 +9,10 @@ ghost use Rattle.tables.specs.Layout.{ParserTables};
 ghost use Rattle.archive.specs.Outcome.{GrammarOutcome, FlatOutcome};
 
 use charset::CharSet;
-use engine::{Answer, parse_tables};
-use grammar::Verdict;
+use engine::{Parses, parse_tables};
 use layout::limits::PRODUCTION_LIMIT;
-use load::{FlatAnswer, check_class, load};
+use load::{check_class, load};
+use refusal::Refusal;
 use tables::{ProductionSet, ROOT_SLOT, production_count, put_class, zero_tables};
 
 // Parses a text by a flat text and the lines allowed at the root: 27, 28, 10 and 20 in order, and then the answer. What chart and listing held before is never read.
@@ -22,15 +22,12 @@ pub fn parse_flat(
     text: &[u8],
     chart: &mut [u8],
     listing: &mut [u8],
-) -> Answer
+) -> Result<Parses, Refusal>
     ensures { FlatOutcome flat.now roots text.now chart.old listing.old result chart.new listing.new }
 {
     let mut tables = zero_tables();
-    let loaded = load(flat, &mut tables);
-    match loaded {
-        FlatAnswer::Refused(number, place) => Answer::Refused(number, place),
-        FlatAnswer::Lines(_) => parse_loaded(&mut tables, roots, text, chart, listing),
-    }
+    load(flat, &mut tables)?;
+    parse_loaded(&mut tables, roots, text, chart, listing)
 }
 
 // By tables none of whose classes names a line that isn't there: 28 for the root, and then as by any tables.
@@ -40,7 +37,7 @@ fn parse_loaded(
     text: &[u8],
     chart: &mut [u8],
     listing: &mut [u8],
-) -> Answer
+) -> Result<Parses, Refusal>
     requires { ParserTables tables.old × (absent_names (table_grammar tables.old) ≡ accepted) }
     ensures { GrammarOutcome (table_grammar tables.old) roots text.now chart.old listing.old result chart.new listing.new }
 {
@@ -50,9 +47,6 @@ fn parse_loaded(
         CharSet::empty(),
         ProductionSet::of(roots),
     );
-    let verdict = check_class(tables, ROOT_SLOT, production_count(tables));
-    match verdict {
-        Verdict::Refused(number, place) => Answer::Refused(number, place),
-        Verdict::Accepted => parse_tables(tables, text, chart, listing),
-    }
+    check_class(tables, ROOT_SLOT, production_count(tables))?;
+    parse_tables(tables, text, chart, listing)
 }

@@ -4,11 +4,14 @@ use mathlib.Core.Path.{◌≡◌}
 use mathlib.Core.List.{List}
 use native.Mathlib.Omega.{arith}
 use Rattle.refusal.specs.Verdict.{Verdict}
-use Rattle.grammar.specs.declared.Verdict.TheVariants.{Refused as Rejected}
 use Rattle.parse.proofs.RefusalLaws.{refusal_number}
 use Rattle.parse.specs.Outcome.{refusal}
 use Rattle.priority.proofs.RefusalLaws.{checked_number}
 use Rattle.priority.specs.Check.{checked}
+use Rattle.refusal.specs.Verdict.{accepted}
+use Rattle.std.specs.Prelude.{Err}
+use Rattle.refusal.specs.declared.Refusal.{Refusal}
+use Rattle.refusal.specs.Fault.{number_of}
 
 -- the largest number of a refusal
 abbrev pub largest_number : ℕ
@@ -16,10 +19,10 @@ largest_number = 22
 
 -- if v is a refusal, its number is one of them
 pub record Numbered (v : Verdict) : Type 0 where
-  pub small : (number place : ℕ) → v ≡ Rejected number place → number ≤ largest_number
+  pub small : (r : Refusal) → v ≡ Err r → number_of r.fault ≤ largest_number
 
 pub grammar_numbered : (b : List ℕ) → Numbered (checked b)
-grammar_numbered b = record { small = λ n k e. omega (arith, checked_number b e) }
+grammar_numbered b = record { small = λ r e. omega (arith, checked_number b e) }
 
 pub refusal_numbered : (b w chart : List ℕ) → Numbered (refusal b w chart)
-refusal_numbered b w chart = record { small = λ n k e. omega (arith, refusal_number b w chart e) }
+refusal_numbered b w chart = record { small = λ r e. omega (arith, refusal_number b w chart e) }

@@ -4,19 +4,21 @@ use mathlib.Core.Path.{◌≡◌, refl, subst}
 use mathlib.Core.List.{List, [], ◌∷◌}
 use Rattle.engine.proofs.OutcomeLaws.{unless_unique}
 use Rattle.engine.specs.Outcome.{UnlessRefused}
-use Rattle.engine.specs.declared.Answer.{Answer}
-use Rattle.engine.specs.declared.Answer.TheVariants.{Refused}
 use Rattle.engine.specs.Refusals.{too_long}
 use Rattle.refusal.specs.Verdict.{in_order}
 use Rattle.refusal.specs.Verdict.{Verdict}
-use Rattle.grammar.specs.declared.Verdict.TheVariants.{accepted, Refused as Rejected}
 use Rattle.parse.specs.Outcome.{too_short, reading_by, refusal, Outcome, AcceptedOutcome}
 use Rattle.priority.specs.Check.{checked}
+use Rattle.engine.specs.declared.Parses.TheVariants.{None, One, Several}
+use Rattle.refusal.specs.Verdict.{accepted}
+use Rattle.engine.specs.Outcome.{Answer}
+use Rattle.std.specs.Prelude.{Err}
+use Rattle.refusal.specs.declared.Refusal.{Refusal}
 
 module _ (b w c₀ l₀ : List ℕ) where
-  pub grammar_refused : (number place : ℕ) → checked b ≡ Rejected number place → Outcome b w c₀ l₀ (Refused number place) c₀ l₀
+  pub grammar_refused : (r : Refusal) → checked b ≡ Err r → Outcome b w c₀ l₀ (Err r) c₀ l₀
   unfolding Outcome refusal UnlessRefused
-  grammar_refused number place e = rw e (refl, refl, refl)
+  grammar_refused r e = rw e (refl, refl, refl)
 
   pub grammar_accepted : (r : Answer) (c l : List ℕ) → checked b ≡ accepted
       → AcceptedOutcome b w c₀ l₀ r c l → Outcome b w c₀ l₀ r c l

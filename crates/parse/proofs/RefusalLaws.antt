@@ -15,69 +15,74 @@ use Rattle.engine.specs.Refusals.{too_long}
 use Rattle.parse.specs.Outcome.{needed, too_short, refusal}
 use Rattle.priority.proofs.RefusalLaws.{checked_number}
 use Rattle.priority.specs.Check.{checked}
+use Rattle.refusal.specs.Verdict.{refused}
+use Rattle.std.specs.Prelude.{Err}
+use Rattle.refusal.specs.declared.Fault.TheVariants.{LongText, ShortChart}
+use Rattle.refusal.specs.declared.Refusal.{Refusal}
+use Rattle.refusal.specs.Fault.{number_of}
 
 module _ (b w chart : List ℕ) where
   abbrev lines : List Verdict
   lines = checked b ∷ too_long w ∷ too_short b w chart ∷ []
 
-  by_grammar : {n k : ℕ} → FirstIn lines n k → n ≤ 9 → checked b ≡ Refused n k
+  by_grammar : {r : Refusal} → FirstIn lines r → number_of r.fault ≤ 9 → checked b ≡ Err r
   by_grammar (here e) small = e
   by_grammar (there a (here e)) small = absurd (omega (arith, (text_long w e).0))
   by_grammar (there a (there c (here e))) small = absurd (omega (arith, (chart_short (needed b (length w)) chart e).0))
   by_grammar (there a (there c (there _ e))) small = elim e [ ]
 
-  by_ten : {n k : ℕ} → FirstIn lines n k → n ≡ 10 → (checked b ≡ accepted) × (text_limit < length w) × (k ≡ length w)
+  by_ten : {r : Refusal} → FirstIn lines r → number_of r.fault ≡ 10 → (checked b ≡ accepted) × (text_limit < length w) × (r.place ≡ length w)
   by_ten (here e) ten = absurd (omega (arith, checked_number b e))
   by_ten (there a (here e)) ten = let h = text_long w e in (a, h.1, h.2)
   by_ten (there a (there c (here e))) ten = absurd (omega (arith, (chart_short (needed b (length w)) chart e).0))
   by_ten (there a (there c (there _ e))) ten = elim e [ ]
 
-  by_twenty : {n k : ℕ} → FirstIn lines n k → n ≡ 20 → (checked b ≡ accepted) × (length w ≤ text_limit) × (k ≡ needed b (length w)) × (length chart < k)
+  by_twenty : {r : Refusal} → FirstIn lines r → number_of r.fault ≡ 20 → (checked b ≡ accepted) × (length w ≤ text_limit) × (r.place ≡ needed b (length w)) × (length chart < r.place)
   by_twenty (here e) twenty = absurd (omega (arith, checked_number b e))
   by_twenty (there a (here e)) twenty = absurd (omega (arith, (text_long w e).0))
   by_twenty (there a (there c (here e))) twenty = let h = chart_short (needed b (length w)) chart e in (a, text_short w c, h.1, h.2)
   by_twenty (there a (there c (there _ e))) twenty = elim e [ ]
 
-  by_number : {n k : ℕ} → FirstIn lines n k → n ≤ 20
+  by_number : {r : Refusal} → FirstIn lines r → number_of r.fault ≤ 20
   by_number (here e) = omega (arith, checked_number b e)
   by_number (there a (here e)) = omega (arith, (text_long w e).0)
   by_number (there a (there c (here e))) = omega (arith, (chart_short (needed b (length w)) chart e).0)
   by_number (there a (there c (there _ e))) = elim e [ ]
 
-  first_line : {n k : ℕ} → refusal b w chart ≡ Refused n k → FirstIn lines n k
+  first_line : {r : Refusal} → refusal b w chart ≡ Err r → FirstIn lines r
   unfolding refusal
   first_line e = order_first lines e
 
   -- The refusals of the grammar.
-  pub refusal_grammar : (n k : ℕ) → n ≤ 9 → (refusal b w chart ≡ Refused n k) ↔ (checked b ≡ Refused n k)
+  pub refusal_grammar : (r : Refusal) → number_of r.fault ≤ 9 → (refusal b w chart ≡ Err r) ↔ (checked b ≡ Err r)
   unfolding refusal
-  refusal_grammar n k small = ((λ e. by_grammar (first_line e) small), (λ h. rw h refl))
+  refusal_grammar r small = ((λ e. by_grammar (first_line e) small), (λ h. rw h refl))
 
   -- 10: the text is over its limit; the place is its length.
-  pub refusal_ten : (k : ℕ) → (refusal b w chart ≡ Refused 10 k) ↔ ((checked b ≡ accepted) × (text_limit < length w) × (k ≡ length w))
+  pub refusal_ten : (k : ℕ) → (refusal b w chart ≡ refused LongText k) ↔ ((checked b ≡ accepted) × (text_limit < length w) × (k ≡ length w))
   unfolding refusal
-  refusal_ten k = ((λ e. by_ten (first_line e) refl), (λ (e, long, place). rw (e, long_text w long) (ap (Refused 10) (sym place))))
+  refusal_ten k = ((λ e. by_ten (first_line e) refl), (λ (e, long, place). rw (e, long_text w long) (ap (λ (n : ℕ). refused LongText n) (sym place))))
 
   -- 20: the chart is too short; the place is its need.
-  pub refusal_twenty : (k : ℕ) → (refusal b w chart ≡ Refused 20 k) ↔ ((checked b ≡ accepted) × (length w ≤ text_limit) × (k ≡ needed b (length w)) × (length chart < k))
+  pub refusal_twenty : (k : ℕ) → (refusal b w chart ≡ refused ShortChart k) ↔ ((checked b ≡ accepted) × (length w ≤ text_limit) × (k ≡ needed b (length w)) × (length chart < k))
   unfolding refusal
   refusal_twenty k = (
     (λ e. by_twenty (first_line e) refl),
-    (λ (e, short, place, less). rw (e, short_text w short, short_chart (needed b (length w)) chart (omega arith)) (ap (Refused 20) (sym place))),
+    (λ (e, short, place, less). rw (e, short_text w short, short_chart (needed b (length w)) chart (omega arith)) (ap (λ (n : ℕ). refused ShortChart n) (sym place))),
   )
 
   -- There is no other number.
-  pub refusal_number : {n k : ℕ} → refusal b w chart ≡ Refused n k → n ≤ 20
+  pub refusal_number : {r : Refusal} → refusal b w chart ≡ Err r → number_of r.fault ≤ 20
   refusal_number e = by_number (first_line e)
 
-  by_text : {n k : ℕ} → FirstIn lines n k → checked b ≡ accepted → (n ≡ 10) ⊎ (n ≡ 20)
-  by_text (here e) a = refused_not_accepted _ _ (sym e ∙ a)
+  by_text : {r : Refusal} → FirstIn lines r → checked b ≡ accepted → (number_of r.fault ≡ 10) ⊎ (number_of r.fault ≡ 20)
+  by_text (here e) a = refused_not_accepted _ (sym e ∙ a)
   by_text (there a (here e)) _ = inl (text_long w e).0
   by_text (there a (there c (here e))) _ = inr (chart_short (needed b (length w)) chart e).0
   by_text (there a (there c (there _ e))) _ = elim e [ ]
 
   -- Where the grammar is accepted, 10 and 20 are left.
-  pub refusal_text : {n k : ℕ} → checked b ≡ accepted → refusal b w chart ≡ Refused n k → (n ≡ 10) ⊎ (n ≡ 20)
+  pub refusal_text : {r : Refusal} → checked b ≡ accepted → refusal b w chart ≡ Err r → (number_of r.fault ≡ 10) ⊎ (number_of r.fault ≡ 20)
   refusal_text a e = by_text (first_line e) a
 
   -- What makes a text readable: none of them.

@@ -6,7 +6,6 @@ use lib.ListN.{length}
 use Rattle.engine.proofs.SameParsingLaws.{SameParsing, chart_bytes_same, unless_same}
 use Rattle.engine.specs.Outcome.{UnlessRefused}
 use Rattle.engine.specs.Refusals.{too_long, chart_too_short}
-use Rattle.engine.specs.declared.Answer.{Answer}
 use Rattle.flatten.proofs.TurnedLaws.{turned_reading, turned_entry}
 use Rattle.grammar.proofs.SameFrontLaws.{same_productions, same_count}
 use Rattle.grammar.proofs.TurnedLaws.{turned_front}
@@ -16,6 +15,8 @@ use Rattle.refusal.specs.Verdict.{Verdict}
 use Rattle.layout.specs.Layout.{productions, argument_count}
 use Rattle.parse.specs.Outcome.{needed, reading_by, refusal, Outcome}
 use Rattle.priority.proofs.TurnedLaws.{turned_checked}
+use Rattle.engine.specs.Outcome.{Answer}
+use Rattle.refusal.specs.declared.Refusal.{Refusal}
 
 module _ (b c : List ℕ) (t : TurnedRound b c) where
   pub turned_chart_bytes : (n : ℕ) → needed c n ≡ needed b n

@@ -4,25 +4,32 @@
 ghost use Rattle.grammar.specs.Formed.{WellFormed};
 ghost use Rattle.parse.specs.Outcome.{Outcome, AcceptedOutcome};
 
-use engine::{Answer, parse_tables};
+use engine::{Parses, parse_tables};
 use flatten::flatten;
-use grammar::Verdict;
 use priority::check_grammar;
+use refusal::Refusal;
 use tables::zero_tables;
 
 // Parses a text. The chart and the listing are lent; what they held before is never read.
-pub fn parse(book: &[u8], text: &[u8], chart: &mut [u8], listing: &mut [u8]) -> Answer
+pub fn parse(
+    book: &[u8],
+    text: &[u8],
+    chart: &mut [u8],
+    listing: &mut [u8],
+) -> Result<Parses, Refusal>
     ensures { Outcome book.now text.now chart.old listing.old result chart.new listing.new }
 {
-    let verdict = check_grammar(book);
-    match verdict {
-        Verdict::Refused(number, place) => Answer::Refused(number, place),
-        Verdict::Accepted => parse_accepted(book, text, chart, listing),
-    }
+    check_grammar(book)?;
+    parse_accepted(book, text, chart, listing)
 }
 
 // The same for an accepted grammar.
-pub fn parse_accepted(book: &[u8], text: &[u8], chart: &mut [u8], listing: &mut [u8]) -> Answer
+pub fn parse_accepted(
+    book: &[u8],
+    text: &[u8],
+    chart: &mut [u8],
+    listing: &mut [u8],
+) -> Result<Parses, Refusal>
     requires { WellFormed book.now }
     ensures { AcceptedOutcome book.now text.now chart.old listing.old result chart.new listing.new }
 {

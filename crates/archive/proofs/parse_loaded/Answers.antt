@@ -5,6 +5,7 @@ use borrow.Author.Rules.{rules}
 use Rattle.archive.proofs.OutcomeLaws.{tables_root, root_absent, root_refused, root_carried}
 use Rattle.charset.proofs.BytesLaws.{bytes_of}
 use Rattle.tables.proofs.LayoutLaws.{counts_few}
+use Rattle.std.proofs.lemmas.Result.{err_from_is_err_and}
 use Rattle.archive.proofs.parse_loaded.Goals as goal
 
 pub production_count-requires : goal.production_count-requires
@@ -14,8 +15,8 @@ production_count-requires c =
     let root = tables_root start.args.tables.now put-class.new.tables start.args.roots _ _ put-class.ensures start.requires.0 c.of.ensures in
     root
 
-pub check_class-verdict-requires : goal.check_class-verdict-requires
-check_class-verdict-requires c =
+pub check_class-requires : goal.check_class-requires
+check_class-requires c =
     let start = c in
     let put-class = c.put_class in
     let root = tables_root start.args.tables.now put-class.new.tables start.args.roots _ _ put-class.ensures start.requires.0 c.of.ensures in
@@ -28,18 +29,19 @@ parse_tables-requires c =
     let root = tables_root start.args.tables.now put-class.new.tables start.args.roots _ _ put-class.ensures start.requires.0 c.of.ensures in
     root
 
-pub returns-in-Refused : goal.returns-in-Refused
-returns-in-Refused c =
+pub returns-in_err-check_class : goal.returns-in_err-check_class
+returns-in_err-check_class c =
     let start = c in
     let put-class = c.put_class in
     let root = root_refused start.args.tables.now put-class.new.tables start.args.roots _ _ put-class.ensures start.requires.0 c.of.ensures in
     let found = root_absent start.args.tables.now put-class.new.tables start.args.roots _ _ put-class.ensures start.requires.0 c.of.ensures _ c.production_count.ensures in
-    root start.requires.1 _ _ _ _ _ (sym found ∙ sym c.check_class-verdict.ensures ∙ c.in-Refused.is)
+    let p = err_from_is_err_and c.from_residual.result c.from_residual.ensures.1 in
+    rw (p.1, p.2) (root start.requires.1 _ _ _ _ (sym found ∙ sym c.check_class.ensures ∙ c.in_err-check_class.was))
 
-pub returns-in-Accepted : goal.returns-in-Accepted
-returns-in-Accepted c =
+pub returns : goal.returns
+returns c =
     let start = c in
     let put-class = c.put_class in
     let root = root_carried start.args.tables.now put-class.new.tables start.args.roots _ _ put-class.ensures start.requires.0 c.of.ensures in
     let found = root_absent start.args.tables.now put-class.new.tables start.args.roots _ _ put-class.ensures start.requires.0 c.of.ensures _ c.production_count.ensures in
-    root start.requires.1 _ _ _ (search rules) (bytes_of start.args.text.now c.type_inv.text) (sym found ∙ sym c.check_class-verdict.ensures ∙ c.in-Accepted.is) _ _ _ c.parse_tables.ensures
+    root start.requires.1 _ _ _ (search rules) (bytes_of start.args.text.now c.type_inv.text) (sym found ∙ sym c.check_class.ensures ∙ c.in_ok-check_class.was) _ _ _ c.parse_tables.ensures
