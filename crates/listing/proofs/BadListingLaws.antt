@@ -13,6 +13,10 @@ use Rattle.refusal.proofs.VerdictLaws.{refuse_case, refuse_accepted}
 use Rattle.std.specs.Prelude.{Err}
 use Rattle.refusal.specs.Verdict.{accepted}
 use Rattle.listing.specs.Answer.{byte_limit, bad_listing}
+use Rattle.refusal.specs.Verdict.{refused}
+use Rattle.refusal.specs.declared.Fault.TheVariants.{BadListing}
+use Rattle.refusal.specs.declared.Refusal.{Refusal}
+use Rattle.refusal.specs.Fault.{number_of}
 
 module _ (l : List ℕ) where
   abbrev odd : Bool
@@ -21,11 +25,11 @@ module _ (l : List ℕ) where
   abbrev long : Bool
   long = ltb byte_limit (length l)
 
-  pub odd_listing : length l % 2 ≡ 1 → bad_listing l ≡ Refused 11 (length l)
+  pub odd_listing : length l % 2 ≡ 1 → bad_listing l ≡ refused BadListing (length l)
   unfolding bad_listing
   odd_listing h = rw (eq-eqb (length l % 2) 1 h) refl
 
-  pub long_listing : byte_limit < length l → bad_listing l ≡ Refused 11 (length l)
+  pub long_listing : byte_limit < length l → bad_listing l ≡ refused BadListing (length l)
   unfolding bad_listing
   long_listing h = rw (lt-ltb byte_limit (length l) h, or-true odd) refl
 
@@ -34,14 +38,14 @@ module _ (l : List ℕ) where
   unfolding bad_listing
   listing_accepted even short = rw (ne_eqb (length l % 2) 1 (λ e. omega arith), le-ltb byte_limit (length l) short) refl
 
-  pub listing_refused : {n k : ℕ} → bad_listing l ≡ Refused n k → (n ≡ 11) × ((length l % 2 ≡ 1) ⊎ (byte_limit < length l)) × (k ≡ length l)
+  pub listing_refused : {r : Refusal} → bad_listing l ≡ Err r → (number_of r.fault ≡ 11) × ((length l % 2 ≡ 1) ⊎ (byte_limit < length l)) × (r.place ≡ length l)
   unfolding bad_listing
   listing_refused e =
-      refuse_case (λ n k. (n ≡ 11) × ((length l % 2 ≡ 1) ⊎ (byte_limit < length l)) × (k ≡ length l)) (odd || long) 11 (length l) e
+      refuse_case (λ x. (number_of x.fault ≡ 11) × ((length l % 2 ≡ 1) ⊎ (byte_limit < length l)) × (x.place ≡ length l)) (odd || long) BadListing (length l) e
       (λ t. (refl, ⊎_elim (λ o. inl (eqb-true (length l % 2) 1 o)) (λ o. inr (ltb-true byte_limit (length l) o)) (or_cases odd long t), refl))
 
   pub listing_good : bad_listing l ≡ accepted → (length l % 2 ≡ 0) × (length l ≤ byte_limit)
   unfolding bad_listing
   listing_good e =
-      let free = refuse_accepted (odd || long) 11 (length l) e in
+      let free = refuse_accepted (odd || long) BadListing (length l) e in
       (omega (arith, eqb-false (length l % 2) 1 (or_first_false odd long free)), ltb-false byte_limit (length l) (or_second_false odd long free))

@@ -6,7 +6,7 @@ use lib.ListN.{length, drop, drop_of_length-le}
 use lib.Seq.{drop-cons}
 use Rattle.ccg.specs.Ccg.{Line}
 use Rattle.listing.specs.Judge.{judge}
-use Rattle.listing.specs.declared.ListingAnswer.TheVariants.{Right, Wrong}
+use Rattle.listing.specs.declared.Judgement.TheVariants.{Right, Wrong}
 
 module _ (g : List Line) (numbers w : List ℕ) (next place : ℕ) where
   -- a number comes after it

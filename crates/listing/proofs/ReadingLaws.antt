@@ -3,7 +3,7 @@
 use Prim.Native.Nat.{ℕ, ◌*◌, ◌≤◌, ◌<◌}
 use mathlib.Core.List.{List, [], ◌∷◌}
 use mathlib.Core.Logic.{◌↔◌}
-use mathlib.Core.Path.{◌≡◌, sym}
+use mathlib.Core.Path.{◌≡◌, sym, ap}
 use native.Mathlib.Omega.{arith}
 use lib.ListN.{length, get_or, take, drop}
 use lib.Seq.{take_at}
@@ -21,8 +21,8 @@ use Rattle.refusal.specs.Verdict.{accepted}
 use Rattle.layout.specs.Layout.{start_sort}
 use Rattle.listing.proofs.BadListingLaws.{listing_accepted}
 use Rattle.listing.proofs.TreeLaws.{judge_right}
-use Rattle.listing.specs.Answer.{byte_limit, bad_listing, judged, listing_answer}
-use Rattle.listing.specs.declared.ListingAnswer.TheVariants.{Right, Refused}
+use Rattle.listing.specs.Answer.{ListingAnswer, byte_limit, bad_listing, judged, listing_answer}
+use Rattle.listing.specs.declared.Judgement.TheVariants.{Right}
 use Rattle.numbers.proofs.NumbersLaws.{numbers_joined}
 use Rattle.numbers.proofs.WrittenLaws.{bytes_long}
 use Rattle.numbers.specs.Numbers.{numbers_of}
@@ -30,6 +30,8 @@ use Rattle.numbers.specs.Written.{bytes_of}
 use Rattle.priority.proofs.CheckLaws.{accepted_formed}
 use Rattle.priority.specs.Check.{checked}
 use Rattle.theory.specs.Tree.{Tree, listing}
+use Rattle.std.specs.Prelude.{Ok}
+use Rattle.listing.specs.declared.Judgement.{Judgement}
 
 -- ---- right
 
@@ -54,25 +56,27 @@ judged_right b formed bytes w l = ((λ e. right_reading b formed bytes w l e), (
 
 -- ---- the whole answer
 
-refused_right : (n p : ℕ) → Refused n p ≡ Right → ⊥
-refused_right n p e = let z : ◌≡◌ {A = ℕ} 0 1 = cc in omega arith
-
 module _ (b w l : List ℕ) where
   -- the refusals, in order
   abbrev pub refusals : Verdict
   refusals = in_order (checked b ∷ too_long w ∷ bad_listing l ∷ [])
 
   -- "right" is no refusal: then the numbers decide
-  right_parts : (listing_answer b w l ≡ Right) ↔ ((refusals ≡ accepted) × (judged b w l ≡ Right))
+  right_parts : (listing_answer b w l ≡ Ok Right) ↔ ((refusals ≡ accepted) × (judged b w l ≡ Right))
   unfolding listing_answer
-  right_parts = unless_answer Refused refusals (judged b w l) Right refused_right
+  right_parts =
+      let answer = unless_answer refusals (Ok (judged b w l)) Right in
+      ((λ e. let (free, own) = answer.0 e in (free, found own)), (λ h. answer.1 (h.0, ap (λ (j : Judgement). Ok j) h.1)))
+    where
+      found : {j k : Judgement} → ◌≡◌ {A = ListingAnswer} (Ok j) (Ok k) → j ≡ k
+      found e = cc
 
   refusals_formed : refusals ≡ accepted → WellFormed b
   refusals_formed e = accepted_formed b (and_first (checked b) (and_then (too_long w) (bad_listing l)) e)
 
 -- The answer is "right" exactly if nothing is refused and the numbers are the listing of a parse of the text.
 pub listing_right : (b : List ℕ) → ((k : ℕ) → get_or b k 0 < characters) → (w l : List ℕ)
-    → (listing_answer b w l ≡ Right) ↔ ((in_order (checked b ∷ too_long w ∷ bad_listing l ∷ []) ≡ accepted) × ((t : Tree) × Reading b w t × (listing t ≡ numbers_of l)))
+    → (listing_answer b w l ≡ Ok Right) ↔ ((in_order (checked b ∷ too_long w ∷ bad_listing l ∷ []) ≡ accepted) × ((t : Tree) × Reading b w t × (listing t ≡ numbers_of l)))
 listing_right b bytes w l = (
   (λ e. let (accepted, e') = (right_parts b w l).0 e in (accepted, (judged_right b (refusals_formed b w l accepted) bytes w l).0 e')),
   (λ h. (right_parts b w l).1 (h.0, (judged_right b (refusals_formed b w l h.0) bytes w l).1 h.1)),
@@ -82,7 +86,7 @@ listing_right b bytes w l = (
 
 -- the listing of a parse, written at the start of a buffer, is found right
 pub reading_written : (b : List ℕ) → ((k : ℕ) → get_or b k 0 < characters) → (w l₀ l : List ℕ) (t : Tree) → checked b ≡ accepted → too_long w ≡ accepted → Reading b w t
-    → 2 * length (listing t) ≤ byte_limit → l ≡ overwritten (bytes_of (listing t)) l₀ → listing_answer b w (take (2 * length (listing t)) l) ≡ Right
+    → 2 * length (listing t) ≤ byte_limit → l ≡ overwritten (bytes_of (listing t)) l₀ → listing_answer b w (take (2 * length (listing t)) l) ≡ Ok Right
 reading_written b bytes w l₀ l t good short reading small wrote =
     let ns = listing t in
     let long = bytes_long ns in

@@ -14,7 +14,7 @@ use Rattle.ccg.proofs.TerminalLaws.{production_no_terminal, no_terminal_producti
 use Rattle.ccg.specs.Ccg.{Class, Line, no_line, no_class, is_terminal, Generated, Each, OwnNumbers}
 use Rattle.common.proofs.BoolLaws.{and_first_true, and_second_true, true_or_false}
 use Rattle.listing.specs.Judge.{is_next, is_right, due_after, text_after, judge}
-use Rattle.listing.specs.declared.ListingAnswer.TheVariants.{Right, Wrong}
+use Rattle.listing.specs.declared.Judgement.TheVariants.{Right, Wrong}
 use Rattle.theory.proofs.TreeLaws.{production_of_number}
 use Rattle.theory.specs.Tree.{Tree, leaf, node, Forest, none, ◌▷◌, production_number, yield, yields, listing, listings}
 

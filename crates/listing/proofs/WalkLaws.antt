@@ -23,14 +23,17 @@ use Rattle.flatten.specs.Tables.{FlatTables}
 use Rattle.grammar.specs.Formed.{WellFormed}
 use Rattle.listing.specs.Answer.{judged}
 use Rattle.listing.specs.Judge.{is_next, is_right, due_after, text_after, judge}
-use Rattle.listing.specs.Parts.{judged_by, after_part, EndsBeyond, Walked, dues_from}
-use Rattle.listing.specs.declared.ListingAnswer.TheVariants.{Wrong}
-use Rattle.listing.specs.declared.Part.{Part}
-use Rattle.listing.specs.declared.Part.TheVariants.{Complete, Fault}
+use Rattle.listing.specs.Parts.{Part, judged_by, after_part, EndsBeyond, Walked, dues_from}
+use Rattle.listing.specs.declared.Judgement.TheVariants.{Wrong}
 use Rattle.numbers.specs.Numbers.{numbers_of}
 use Rattle.tables.proofs.LayoutLaws.{counts_few}
 use Rattle.tables.specs.Layout.{slot, counts_of, arity_in, takes_char, takes_production, ParserTables, root_slot}
 use Rattle.theory.specs.Tree.{production_number}
+use Rattle.std.specs.Prelude.{Ok, Err}
+
+-- a part that is complete, and goes on there
+abbrev pub complete : ℕ → ℕ → Part
+complete number place = Ok (record { number = number; place = place })
 
 -- ---- the next byte of a text
 
@@ -58,8 +61,8 @@ next_small w bytes place n h =
 -- a part that ends beyond a place ends beyond an earlier one
 ends_weaker : (numbers w : List ℕ) (r : Part) (m k : ℕ) → k ≤ m → EndsBeyond m numbers w r → EndsBeyond k numbers w r
 unfolding EndsBeyond
-ends_weaker numbers w (Complete next place) m k h e = (omega (arith, e.0), e.1, e.2)
-ends_weaker numbers w (Fault index) m k h e = tt
+ends_weaker numbers w (Ok next) m k h e = (omega (arith, e.0), e.1, e.2)
+ends_weaker numbers w (Err index) m k h e = tt
 
 module _ (t : List ℕ) where
   abbrev g : List Line
@@ -135,7 +138,7 @@ module _ (t : List ℕ) where
 
   module _ (numbers w : List ℕ) (s at place : ℕ) where
     -- the listing ends early
-    pub walked_missing : length numbers ≤ at → Walked g numbers w (table_class t s ∷ []) at place (Fault at)
+    pub walked_missing : length numbers ≤ at → Walked g numbers w (table_class t s ∷ []) at place (Err at)
     unfolding judge after_part EndsBeyond
     walked_missing h = record { decides = λ others. rw (drop_of_length-le numbers {i = at} h) refl; ends = tt }
 
@@ -143,7 +146,7 @@ module _ (t : List ℕ) where
       first_number : drop at numbers ≡ n ∷ drop (at + 1) numbers
       first_number = drop-cons numbers at 0 l ∙ ap₂ (λ (x m : ℕ). x ∷ drop m numbers) (sym e) (sym (add-one at))
 
-      walked_fault : is_right g (table_class t s) (drop place w) n ≡ false → Walked g numbers w (table_class t s ∷ []) at place (Fault at)
+      walked_fault : is_right g (table_class t s) (drop place w) n ≡ false → Walked g numbers w (table_class t s ∷ []) at place (Err at)
       unfolding after_part EndsBeyond
       walked_fault h =
           record {
@@ -151,11 +154,11 @@ module _ (t : List ℕ) where
             ends = tt;
           }
 
-      pub walked_no_character : n < characters → (takes_char t s n && is_next (drop place w) n) ≡ false → Walked g numbers w (table_class t s ∷ []) at place (Fault at)
+      pub walked_no_character : n < characters → (takes_char t s n && is_next (drop place w) n) ≡ false → Walked g numbers w (table_class t s ∷ []) at place (Err at)
       walked_no_character h test = walked_fault (right_character s n (drop place w) h ∙ test)
 
       pub walked_character : n < characters → (takes_char t s n && is_next (drop place w) n) ≡ true
-          → Walked g numbers w (table_class t s ∷ []) at place (Complete (at + 1) (place + 1))
+          → Walked g numbers w (table_class t s ∷ []) at place (complete (at + 1) (place + 1))
       unfolding after_part EndsBeyond
       walked_character h test =
           let m = next_within w place n (and_second_true (takes_char t s n) (is_next (drop place w) n) test) in
@@ -170,7 +173,7 @@ module _ (t : List ℕ) where
         right_standing : is_right g (table_class t s) (drop place w) n ≡ is_standing s n
         right_standing = right_production s n (drop place w) tables h (next_small w bytes place n h)
 
-        pub walked_no_production : is_standing s n ≡ false → Walked g numbers w (table_class t s ∷ []) at place (Fault at)
+        pub walked_no_production : is_standing s n ≡ false → Walked g numbers w (table_class t s ∷ []) at place (Err at)
         walked_no_production v = walked_fault (right_standing ∙ v)
 
         pub walked_production : (r : Part) → is_standing s n ≡ true → Walked g numbers w (dues_from t (n - production_number 0) 0) (at + 1) place r
@@ -187,19 +190,19 @@ module _ (t : List ℕ) where
 
   module _ (numbers w : List ℕ) (q d at place : ℕ) where
     -- no argument is left
-    pub walked_none : arity_in (counts_of t) q ≤ d → at ≤ length numbers → place ≤ length w → Walked g numbers w (dues_from t q d) at place (Complete at place)
+    pub walked_none : arity_in (counts_of t) q ≤ d → at ≤ length numbers → place ≤ length w → Walked g numbers w (dues_from t q d) at place (complete at place)
     unfolding after_part EndsBeyond
     walked_none h l m = rw (dues_none q d h) (record { decides = λ others. refl; ends = (omega arith, l, m) })
 
     module _ (h : d < arity_in (counts_of t) q) where
       -- the first tree is wrong
-      pub walked_first_fault : (index : ℕ) → Walked g numbers w (table_class t (slot q d) ∷ []) at place (Fault index)
-          → Walked g numbers w (dues_from t q d) at place (Fault index)
+      pub walked_first_fault : (index : ℕ) → Walked g numbers w (table_class t (slot q d) ∷ []) at place (Err index)
+          → Walked g numbers w (dues_from t q d) at place (Err index)
       unfolding after_part EndsBeyond
       walked_first_fault index walked = rw (dues_next q d h) (record { decides = λ others. walked.decides (dues_from t q (d + 1) ++ others); ends = tt })
 
       -- or complete, and the others follow
-      pub walked_more : (next after : ℕ) (r : Part) → Walked g numbers w (table_class t (slot q d) ∷ []) at place (Complete next after)
+      pub walked_more : (next after : ℕ) (r : Part) → Walked g numbers w (table_class t (slot q d) ∷ []) at place (complete next after)
           → Walked g numbers w (dues_from t q (d + 1)) next after r → Walked g numbers w (dues_from t q d) at place r
       unfolding after_part EndsBeyond
       walked_more next after r tree others =

@@ -1,8 +1,8 @@
 -- Going through the numbers of a listing once (01, "Readings, listings and the chart"), by any character class grammar.
 use Rattle.std.specs.Prelude.{ℕ, ◌+◌, ◌-◌, Bool, false, cond, not, ◌&&◌, ◌||◌, List, [], ◌∷◌, ◌++◌, eqb, get_or, drop}
 use Rattle.ccg.specs.Ccg.{Class, Line, no_line, is_terminal}
-use Rattle.listing.specs.declared.ListingAnswer.{ListingAnswer}
-use Rattle.listing.specs.declared.ListingAnswer.TheVariants.{Right, Wrong}
+use Rattle.listing.specs.declared.Judgement.{Judgement}
+use Rattle.listing.specs.declared.Judgement.TheVariants.{Right, Wrong}
 use Rattle.theory.specs.Tree.{production_number}
 
 -- the next byte of the text, of which w is left, is n
@@ -25,7 +25,7 @@ text_after g w n = cond (is_terminal g n) (drop 1 w) w
 -- The answer for the numbers left, of which the first has index k; the classes still due, in order; and the text left.
 -- Right: numbers, classes and text end together. Wrong is the first number that is not right, or that comes after a complete tree, text left over or not;
 -- or the count of numbers, if they end early, or end with their tree and text is left over.
-unfoldable pub judge : List Line → List ℕ → List Class → List ℕ → ℕ → ListingAnswer
+unfoldable pub judge : List Line → List ℕ → List Class → List ℕ → ℕ → Judgement
 judge g [] [] [] k = Right
 judge g [] [] (c ∷ w) k = Wrong k
 judge g [] (due ∷ dues) w k = Wrong k

@@ -3,26 +3,30 @@ use Rattle.std.specs.Prelude.{ℕ, ◌+◌, ◌≤◌, ◌≡◌, List, [], ◌�
 use Rattle.ccg.specs.Ccg.{Class, Line}
 use Rattle.ccg.specs.Tables.{table_class, table_line, table_grammar}
 use Rattle.listing.specs.Judge.{judge}
-use Rattle.listing.specs.declared.ListingAnswer.{ListingAnswer}
-use Rattle.listing.specs.declared.Part.{Part}
-use Rattle.listing.specs.declared.Part.TheVariants.{Complete, Fault}
-use Rattle.listing.specs.declared.ListingAnswer.TheVariants.{Wrong}
+use Rattle.listing.specs.declared.Judgement.{Judgement}
+use Rattle.listing.specs.declared.Judgement.TheVariants.{Wrong}
 use Rattle.numbers.specs.Numbers.{numbers_of}
 use Rattle.tables.specs.Layout.{root_slot}
+use Rattle.listing.specs.declared.Next.{Next}
+use Rattle.std.specs.Prelude.{Result, Ok, Err}
 
 -- At the root a production that the tables allow there is due.
-unfoldable pub judged_by : (t w l : List ℕ) → ListingAnswer
+unfoldable pub judged_by : (t w l : List ℕ) → Judgement
 judged_by t w l = judge (table_grammar t) (numbers_of l) (table_class t root_slot ∷ []) w 0
 
+-- What the walk over a part gives: where it goes on behind a complete one, or the index at which the listing is wrong.
+abbrev pub Part : Type 0
+Part = Result Next ℕ
+
 -- The answer for the whole listing, if a part of it gave this and then the classes `dues` are due: behind a complete part it goes on, a fault stands.
-unfoldable pub after_part : List Line → (numbers : List ℕ) → List Class → (w : List ℕ) → Part → ListingAnswer
-after_part g numbers dues w (Complete next place) = judge g (drop next numbers) dues (drop place w) next
-after_part g numbers dues w (Fault index) = Wrong index
+unfoldable pub after_part : List Line → (numbers : List ℕ) → List Class → (w : List ℕ) → Part → Judgement
+after_part g numbers dues w (Ok next) = judge g (drop next.number numbers) dues (drop next.place w) next.number
+after_part g numbers dues w (Err index) = Wrong index
 
 -- A complete part ends within the listing and the text; the next number has an index of at least this.
 unfoldable pub EndsBeyond : ℕ → (numbers w : List ℕ) → Part → Type 0
-EndsBeyond least numbers w (Complete next place) = (least ≤ next) × (next ≤ length numbers) × (place ≤ length w)
-EndsBeyond least numbers w (Fault index) = Unit {0}
+EndsBeyond least numbers w (Ok next) = (least ≤ next.number) × (next.number ≤ length numbers) × (next.place ≤ length w)
+EndsBeyond least numbers w (Err index) = Unit {0}
 
 -- r is what the walk makes of a part in which the classes `dues` are due, from number `at` and from `place` in the text on.
 pub record Walked (g : List Line) (numbers w : List ℕ) (dues : List Class) (at place : ℕ) (r : Part) : Type 0 where

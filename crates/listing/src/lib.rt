@@ -1,7 +1,7 @@
 // The operation "checking a listing": whether numbers are the listing of a parse of a text, and if not, where they go wrong.
 #![tactic(auto)]
 
-ghost use Rattle.std.specs.Prelude.{◌≡◌, ◌&&◌, List, [], ◌∷◌, ◌-◌, ◌<◌, ◌≤◌, ltb, leb, length, drop};
+ghost use Rattle.std.specs.Prelude.{◌≡◌, ◌&&◌, List, [], ◌∷◌, ◌-◌, ◌<◌, ◌≤◌, ltb, leb, length, drop, Ok};
 ghost use Rattle.grammar.specs.Formed.{WellFormed};
 ghost use Rattle.refusal.specs.Verdict.{in_order, unless_refused};
 ghost use Rattle.theory.specs.Tree.{production_number};
@@ -13,16 +13,15 @@ ghost use Rattle.numbers.specs.Numbers.{numbers_of};
 ghost use Rattle.listing.specs.Judge.{is_next};
 ghost use Rattle.listing.specs.Answer.{bad_listing, judged, listing_answer};
 ghost use Rattle.listing.specs.Parts.{judged_by, after_part, Walked, dues_from};
-ghost use Rattle.listing.specs.declared.ListingAnswer.TheVariants.{Refused};
 
 use charset::CHARACTERS;
 use common::wide;
 use engine::check_text;
 use flatten::flatten;
-use grammar::Verdict;
 use layout::limits::ARGUMENT_LIMIT;
 use numbers::{LISTING_LIMIT, number_at};
 use priority::check_grammar;
+use refusal::{Fault, Refusal};
 use tables::{
     FIRST_PRODUCTION, ROOT_SLOT, argument_count, production_count, takes_char, takes_production,
     zero_tables,
@@ -31,55 +30,44 @@ use tables::{
 // Most bytes of a listing that is checked.
 const BYTE_LIMIT: usize = 2 * LISTING_LIMIT;
 
-// What checking a listing gives.
+// What checking a listing finds.
 #[derive(Clone, Copy)]
-pub enum ListingAnswer {
+pub enum Judgement {
     // It is the listing of a parse of the text.
     Right,
     // It is not: the index of the first number that is wrong, or how many there are if one is missing.
     Wrong(usize),
-    // The refusal's number and its place.
-    Refused(usize, usize),
 }
 
-// What the walk over a part of a listing gives.
+// Where numbers and text go on behind a part of a listing that is complete.
 #[derive(Clone, Copy)]
-pub enum Part {
-    // The part is complete: the index of the next number, and the next place in the text.
-    Complete(usize, usize),
-    // The index at which the listing is wrong.
-    Fault(usize),
+pub struct Next {
+    pub number: usize,
+    pub place: usize,
 }
 
 // Checks a listing. The book, the text and the listing are lent and stay.
-pub fn check_listing(book: &[u8], text: &[u8], listing: &[u8]) -> ListingAnswer
+#[tactic(auto, unfolding(crate::specs::Answer::listing_answer))]
+pub fn check_listing(book: &[u8], text: &[u8], listing: &[u8]) -> Result<Judgement, Refusal>
     ensures { result ≡ listing_answer book.now text.now listing.now }
 {
-    let verdict = check_grammar(book);
-    match verdict {
-        Verdict::Refused(number, place) => ListingAnswer::Refused(number, place),
-        Verdict::Accepted => check_accepted(book, text, listing),
-    }
+    check_grammar(book)?;
+    check_accepted(book, text, listing)
 }
 
 // The same for an accepted grammar. At the root a production of the start sort is due.
-fn check_accepted(book: &[u8], text: &[u8], listing: &[u8]) -> ListingAnswer
+fn check_accepted(book: &[u8], text: &[u8], listing: &[u8]) -> Result<Judgement, Refusal>
     requires { WellFormed book.now }
-    ensures { result ≡ unless_refused Refused (in_order (too_long text.now ∷ bad_listing listing.now ∷ [])) (judged book.now text.now listing.now) }
+    ensures { result ≡ unless_refused (in_order (too_long text.now ∷ bad_listing listing.now ∷ [])) (Ok (judged book.now text.now listing.now)) }
 {
-    let verdict = check_input(text, listing);
-    match verdict {
-        Verdict::Refused(number, place) => ListingAnswer::Refused(number, place),
-        Verdict::Accepted => {
-            let mut tables = zero_tables();
-            flatten(book, &mut tables);
-            judge(&tables, text, listing)
-        }
-    }
+    check_input(text, listing)?;
+    let mut tables = zero_tables();
+    flatten(book, &mut tables);
+    Ok(judge(&tables, text, listing))
 }
 
 // The same by tables of a grammar, for a text and a listing that are within their limits.
-pub fn judge(tables: &[u64], text: &[u8], listing: &[u8]) -> ListingAnswer
+pub fn judge(tables: &[u64], text: &[u8], listing: &[u8]) -> Judgement
     requires { ParserTables tables.now }
     ensures { result ≡ judged_by tables.now text.now listing.now }
 {
@@ -88,43 +76,40 @@ pub fn judge(tables: &[u64], text: &[u8], listing: &[u8]) -> ListingAnswer
 }
 
 // 10, and then 11.
-pub fn check_input(text: &[u8], listing: &[u8]) -> Verdict
+pub fn check_input(text: &[u8], listing: &[u8]) -> Result<(), Refusal>
     ensures { result ≡ in_order (too_long text.now ∷ bad_listing listing.now ∷ []) }
 {
-    let verdict = check_text(text);
-    match verdict {
-        Verdict::Refused(number, place) => Verdict::Refused(number, place),
-        Verdict::Accepted => check_bytes(listing),
-    }
+    check_text(text)?;
+    check_bytes(listing)
 }
 
 // 11: an odd byte count, or one over the limit.
-pub fn check_bytes(listing: &[u8]) -> Verdict
+pub fn check_bytes(listing: &[u8]) -> Result<(), Refusal>
     ensures { result ≡ bad_listing listing.now }
 {
     if listing.len() % 2 == 1 {
-        return Verdict::Refused(11, listing.len());
+        return Err(Fault::BadListing.at(listing.len()));
     }
     if BYTE_LIMIT < listing.len() {
-        return Verdict::Refused(11, listing.len());
+        return Err(Fault::BadListing.at(listing.len()));
     }
-    Verdict::Accepted
+    Ok(())
 }
 
 // A complete tree is right if the listing and the text end with it.
-fn answer(whole: Part, text: &[u8], listing: &[u8]) -> ListingAnswer
+fn answer(whole: Result<Next, usize>, text: &[u8], listing: &[u8]) -> Judgement
     ensures { (g : List Line) → result ≡ after_part g (numbers_of listing.now) [] text.now whole }
 {
     match whole {
-        Part::Fault(index) => ListingAnswer::Wrong(index),
-        Part::Complete(next, place) => {
-            if next < listing.len() / 2 {
-                return ListingAnswer::Wrong(next);
+        Err(index) => Judgement::Wrong(index),
+        Ok(next) => {
+            if next.number < listing.len() / 2 {
+                return Judgement::Wrong(next.number);
             }
-            if place < text.len() {
-                return ListingAnswer::Wrong(next);
+            if next.place < text.len() {
+                return Judgement::Wrong(next.number);
             }
-            ListingAnswer::Right
+            Judgement::Right
         }
     }
 }
@@ -166,23 +151,26 @@ fn check_tree(
     s: usize,
     at: usize,
     place: usize,
-) -> Part
+) -> Result<Next, usize>
     requires parser_tables { ParserTables tables.now }
     requires s_le_slots { (s ≤ slots) × (place ≤ length text.now) }
     ensures { Walked (table_grammar tables.now) (numbers_of listing.now) text.now (table_class tables.now s ∷ []) at place result }
 {
     if listing.len() / 2 <= at {
-        return Part::Fault(at);
+        return Err(at);
     }
     let n = number_at(listing, at);
     if n < CHARACTERS {
         if char_right(text, tables, s, place, n) {
-            return Part::Complete(at + 1, place + 1);
+            return Ok(Next {
+                number: at + 1,
+                place: place + 1,
+            });
         }
-        return Part::Fault(at);
+        return Err(at);
     }
     if !production_right(tables, s, n) {
-        return Part::Fault(at);
+        return Err(at);
     }
     let next = at + 1;
     check_arguments(tables, text, listing, n - FIRST_PRODUCTION, 0, next, place)
@@ -198,24 +186,14 @@ fn check_arguments(
     d: usize,
     at: usize,
     place: usize,
-) -> Part
+) -> Result<Next, usize>
     requires parser_tables { ParserTables tables.now }
     requires q_in_bounds { (q < length (counts_of tables.now)) × (at ≤ length (numbers_of listing.now)) × (place ≤ length text.now) }
     ensures { Walked (table_grammar tables.now) (numbers_of listing.now) text.now (dues_from tables.now q d) at place result }
 {
     if argument_count(tables, q) <= d {
-        return Part::Complete(at, place);
+        return Ok(Next { number: at, place });
     }
-    match check_tree(tables, text, listing, q * ARGUMENT_LIMIT + d, at, place) {
-        Part::Fault(index) => Part::Fault(index),
-        Part::Complete(next, after) => check_arguments(
-            tables,
-            text,
-            listing,
-            q,
-            d + 1,
-            next,
-            after,
-        ),
-    }
+    let next = check_tree(tables, text, listing, q * ARGUMENT_LIMIT + d, at, place)?;
+    check_arguments(tables, text, listing, q, d + 1, next.number, next.place)
 }

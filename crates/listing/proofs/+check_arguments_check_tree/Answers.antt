@@ -5,12 +5,13 @@ use Rattle.tables.specs.Layout.{slot, counts_of, arity_in}
 use Rattle.listing.proofs.WalkLaws.{walked_none, walked_first_fault, walked_more, production_there, walked_missing, walked_no_character, walked_character, walked_no_production, walked_production}
 use Rattle.numbers.specs.Numbers.{numbers_of}
 use Rattle.listing.specs.Parts.{EndsBeyond}
-use Rattle.listing.specs.declared.Part.TheVariants.{Complete}
 use mathlib.Core.Path.{sym, ◌∙◌}
 use lib.ListN.{get_or}
 use Rattle.charset.specs.Set.{characters}
 use Rattle.numbers.proofs.NumbersLaws.{numbers_length}
 use Rattle.listing.proofs.+check_arguments_check_tree.Goals as goal
+use Rattle.std.specs.Prelude.{Ok}
+use Rattle.std.proofs.lemmas.Result.{err_from_is_err_and}
 
 pub check_arguments-argument_count-requires : goal.check_arguments-argument_count-requires
 check_arguments-argument_count-requires t c =
@@ -55,25 +56,24 @@ check_arguments-check_arguments-requires t c =
     let start = c in
     let a = start.args in
     let few = start.requires.parser_tables.few_arguments a.q in
-    let ended : EndsBeyond (a.at + 1) (numbers_of a.listing.now) a.text.now (Complete c.in-Complete.next c.in-Complete.after) = rw c.in-Complete.is at c.check_tree.ensures.ends in
+    let ended : EndsBeyond (a.at + 1) (numbers_of a.listing.now) a.text.now (Ok c.in_ok-next.next) = rw c.in_ok-next.was at c.check_tree.ensures.ends in
     (omega (arith, start.decreases, c.argument_count.ensures, ended.0, ended.1), (start.requires.parser_tables, (start.requires.q_in_bounds.0, ended.1, ended.2)))
 
-pub check_arguments-returns-in-Fault : goal.check_arguments-returns-in-Fault
+pub check_arguments-returns-in_err-next : goal.check_arguments-returns-in_err-next
 unfolding slot
-check_arguments-returns-in-Fault t c =
-    let start = c in
-    let a = start.args in
-    walked_first_fault a.tables.now (numbers_of a.listing.now) a.text.now a.q a.d a.at a.place (omega (arith, c.argument_count.ensures)) c.in-Fault.index
-    (rw c.in-Fault.is at c.check_tree.ensures)
+check_arguments-returns-in_err-next t c =
+    let a = c.args in
+    let p = err_from_is_err_and c.from_residual.result c.from_residual.ensures.1 in
+    rw (p.1, p.2)
+    (walked_first_fault a.tables.now (numbers_of a.listing.now) a.text.now a.q a.d a.at a.place (omega (arith, c.argument_count.ensures)) c.in_err-next.field-0.0
+    (rw c.in_err-next.was at c.check_tree.ensures))
 
-pub check_arguments-returns-in-Complete : goal.check_arguments-returns-in-Complete
+pub check_arguments-returns : goal.check_arguments-returns
 unfolding slot
-check_arguments-returns-in-Complete t c =
-    let start = c in
-    let a = start.args in
-    let next = c.in-Complete in
-    walked_more a.tables.now (numbers_of a.listing.now) a.text.now a.q a.d a.at a.place (omega (arith, c.argument_count.ensures)) c.in-Complete.next c.in-Complete.after c.check_arguments.result
-    (rw c.in-Complete.is at c.check_tree.ensures)
+check_arguments-returns t c =
+    let a = c.args in
+    walked_more a.tables.now (numbers_of a.listing.now) a.text.now a.q a.d a.at a.place (omega (arith, c.argument_count.ensures)) c.in_ok-next.next.number c.in_ok-next.next.place c.check_arguments.result
+    (rw c.in_ok-next.was at c.check_tree.ensures)
     c.check_arguments.ensures
 
 pub check_tree-returns-then-listing-at : goal.check_tree-returns-then-listing-at

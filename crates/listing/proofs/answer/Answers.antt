@@ -11,26 +11,26 @@ pub returns-then-next-listing : goal.returns-then-next-listing
 unfolding after_part
 returns-then-next-listing c =
     let a = c.args in
-    let part = c.in-Complete in
+    let part = c.in-Ok in
     let e = numbers_length a.listing.now in
-    λ g. rw part.is (sym (numbers_left g (numbers_of a.listing.now) a.text.now part.next part.place (omega arith)))
+    λ g. rw part.is (sym (numbers_left g (numbers_of a.listing.now) a.text.now part.next.number part.next.place (omega arith)))
 
-pub returns-then-place-text : goal.returns-then-place-text
+pub returns-then-next-text : goal.returns-then-next-text
 unfolding after_part
-returns-then-place-text c =
+returns-then-next-text c =
     let a = c.args in
-    let part = c.in-Complete in
+    let part = c.in-Ok in
     let e = numbers_length a.listing.now in
-    λ g. rw part.is (sym (text_left g (numbers_of a.listing.now) a.text.now part.next part.place (omega arith) c.if-place-text.true))
+    λ g. rw part.is (sym (text_left g (numbers_of a.listing.now) a.text.now part.next.number part.next.place (omega arith) c.if-next-text.true))
 
-pub returns-in-Fault : goal.returns-in-Fault
+pub returns-in-Err : goal.returns-in-Err
 unfolding after_part
-returns-in-Fault c = λ g. rw c.in-Fault.is refl
+returns-in-Err c = λ g. rw c.in-Err.is refl
 
-pub returns-else-place-text : goal.returns-else-place-text
+pub returns-else-next-text : goal.returns-else-next-text
 unfolding after_part
-returns-else-place-text c =
+returns-else-next-text c =
     let a = c.args in
-    let part = c.in-Complete in
+    let part = c.in-Ok in
     let e = numbers_length a.listing.now in
-    λ g. rw part.is (sym (nothing_left g (numbers_of a.listing.now) a.text.now part.next part.place (omega arith) (omega arith)))
+    λ g. rw part.is (sym (nothing_left g (numbers_of a.listing.now) a.text.now part.next.number part.next.place (omega arith) (omega arith)))

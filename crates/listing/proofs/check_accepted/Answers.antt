@@ -6,16 +6,16 @@ use lib.ListN.{get_or}
 use Rattle.charset.specs.Set.{characters}
 use Rattle.listing.proofs.WalkLaws.{tables_judged}
 use Rattle.listing.proofs.check_accepted.Goals as goal
+use Rattle.std.specs.Prelude.{Ok}
+use Rattle.listing.specs.declared.Judgement.{Judgement}
+use mathlib.Core.Path.{ap}
 
-pub returns-in-Refused : goal.returns-in-Refused
-returns-in-Refused c = rw (← c.check_input-verdict.ensures, c.in-Refused.is) refl
-
-pub returns-in-Accepted : goal.returns-in-Accepted
-returns-in-Accepted c =
+pub returns : goal.returns
+returns c =
     let flat = c in
     let told = flat in
     let start = told in
     let a = start.args in
     let bytes : (k : ℕ) → get_or a.book.now k 0 < characters = λ k. omega (arith, told.type_inv.book k) in
-    rw (← told.check_input-verdict.ensures, told.in-Accepted.is)
-    (c.judge.ensures ∙ tables_judged a.book.now start.requires bytes flat.flatten.new.tables flat.flatten.ensures a.text.now a.listing.now)
+    rw (← told.check_input.ensures, told.in_ok-check_input.was)
+    (ap (λ (j : Judgement). Ok j) (c.judge.ensures ∙ tables_judged a.book.now start.requires bytes flat.flatten.new.tables flat.flatten.ensures a.text.now a.listing.now))
