@@ -5,15 +5,17 @@ use mathlib.Core.List.{List, [], ◌∷◌}
 use mathlib.Core.Path.{◌≡◌, refl, ap}
 use Rattle.compare.specs.Answer.{found_right, not_right, compare_lines, ComparedIf, Compared}
 use Rattle.compare.specs.Uses.{uses}
-use Rattle.compare.specs.declared.CompareAnswer.TheVariants.{Ordered, Refused}
 use Rattle.engine.specs.Refusals.{too_long}
 use Rattle.refusal.proofs.VerdictLaws.{and_first, and_assoc}
 use Rattle.refusal.specs.Verdict.{refuse_if, and_then, in_order}
-use Rattle.grammar.specs.declared.Verdict.TheVariants.{accepted, Refused as Rejected}
 use Rattle.listing.specs.Answer.{bad_listing, judged}
 use Rattle.order.specs.Order.{OrderIs}
 use Rattle.order.specs.declared.Order.{Order}
 use Rattle.priority.specs.Check.{checked}
+use Rattle.refusal.specs.Verdict.{accepted, refused}
+use Rattle.refusal.specs.declared.Fault.TheVariants.{WrongPair}
+use Rattle.refusal.specs.declared.Refusal.{Refusal}
+use Rattle.std.specs.Prelude.{Ok, Err}
 
 -- ---- the refusals
 
@@ -29,19 +31,19 @@ module _ (b w first second : List ℕ) where
 
   -- ---- the answer
 
-  pub compared_refused : (number place : ℕ) → in_order (compare_lines b w first second) ≡ Rejected number place → Compared b w first second (Refused number place)
+  pub compared_refused : (r : Refusal) → in_order (compare_lines b w first second) ≡ Err r → Compared b w first second (Err r)
   unfolding Compared ComparedIf
-  compared_refused number place e = rw e refl
+  compared_refused r e = rw e refl
 
-  pub compared_ordered : (o : Order) → in_order (compare_lines b w first second) ≡ accepted → OrderIs b (uses first) (uses second) o → Compared b w first second (Ordered o)
+  pub compared_ordered : (o : Order) → in_order (compare_lines b w first second) ≡ accepted → OrderIs b (uses first) (uses second) o → Compared b w first second (Ok o)
   unfolding Compared ComparedIf
   compared_ordered o e says = rw e (o, refl, says)
 
 module _ (b w l : List ℕ) (which : ℕ) where
   pub right_passes : found_right (judged b w l) ≡ true → not_right b w l which ≡ accepted
   unfolding not_right
-  right_passes e = ap (λ (t : Bool). refuse_if (not t) 29 which) e
+  right_passes e = ap (λ (t : Bool). refuse_if (not t) WrongPair which) e
 
-  pub wrong_stops : found_right (judged b w l) ≡ false → not_right b w l which ≡ Rejected 29 which
+  pub wrong_stops : found_right (judged b w l) ≡ false → not_right b w l which ≡ refused WrongPair which
   unfolding not_right
-  wrong_stops e = ap (λ (t : Bool). refuse_if (not t) 29 which) e
+  wrong_stops e = ap (λ (t : Bool). refuse_if (not t) WrongPair which) e

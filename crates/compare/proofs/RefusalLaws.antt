@@ -3,129 +3,126 @@ use Prim.Native.Nat.{ℕ}
 use mathlib.Core.Bool.{not}
 use mathlib.Core.List.{List}
 use mathlib.Core.Logic.{◌↔◌}
-use mathlib.Core.Path.{◌≡◌, refl, sym, ◌∙◌, ap, ap₂, subst₂}
+use mathlib.Core.Path.{◌≡◌, refl, sym, ◌∙◌, ap, ap₂, subst}
 use native.Mathlib.Omega.{arith}
 use Rattle.compare.specs.Answer.{found_right, not_right, compare_lines}
 use Rattle.compare.specs.Refusals.{Answered, ComparisonRefused, first, second, first_wrong, second_wrong}
 use Rattle.engine.specs.Refusals.{too_long}
-use Rattle.refusal.proofs.VerdictLaws.{same_number, same_place, refused_not_accepted, and_assoc}
+use Rattle.refusal.proofs.VerdictLaws.{refused_not_accepted, and_assoc}
 use Rattle.refusal.specs.Verdict.{refuse_if, and_then, in_order, unless_refused}
 use Rattle.refusal.specs.Verdict.{Verdict}
-use Rattle.grammar.specs.declared.Verdict.TheVariants.{accepted, Refused as Rejected}
-use Rattle.listing.proofs.RefusedLaws.{judged_answers}
 use Rattle.listing.specs.Answer.{bad_listing, judged, listing_answer}
-use Rattle.listing.specs.declared.ListingAnswer.{ListingAnswer}
-use Rattle.listing.specs.declared.ListingAnswer.TheVariants.{Right, Wrong, Refused}
 use Rattle.priority.specs.Check.{checked}
+use Rattle.listing.specs.Answer.{ListingAnswer}
+use Rattle.listing.specs.declared.Judgement.{Judgement}
+use Rattle.listing.specs.declared.Judgement.TheVariants.{Right, Wrong}
+use Rattle.refusal.proofs.VerdictLaws.{same_refusal}
+use Rattle.refusal.specs.Verdict.{accepted, refused}
+use Rattle.refusal.specs.declared.Fault.TheVariants.{WrongPair}
+use Rattle.refusal.specs.declared.Refusal.{Refusal}
+use Rattle.std.specs.Prelude.{Ok, Err, ⊤}
 
 -- ---- by what the two checks answer
 
 refusal_of : (a c : ListingAnswer) → Verdict
-refusal_of (Refused n k) c = Rejected n k
-refusal_of Right (Refused n k) = Rejected n k
-refusal_of Right (Wrong j) = Rejected 29 1
-refusal_of Right Right = accepted
-refusal_of (Wrong i) (Refused n k) = Rejected n k
-refusal_of (Wrong i) (Wrong j) = Rejected 29 0
-refusal_of (Wrong i) Right = Rejected 29 0
+refusal_of (Err r) c = Err r
+refusal_of (Ok Right) (Err r) = Err r
+refusal_of (Ok Right) (Ok (Wrong j)) = refused WrongPair 1
+refusal_of (Ok Right) (Ok Right) = accepted
+refusal_of (Ok (Wrong i)) (Err r) = Err r
+refusal_of (Ok (Wrong i)) (Ok (Wrong j)) = refused WrongPair 0
+refusal_of (Ok (Wrong i)) (Ok Right) = refused WrongPair 0
 
-right_answered : Answered Right
-right_answered n k e = let z : ◌≡◌ {A = ℕ} 0 1 = cc in omega arith
+answered : (j : Judgement) → Answered (Ok j)
+answered j r e = let z : ◌≡◌ {A = ℕ} 0 1 = cc in omega arith
 
-wrong_answered : (i : ℕ) → Answered (Wrong i)
-wrong_answered i n k e = let z : ◌≡◌ {A = ℕ} 0 1 = cc in omega arith
+same : {x y : Refusal} → ◌≡◌ {A = Verdict} (Err x) (Err y) → ◌≡◌ {A = ListingAnswer} (Err x) (Err y)
+same e = ap (λ (z : Refusal). Err z) (same_refusal {B = ⊤} e)
 
-module _ {n k : ℕ} where
-  -- the same refusal has the same number and place
-  moved : (P : ℕ → ℕ → Type 0) {m j : ℕ} → Rejected m j ≡ Rejected n k → P m j → P n k
-  moved P e h = subst₂ P (same_number e) (same_place e) h
-
-  refusal_holds : (a c : ListingAnswer) → refusal_of a c ≡ Rejected n k → ComparisonRefused a c n k
+module _ {r : Refusal} where
+  refusal_holds : (a c : ListingAnswer) → refusal_of a c ≡ Err r → ComparisonRefused a c r
   unfolding refusal_of
-  refusal_holds (Refused m j) c e = first (ap₂ Refused (same_number e) (same_place e))
-  refusal_holds Right (Refused m j) e = second right_answered (ap₂ Refused (same_number e) (same_place e))
-  refusal_holds Right (Wrong j) e = moved (ComparisonRefused Right (Wrong j)) e (second_wrong refl refl)
-  refusal_holds Right Right e = refused_not_accepted n k (sym e)
-  refusal_holds (Wrong i) (Refused m j) e = second (wrong_answered i) (ap₂ Refused (same_number e) (same_place e))
-  refusal_holds (Wrong i) (Wrong j) e = moved (ComparisonRefused (Wrong i) (Wrong j)) e (first_wrong refl (wrong_answered j))
-  refusal_holds (Wrong i) Right e = moved (ComparisonRefused (Wrong i) Right) e (first_wrong refl right_answered)
+  refusal_holds (Err x) c e = first (same e)
+  refusal_holds (Ok Right) (Err x) e = second (answered Right) (same e)
+  refusal_holds (Ok Right) (Ok (Wrong j)) e = subst (ComparisonRefused (Ok Right) (Ok (Wrong j))) (same_refusal {B = ⊤} e) (second_wrong refl refl)
+  refusal_holds (Ok Right) (Ok Right) e = refused_not_accepted r (sym e)
+  refusal_holds (Ok (Wrong i)) (Err x) e = second (answered (Wrong i)) (same e)
+  refusal_holds (Ok (Wrong i)) (Ok (Wrong j)) e = subst (ComparisonRefused (Ok (Wrong i)) (Ok (Wrong j))) (same_refusal {B = ⊤} e) (first_wrong refl (answered (Wrong j)))
+  refusal_holds (Ok (Wrong i)) (Ok Right) e = subst (ComparisonRefused (Ok (Wrong i)) (Ok Right)) (same_refusal {B = ⊤} e) (first_wrong refl (answered Right))
 
 -- a check that answered leaves the refusal to the other
-other_refused : (a : ListingAnswer) (n k : ℕ) → Answered a → refusal_of a (Refused n k) ≡ Rejected n k
+other_refused : (a : ListingAnswer) (r : Refusal) → Answered a → refusal_of a (Err r) ≡ Err r
 unfolding refusal_of
-other_refused Right n k h = refl
-other_refused (Wrong i) n k h = refl
-other_refused (Refused m j) n k h = absurd (h m j refl)
+other_refused (Ok Right) r h = refl
+other_refused (Ok (Wrong i)) r h = refl
+other_refused (Err x) r h = absurd (h x refl)
 
-first_wrong_lem : (i : ℕ) (c : ListingAnswer) → Answered c → refusal_of (Wrong i) c ≡ Rejected 29 0
+first_wrong_lem : (i : ℕ) (c : ListingAnswer) → Answered c → refusal_of (Ok (Wrong i)) c ≡ refused WrongPair 0
 unfolding refusal_of
-first_wrong_lem i Right h = refl
-first_wrong_lem i (Wrong j) h = refl
-first_wrong_lem i (Refused m j) h = absurd (h m j refl)
+first_wrong_lem i (Ok Right) h = refl
+first_wrong_lem i (Ok (Wrong j)) h = refl
+first_wrong_lem i (Err x) h = absurd (h x refl)
 
-holds_refusal : {n k : ℕ} (a c : ListingAnswer) → ComparisonRefused a c n k → refusal_of a c ≡ Rejected n k
+holds_refusal : {r : Refusal} (a c : ListingAnswer) → ComparisonRefused a c r → refusal_of a c ≡ Err r
 unfolding refusal_of
 holds_refusal a c (first e) = rw e refl
-holds_refusal a c (second h e) = rw e (other_refused a _ _ h)
+holds_refusal a c (second h e) = rw e (other_refused a _ h)
 holds_refusal a c (first_wrong {i} e h) = rw e (first_wrong_lem i c h)
 holds_refusal a c (second_wrong e f) = rw (e, f) refl
 
 -- ---- they are those of the table
 
 -- u what is refused before the listings are looked at, f and s what is refused of each, x and y what going through them found
-in_turn : (u f s : Verdict) (x y : ListingAnswer) → Answered x → Answered y
-    → and_then u (and_then f (and_then s (and_then (refuse_if (not (found_right x)) 29 0) (refuse_if (not (found_right y)) 29 1))))
-    ≡ refusal_of (unless_refused Refused (and_then u f) x) (unless_refused Refused (and_then u s) y)
+in_turn : (u f s : Verdict) (x y : Judgement)
+    → and_then u (and_then f (and_then s (and_then (refuse_if (not (found_right x)) WrongPair 0) (refuse_if (not (found_right y)) WrongPair 1))))
+    ≡ refusal_of (unless_refused (and_then u f) (Ok x)) (unless_refused (and_then u s) (Ok y))
 unfolding refusal_of found_right
-in_turn (Rejected n k) f s x y h g = refl
-in_turn accepted (Rejected n k) s x y h g = refl
-in_turn accepted accepted (Rejected n k) x y h g = sym (other_refused x n k h)
-in_turn accepted accepted accepted (Refused n k) y h g = absurd (h n k refl)
-in_turn accepted accepted accepted Right (Refused n k) h g = absurd (g n k refl)
-in_turn accepted accepted accepted Right (Wrong j) h g = refl
-in_turn accepted accepted accepted Right Right h g = refl
-in_turn accepted accepted accepted (Wrong i) (Refused n k) h g = absurd (g n k refl)
-in_turn accepted accepted accepted (Wrong i) (Wrong j) h g = refl
-in_turn accepted accepted accepted (Wrong i) Right h g = refl
+in_turn (Err r) f s x y = refl
+in_turn (Ok _) (Err r) s x y = refl
+in_turn (Ok _) (Ok _) (Err r) x y = sym (other_refused (Ok x) r (answered x))
+in_turn (Ok _) (Ok _) (Ok _) Right (Wrong j) = refl
+in_turn (Ok _) (Ok _) (Ok _) Right Right = refl
+in_turn (Ok _) (Ok _) (Ok _) (Wrong i) (Wrong j) = refl
+in_turn (Ok _) (Ok _) (Ok _) (Wrong i) Right = refl
 
 module _ (b w l m : List ℕ) where
   early : Verdict
   early = and_then (checked b) (too_long w)
 
-  answer_parts : (l : List ℕ) → unless_refused Refused (and_then early (bad_listing l)) (judged b w l) ≡ listing_answer b w l
+  answer_parts : (l : List ℕ) → unless_refused (and_then early (bad_listing l)) (Ok (judged b w l)) ≡ listing_answer b w l
   unfolding early listing_answer
-  answer_parts l = ap (λ (v : Verdict). unless_refused Refused v (judged b w l)) (sym (and_assoc (checked b) (too_long w) (bad_listing l)))
+  answer_parts l = ap (λ (v : Verdict). unless_refused v (Ok (judged b w l))) (sym (and_assoc (checked b) (too_long w) (bad_listing l)))
 
   lines_answers : in_order (compare_lines b w l m) ≡ refusal_of (listing_answer b w l) (listing_answer b w m)
   unfolding early not_right
   lines_answers =
       and_assoc (checked b) (too_long w) (and_then (bad_listing l) (and_then (bad_listing m) (and_then (not_right b w l 0) (not_right b w m 1))))
-      ∙ in_turn early (bad_listing l) (bad_listing m) (judged b w l) (judged b w m) (judged_answers b w l) (judged_answers b w m)
+      ∙ in_turn early (bad_listing l) (bad_listing m) (judged b w l) (judged b w m)
       ∙ ap₂ refusal_of (answer_parts l) (answer_parts m)
 
-  -- The refusal of the table with this number and place is given exactly under its condition.
-  pub refused_exactly : (n k : ℕ) → (in_order (compare_lines b w l m) ≡ Rejected n k) ↔ ComparisonRefused (listing_answer b w l) (listing_answer b w m) n k
-  refused_exactly n k = (
+  -- A refusal of the table is given exactly under its condition.
+  pub refused_exactly : (r : Refusal) → (in_order (compare_lines b w l m) ≡ Err r) ↔ ComparisonRefused (listing_answer b w l) (listing_answer b w m) r
+  refused_exactly r = (
     (λ e. refusal_holds (listing_answer b w l) (listing_answer b w m) (sym lines_answers ∙ e)),
     (λ h. lines_answers ∙ holds_refusal (listing_answer b w l) (listing_answer b w m) h),
   )
 
-  right_if : (a c : ListingAnswer) → refusal_of a c ≡ accepted → (a ≡ Right) × (c ≡ Right)
+  right_if : (a c : ListingAnswer) → refusal_of a c ≡ accepted → (a ≡ Ok Right) × (c ≡ Ok Right)
   unfolding refusal_of
-  right_if (Refused n k) c e = refused_not_accepted n k e
-  right_if Right (Refused n k) e = refused_not_accepted n k e
-  right_if Right (Wrong j) e = refused_not_accepted 29 1 e
-  right_if Right Right e = (refl, refl)
-  right_if (Wrong i) (Refused n k) e = refused_not_accepted n k e
-  right_if (Wrong i) (Wrong j) e = refused_not_accepted 29 0 e
-  right_if (Wrong i) Right e = refused_not_accepted 29 0 e
+  right_if (Err r) c e = refused_not_accepted r e
+  right_if (Ok Right) (Err r) e = refused_not_accepted r e
+  right_if (Ok Right) (Ok (Wrong j)) e = refused_not_accepted _ e
+  right_if (Ok Right) (Ok Right) e = (refl, refl)
+  right_if (Ok (Wrong i)) (Err r) e = refused_not_accepted r e
+  right_if (Ok (Wrong i)) (Ok (Wrong j)) e = refused_not_accepted _ e
+  right_if (Ok (Wrong i)) (Ok Right) e = refused_not_accepted _ e
 
-  both_right : (a c : ListingAnswer) → (refusal_of a c ≡ accepted) ↔ ((a ≡ Right) × (c ≡ Right))
+  both_right : (a c : ListingAnswer) → (refusal_of a c ≡ accepted) ↔ ((a ≡ Ok Right) × (c ≡ Ok Right))
   unfolding refusal_of
   both_right a c = ((λ e. right_if a c e), (λ (e, f). rw (e, f) refl))
 
   -- Nothing is refused exactly if both listings are right.
-  pub accepted_exactly : (in_order (compare_lines b w l m) ≡ accepted) ↔ ((listing_answer b w l ≡ Right) × (listing_answer b w m ≡ Right))
+  pub accepted_exactly : (in_order (compare_lines b w l m) ≡ accepted) ↔ ((listing_answer b w l ≡ Ok Right) × (listing_answer b w m ≡ Ok Right))
   accepted_exactly =
       let (if, only_if) = both_right (listing_answer b w l) (listing_answer b w m) in
       ((λ e. if (sym lines_answers ∙ e)), (λ h. lines_answers ∙ only_if h))

@@ -1,38 +1,41 @@
 -- The promise of the operation "which of two readings is lower" (02, [9]), stated once, for every grammar, text and pair of listings.
 use Rattle.std.specs.Prelude.{ℕ, Bool, false, true, not, List, [], ◌∷◌, ◌≡◌}
 use Rattle.compare.specs.Uses.{uses}
-use Rattle.compare.specs.declared.CompareAnswer.{CompareAnswer}
-use Rattle.compare.specs.declared.CompareAnswer.TheVariants.{Ordered, Refused}
 use Rattle.engine.specs.Refusals.{too_long}
 use Rattle.refusal.specs.Verdict.{refuse_if, in_order}
 use Rattle.refusal.specs.Verdict.{Verdict}
-use Rattle.grammar.specs.declared.Verdict.TheVariants.{accepted, Refused as Rejected}
 use Rattle.listing.specs.Answer.{bad_listing, judged}
-use Rattle.listing.specs.declared.ListingAnswer.{ListingAnswer}
-use Rattle.listing.specs.declared.ListingAnswer.TheVariants.{Right, Wrong, Refused as NotChecked}
 use Rattle.order.specs.Order.{Uses, OrderIs}
 use Rattle.order.specs.declared.Order.{Order}
 use Rattle.priority.specs.Check.{checked}
+use Rattle.listing.specs.declared.Judgement.{Judgement}
+use Rattle.listing.specs.declared.Judgement.TheVariants.{Right, Wrong}
+use Rattle.refusal.specs.declared.Fault.TheVariants.{WrongPair}
+use Rattle.refusal.specs.declared.Refusal.{Refusal}
+use Rattle.std.specs.Prelude.{Result, Ok, Err}
 
 -- going through a listing found it right
-unfoldable pub found_right : ListingAnswer → Bool
+unfoldable pub found_right : Judgement → Bool
 found_right Right = true
 found_right (Wrong index) = false
-found_right (NotChecked number place) = false
 
 -- 29: a listing that is not right; the place says which of the two, 0 the first, 1 the second
 unfoldable pub not_right : (b w l : List ℕ) (which : ℕ) → Verdict
-not_right b w l which = refuse_if (not (found_right (judged b w l))) 29 which
+not_right b w l which = refuse_if (not (found_right (judged b w l))) WrongPair which
 
 -- A refusal stands, in order: the grammar's, 10, 11 of the first listing, 11 of the second, 29 of the first, 29 of the second.
 abbrev pub compare_lines : (b w first second : List ℕ) → List Verdict
 compare_lines b w first second =
     checked b ∷ too_long w ∷ bad_listing first ∷ bad_listing second ∷ not_right b w first 0 ∷ not_right b w second 1 ∷ []
 
+-- What comparing answers: how the first stands to the second, or a refusal.
+abbrev pub CompareAnswer : Type 0
+CompareAnswer = Result Order Refusal
+
 -- What comparing gives: a refusal, or what the order says of the uses.
 unfoldable pub ComparedIf : Verdict → (b : List ℕ) (m n : Uses) → CompareAnswer → Type 0
-ComparedIf (Rejected number place) b m n r = r ≡ Refused number place
-ComparedIf accepted b m n r = (o : Order) × (r ≡ Ordered o) × OrderIs b m n o
+ComparedIf (Err x) b m n r = r ≡ Err x
+ComparedIf (Ok _) b m n r = (o : Order) × (r ≡ Ok o) × OrderIs b m n o
 
 -- r is the answer for the two parses of w by b that these listings list.
 unfoldable pub Compared : (b w first second : List ℕ) → CompareAnswer → Type 0

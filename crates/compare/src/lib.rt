@@ -11,72 +11,47 @@ ghost use Rattle.listing.specs.Parts.{judged_by};
 ghost use Rattle.order.specs.Order.{counted};
 ghost use Rattle.tables.specs.Layout.{ParserTables};
 
-use common::both;
 use flatten::flatten;
-use grammar::Verdict;
 use layout::limits::PRODUCTION_LIMIT;
-use listing::{ListingAnswer, check_bytes, check_input, judge};
+use listing::{Judgement, check_bytes, check_input, judge};
 use numbers::number_at;
 use order::{Order, compare_uses};
 use priority::check_grammar;
+use refusal::{Fault, Refusal};
 use tables::{FIRST_PRODUCTION, zero_tables};
 
-// What comparing two parses gives.
-#[derive(Clone, Copy)]
-pub enum CompareAnswer {
-    // How the first stands to the second.
-    Ordered(Order),
-    // The refusal's number and its place.
-    Refused(usize, usize),
-}
-
 // The operation "which of two readings is lower". All four areas are lent and stay.
-pub fn compare(book: &[u8], text: &[u8], first: &[u8], second: &[u8]) -> CompareAnswer
+pub fn compare(book: &[u8], text: &[u8], first: &[u8], second: &[u8]) -> Result<Order, Refusal>
     ensures { Compared book.now text.now first.now second.now result }
 {
-    let verdict = check_pair(book, text, first, second);
-    match verdict {
-        Verdict::Refused(number, place) => CompareAnswer::Refused(number, place),
-        Verdict::Accepted => {
-            let order = compare_uses(book, count_uses(first), count_uses(second));
-            CompareAnswer::Ordered(order)
-        }
-    }
+    check_pair(book, text, first, second)?;
+    Ok(compare_uses(book, count_uses(first), count_uses(second)))
 }
 
 // The refusals in order: the grammar's, 10, 11 of each listing, 29 of each.
-fn check_pair(book: &[u8], text: &[u8], first: &[u8], second: &[u8]) -> Verdict
+fn check_pair(book: &[u8], text: &[u8], first: &[u8], second: &[u8]) -> Result<(), Refusal>
     ensures { result ≡ in_order (compare_lines book.now text.now first.now second.now) }
 {
-    let grammar = check_grammar(book);
-    let Verdict::Accepted = grammar else {
-        return grammar;
-    };
-    let input = check_input(text, first);
-    let Verdict::Accepted = input else {
-        return input;
-    };
-    let other = check_bytes(second);
-    let Verdict::Accepted = other else {
-        return other;
-    };
+    check_grammar(book)?;
+    check_input(text, first)?;
+    check_bytes(second)?;
     check_right(book, text, first, second)
 }
 
 // 29: both are listings of parses of the text. The first is looked at first.
-fn check_right(book: &[u8], text: &[u8], first: &[u8], second: &[u8]) -> Verdict
+fn check_right(book: &[u8], text: &[u8], first: &[u8], second: &[u8]) -> Result<(), Refusal>
     requires { WellFormed book.now }
     ensures { result ≡ in_order (not_right book.now text.now first.now 0 ∷ not_right book.now text.now second.now 1 ∷ []) }
 {
     let mut tables = zero_tables();
     flatten(book, &mut tables);
     if !is_right(&tables, text, first) {
-        return Verdict::Refused(29, 0);
+        return Err(Fault::WrongPair.at(0));
     }
     if !is_right(&tables, text, second) {
-        return Verdict::Refused(29, 1);
+        return Err(Fault::WrongPair.at(1));
     }
-    Verdict::Accepted
+    Ok(())
 }
 
 // Whether a listing is right, by the tables of the grammar.
@@ -85,9 +60,8 @@ fn is_right(tables: &[u64], text: &[u8], listing: &[u8]) -> bool
     ensures { result ≡ found_right (judged_by tables.now text.now listing.now) }
 {
     match judge(tables, text, listing) {
-        ListingAnswer::Right => true,
-        ListingAnswer::Wrong(_) => false,
-        ListingAnswer::Refused(_, _) => false,
+        Judgement::Right => true,
+        Judgement::Wrong(_) => false,
     }
 }
 
@@ -96,16 +70,12 @@ fn count_uses(listing: &[u8]) -> [usize; PRODUCTION_LIMIT]
     ensures { (p : ℕ) → p < production_limit → counted result p ≡ uses listing.now p }
 {
     let mut counts = [0; PRODUCTION_LIMIT];
-    let mut k = 0;
-    while k < listing.len() / 2 {
+    for k in 0..listing.len() / 2 {
         let n = number_at(listing, k);
-        if both(
-            FIRST_PRODUCTION <= n,
-            n < FIRST_PRODUCTION + PRODUCTION_LIMIT,
-        ) {
+        let counted = (FIRST_PRODUCTION <= n) & (n < FIRST_PRODUCTION + PRODUCTION_LIMIT);
+        if counted {
             counts[n - FIRST_PRODUCTION] += 1;
         }
-        k += 1;
     }
     counts
 }

@@ -3,34 +3,30 @@ use mathlib.Core.Path.{refl, sym, ◌∙◌}
 use Rattle.compare.proofs.AnswerLaws.{lines_parts}
 use Rattle.priority.proofs.CheckLaws.{accepted_formed}
 use Rattle.compare.proofs.check_pair.Goals as goal
+use Rattle.std.proofs.lemmas.Result.{err_from_is_err_and}
 
-pub returns-in_default : goal.returns-in_default
-returns-in_default c =
-    let told = c.in_default.is in
-    told ∙ sym (lines_parts _ _ _ _ ∙ rw (sym c.check_grammar-grammar.ensures ∙ told) refl)
+pub returns-in_err-check_grammar : goal.returns-in_err-check_grammar
+returns-in_err-check_grammar c =
+    let p = err_from_is_err_and c.from_residual.result c.from_residual.ensures.1 in
+    rw (p.1, p.2) (sym (lines_parts _ _ _ _ ∙ rw (sym c.check_grammar.ensures ∙ c.in_err-check_grammar.was) refl))
 
-pub returns-in_default-input : goal.returns-in_default-input
-returns-in_default-input c =
-    let told = c.in_default-input.is in
-    let grammar = c in
-    told ∙ sym (lines_parts _ _ _ _ ∙ rw (sym grammar.check_grammar-grammar.ensures ∙ grammar.in-Accepted.is, sym c.check_input-input.ensures ∙ told) refl)
+pub returns-in_err-check_input : goal.returns-in_err-check_input
+returns-in_err-check_input c =
+    let residual = c.from_residual-in_err-check_input in
+    let p = err_from_is_err_and residual.result residual.ensures.1 in
+    rw (p.1, p.2) (sym (lines_parts _ _ _ _ ∙ rw (sym c.check_grammar.ensures ∙ c.in_ok-check_grammar.was, sym c.check_input.ensures ∙ c.in_err-check_input.was) refl))
 
-pub returns-in_default-other : goal.returns-in_default-other
-returns-in_default-other c =
-    let told = c.in_default-other.is in
-    let input = c in
-    let grammar = input in
-    told ∙ sym (lines_parts _ _ _ _ ∙ rw (sym grammar.check_grammar-grammar.ensures ∙ grammar.in-Accepted.is, sym input.check_input-input.ensures ∙ input.in-Accepted-input.is, sym c.check_bytes-other.ensures ∙ told) refl)
+pub returns-in_err-check_bytes : goal.returns-in_err-check_bytes
+returns-in_err-check_bytes c =
+    let residual = c.from_residual-in_err-check_bytes in
+    let p = err_from_is_err_and residual.result residual.ensures.1 in
+    rw (p.1, p.2)
+    (sym (lines_parts _ _ _ _ ∙ rw (sym c.check_grammar.ensures ∙ c.in_ok-check_grammar.was, sym c.check_input.ensures ∙ c.in_ok-check_input.was, sym c.check_bytes.ensures ∙ c.in_err-check_bytes.was) refl))
 
 pub check_right-requires : goal.check_right-requires
-check_right-requires c =
-    let grammar = c in
-    accepted_formed grammar.args.book.now (sym grammar.check_grammar-grammar.ensures ∙ grammar.in-Accepted.is)
+check_right-requires c = accepted_formed c.args.book.now (sym c.check_grammar.ensures ∙ c.in_ok-check_grammar.was)
 
 pub returns : goal.returns
 returns c =
-    let other = c in
-    let input = other in
-    let grammar = input in
     c.check_right.ensures
-    ∙ sym (lines_parts _ _ _ _ ∙ rw (sym grammar.check_grammar-grammar.ensures ∙ grammar.in-Accepted.is, sym input.check_input-input.ensures ∙ input.in-Accepted-input.is, sym other.check_bytes-other.ensures ∙ other.in-Accepted-other.is) refl)
+    ∙ sym (lines_parts _ _ _ _ ∙ rw (sym c.check_grammar.ensures ∙ c.in_ok-check_grammar.was, sym c.check_input.ensures ∙ c.in_ok-check_input.was, sym c.check_bytes.ensures ∙ c.in_ok-check_bytes.was) refl)

@@ -17,7 +17,7 @@ returns-then-not-is_right c =
     let bytes : (k : ℕ) → get_or a.book.now k 0 < characters = λ k. omega (arith, flat.type_inv.book k) in
     let judged-alike = tables_judged a.book.now start.requires bytes flat.flatten.new.tables flat.flatten.ensures a.text.now in
     let wrong = sym (ap found_right (judged-alike a.first.now)) ∙ sym c.is_right.ensures ∙ c.if-not-is_right.true in
-    rw (wrong_stops a.book.now a.text.now a.first.now 0 wrong) refl
+    rw (c.at.ensures, wrong_stops a.book.now a.text.now a.first.now 0 wrong) refl
 
 pub returns-then-not-is_right-2 : goal.returns-then-not-is_right-2
 returns-then-not-is_right-2 c =
@@ -29,7 +29,7 @@ returns-then-not-is_right-2 c =
     let judged-alike = tables_judged a.book.now start.requires bytes flat.flatten.new.tables flat.flatten.ensures a.text.now in
     let right = sym (ap found_right (judged-alike a.first.now)) ∙ sym test.is_right.ensures ∙ test.if-not-is_right.false in
     let wrong = sym (ap found_right (judged-alike a.second.now)) ∙ sym c.is_right-2.ensures ∙ c.if-not-is_right-2.true in
-    rw (right_passes a.book.now a.text.now a.first.now 0 right, wrong_stops a.book.now a.text.now a.second.now 1 wrong) refl
+    rw (c.at-then-not-is_right-2.ensures, right_passes a.book.now a.text.now a.first.now 0 right, wrong_stops a.book.now a.text.now a.second.now 1 wrong) refl
 
 pub returns : goal.returns
 returns c =

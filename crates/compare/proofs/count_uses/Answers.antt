@@ -21,7 +21,7 @@ use Rattle.order.specs.Order.{counted}
 use Rattle.theory.specs.Tree.{production_number}
 use Rattle.compare.proofs.count_uses.Invariants.{Counting}
 use Rattle.compare.proofs.count_uses.Goals as goal
-use Rattle.compare.proofs.count_uses.Goals.{then-both, else-both}
+use Rattle.compare.proofs.count_uses.Goals.{then-counted, else-counted}
 
 counting_none : (numbers : List ℕ) → Counting numbers 0 (replicate {A = ℕ} production_limit 0)
 unfolding Counting
@@ -59,33 +59,33 @@ module _ (numbers : List ℕ) (k : ℕ) (there : k < length numbers) (counts : L
   )
 
 -- the test of a turn: the number is a production's
-in_range : (n : ℕ) (v : Bool) → v ≡ (leb (production_number 0) n && ltb n (production_number production_limit)) → v ≡ true → (production_number 0 ≤ n) × (n < production_number production_limit)
-in_range n v e h =
+in_range : (n : ℕ) → (leb (production_number 0) n && ltb n (production_number production_limit)) ≡ true → (production_number 0 ≤ n) × (n < production_number production_limit)
+in_range n h =
     let low = leb (production_number 0) n in
     let high = ltb n (production_number production_limit) in
-    (leb-true (production_number 0) n (and_first_true low high (sym e ∙ h)), ltb-true n (production_number production_limit) (and_second_true low high (sym e ∙ h)))
+    (leb-true (production_number 0) n (and_first_true low high h), ltb-true n (production_number production_limit) (and_second_true low high h))
 
-out_of_range : (n : ℕ) (v : Bool) → v ≡ (leb (production_number 0) n && ltb n (production_number production_limit)) → v ≡ false
+out_of_range : (n : ℕ) → (leb (production_number 0) n && ltb n (production_number production_limit)) ≡ false
     → (p : ℕ) → p < production_limit → n ≡ production_number p → ⊥
-out_of_range n v e h p l f =
+out_of_range n h p l f =
     let low = leb (production_number 0) n in
     let high = ltb n (production_number production_limit) in
-    false≢true (sym h ∙ e ∙ and_both low high (le-leb (production_number 0) n (omega arith)) (lt-ltb n (production_number production_limit) (omega arith)))
+    false≢true (sym h ∙ and_both low high (le-leb (production_number 0) n (omega arith)) (lt-ltb n (production_number production_limit) (omega arith)))
 
 pub loop-k-init : goal.loop-k-init
-loop-k-init c = (omega arith, counting_none _)
+loop-k-init c = counting_none _
 
 pub number_at-n-requires : goal.number_at-n-requires
 number_at-n-requires c = omega (arith, numbers_length c.args.listing.now)
 
 pub overflow_sub-counts : goal.overflow_sub-counts
-overflow_sub-counts c = omega (arith, in_range c.number_at-n.result _ c.both.ensures c.if-both.true)
+overflow_sub-counts c = omega (arith, in_range c.number_at-n.result c.if-counted.true)
 
 pub offset_bounds-counts-n : goal.offset_bounds-counts-n
-offset_bounds-counts-n c = omega (arith, in_range c.number_at-n.result _ c.both.ensures c.if-both.true)
+offset_bounds-counts-n c = omega (arith, in_range c.number_at-n.result c.if-counted.true)
 
 pub bounds-counts-n : goal.bounds-counts-n
-bounds-counts-n c = omega (arith, in_range c.number_at-n.result _ c.both.ensures c.if-both.true)
+bounds-counts-n c = omega (arith, in_range c.number_at-n.result c.if-counted.true)
 
 pub overflow_add-counts : goal.overflow_add-counts
 unfolding Counting
@@ -93,11 +93,11 @@ overflow_add-counts c =
     let turn = c in
     let numbers = numbers_of turn.args.listing.now in
     let p = c.number_at-n.result - production_number 0 in
-    let there = in_range c.number_at-n.result _ c.both.ensures c.if-both.true in
-    omega (arith, turn.loop-k.invariant.1.1 p (omega arith), occurrences_few (production_number p) numbers, numbers_length turn.args.listing.now)
+    let there = in_range c.number_at-n.result c.if-counted.true in
+    omega (arith, turn.loop-k.invariant.1 p (omega arith), occurrences_few (production_number p) numbers, numbers_length turn.args.listing.now)
 
-pub bounds-counts-n-then-both : goal.bounds-counts-n-then-both
-bounds-counts-n-then-both c = omega (arith, in_range c.number_at-n.result _ c.both.ensures c.if-both.true)
+pub bounds-counts-n-then-counted : goal.bounds-counts-n-then-counted
+bounds-counts-n-then-counted c = omega (arith, in_range c.number_at-n.result c.if-counted.true)
 
 pub loop-k-preserved : goal.loop-k-preserved
 unfolding number
@@ -106,19 +106,17 @@ loop-k-preserved c =
     let l = turn.args.listing.now in
     let n = c.number_at-n.result in
     let there : turn.loop-k.k < length (numbers_of l) = omega (arith, numbers_length l) in
-    elim c.if-both.branch [
-      | then-both w ↦
-          let there-in = in_range n _ c.both.ensures w.if-both.true in
-          (omega arith, rw w.counts-is (counting_own (numbers_of l) turn.loop-k.k there turn.loop-k.counts turn.loop-k.invariant.1 (n - production_number 0) (omega arith) (omega (arith, c.number_at-n.ensures))))
-      | else-both w ↦ (
-        omega arith,
-        rw w.counts-is (counting_other (numbers_of l) turn.loop-k.k there turn.loop-k.counts turn.loop-k.invariant.1
-            (λ p h e. out_of_range n _ c.both.ensures w.if-both.false p h (c.number_at-n.ensures ∙ e))),
-      )
+    elim c.if-counted.branch [
+      | then-counted w ↦
+          let there-in = in_range n w.if-counted.true in
+          rw w.counts-is (counting_own (numbers_of l) turn.loop-k.k there turn.loop-k.counts turn.loop-k.invariant (n - production_number 0) (omega arith) (omega (arith, c.number_at-n.ensures)))
+      | else-counted w ↦
+          rw w.counts-is (counting_other (numbers_of l) turn.loop-k.k there turn.loop-k.counts turn.loop-k.invariant
+          (λ p h e. out_of_range n w.if-counted.false p h (c.number_at-n.ensures ∙ e)))
     ]
 
 pub returns : goal.returns
 unfolding Counting uses
 returns c p h =
     let l = c.args.listing.now in
-    omega (arith, c.loop-k.invariant.1.1 p h, occurrences_end (production_number p) (numbers_of l) c.loop-k.k (omega (arith, numbers_length l)))
+    omega (arith, c.loop-k.invariant.1 p h, occurrences_end (production_number p) (numbers_of l) c.loop-k.k (omega (arith, numbers_length l)))

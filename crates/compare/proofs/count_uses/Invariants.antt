@@ -16,7 +16,4 @@ Counting numbers k counts =
     (length counts ≡ production_limit) × ((p : ℕ) → p < production_limit → counted counts p + occurrences (production_number p) (drop k numbers) ≡ occurrences (production_number p) numbers)
 
 abbrev pub invariant-loop-k : goal.invariant-loop-k
-invariant-loop-k l = (l.k ≤ length l.listing / 2) × Counting (numbers_of l.listing) l.k l.counts
-
-abbrev pub decreases-loop-k : goal.decreases-loop-k
-decreases-loop-k l = length l.listing / 2 - l.k
+invariant-loop-k l = Counting (numbers_of l.listing) l.k l.counts

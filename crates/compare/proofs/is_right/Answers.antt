@@ -10,7 +10,3 @@ returns-in-Right c = sym (ap found_right (sym c.judge.ensures ∙ c.in-Right.is)
 pub returns-in-Wrong : goal.returns-in-Wrong
 unfolding found_right
 returns-in-Wrong c = sym (ap found_right (sym c.judge.ensures ∙ c.in-Wrong.is))
-
-pub returns-in-Refused : goal.returns-in-Refused
-unfolding found_right
-returns-in-Refused c = sym (ap found_right (sym c.judge.ensures ∙ c.in-Refused.is))
