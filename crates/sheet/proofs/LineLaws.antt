@@ -13,48 +13,53 @@ use Rattle.engine.proofs.UniqueLaws.{chart_unique}
 use Rattle.engine.specs.Outcome.{Parsing, Answered, UnlessRefused}
 use Rattle.engine.specs.Refusals.{too_long, chart_too_short, text_refusal}
 use Rattle.engine.specs.Roots.{parsing_by, TablesOutcome}
-use Rattle.engine.specs.declared.Answer.{Answer}
-use Rattle.engine.specs.declared.Answer.TheVariants.{None, One, Several, Refused}
 use Rattle.flatten.specs.Tables.{FlatTables}
 use Rattle.grammar.specs.Formed.{WellFormed}
 use Rattle.refusal.specs.Verdict.{in_order}
 use Rattle.refusal.specs.Verdict.{Verdict}
-use Rattle.grammar.specs.declared.Verdict.TheVariants.{accepted, Refused as Rejected}
 use Rattle.parse.proofs.CarryLaws.{same_needed, tables_same}
 use Rattle.parse.proofs.OutcomeLaws.{accepted_grammar}
 use Rattle.parse.specs.Outcome.{needed, reading_by, Outcome, AcceptedOutcome}
 use Rattle.priority.specs.Check.{checked}
-use Rattle.sheet.specs.Outcome.{refused_byte, byte_of, LineRead, LineBy, TablesLine}
+use Rattle.sheet.specs.Outcome.{fault_byte, refused_byte, byte_of, LineRead, LineBy, TablesLine}
 use Rattle.theory.proofs.CountLaws.{counts_bounds, counts_unique, counts_same}
 use Rattle.theory.specs.Counts.{Counts}
 use Rattle.theory.specs.Tree.{Tree}
+use Rattle.engine.specs.declared.Parses.TheVariants.{None, One, Several}
+use Rattle.refusal.specs.Verdict.{accepted}
+use Rattle.engine.specs.Outcome.{Answer}
+use Rattle.std.specs.Prelude.{Ok, Err}
+use Rattle.refusal.specs.declared.Refusal.{Refusal}
+use Rattle.refusal.specs.Fault.{number_of}
+use Rattle.refusal.proofs.VerdictLaws.{same_refusal}
+use Rattle.std.specs.Prelude.{⊤}
 
 -- ---- by the answer
 
 -- the byte of an answer counts the parses; 22 is one
 answered_counts : (P : Tree → Type 0) (l₀ : List ℕ) (r : Answer) (l : List ℕ) → Answered P l₀ r l → Counts P (byte_of r)
-unfolding Answered Counts byte_of
-answered_counts P l₀ None l a = a.0
-answered_counts P l₀ (One n) l a = (a.0, a.1)
-answered_counts P l₀ Several l a = a.0
-answered_counts P l₀ (Refused number place) l a = rw a.2 (a.0, a.1)
+unfolding Answered Counts byte_of fault_byte
+answered_counts P l₀ (Ok None) l a = a.0
+answered_counts P l₀ (Ok (One n)) l a = (a.0, a.1)
+answered_counts P l₀ (Ok Several) l a = a.0
+answered_counts P l₀ (Err x) l a = rw a.2 (a.0, a.1)
 
 -- 10 and 20 are all the refusals of a text
 module _ (w chart : List ℕ) (need : ℕ) where
-  text_number : (u v : Verdict) → u ≡ too_long w → v ≡ chart_too_short need chart → (n k : ℕ) → in_order (u ∷ v ∷ []) ≡ Rejected n k → n ≤ 20
-  text_number accepted v eu ev n k e = omega (arith, (chart_short need chart (sym ev ∙ e)).0)
-  text_number (Rejected m j) v eu ev n k e = let same : m ≡ n = cc in omega (arith, (text_long w (sym eu)).0)
+  text_number : (u v : Verdict) → u ≡ too_long w → v ≡ chart_too_short need chart → (x : Refusal) → in_order (u ∷ v ∷ []) ≡ Err x → number_of x.fault ≤ 20
+  text_number (Ok _) v eu ev x e = omega (arith, (chart_short need chart (sym ev ∙ e)).0)
+  text_number (Err y) v eu ev x e = omega (arith, ap (λ (z : Refusal). number_of z.fault) (same_refusal {B = ⊤} e), (text_long w (sym eu)).0)
 
   -- What parsing a line promises, with whatever buffer for the listing, is what becomes of the line.
   pub line_read : (p : Parsing) (l₀ : List ℕ) (r : Answer) (c l : List ℕ)
       → UnlessRefused (in_order (too_long w ∷ chart_too_short need chart ∷ [])) p chart l₀ r c l
       → LineRead (in_order (too_long w ∷ chart_too_short need chart ∷ [])) p chart (byte_of r) c
-  unfolding UnlessRefused LineRead byte_of
+  unfolding UnlessRefused LineRead byte_of fault_byte
   line_read p l₀ r c l = by_verdict (in_order (too_long w ∷ chart_too_short need chart ∷ [])) (text_number (too_long w) (chart_too_short need chart) refl refl)
     where
-      by_verdict : (v : Verdict) → ((n k : ℕ) → v ≡ Rejected n k → n ≤ 20) → UnlessRefused v p chart l₀ r c l → LineRead v p chart (byte_of r) c
-      by_verdict accepted small h = (answered_counts p.parse l₀ r l h.answer, h.chart)
-      by_verdict (Rejected n k) small h = (ap byte_of h.0 ∙ ap (λ t. cond t 1 refused_byte) (ne_eqb n 22 (λ e. omega (arith, small n k refl))), h.1)
+      by_verdict : (v : Verdict) → ((x : Refusal) → v ≡ Err x → number_of x.fault ≤ 20) → UnlessRefused v p chart l₀ r c l → LineRead v p chart (byte_of r) c
+      by_verdict (Ok _) small h = (answered_counts p.parse l₀ r l h.answer, h.chart)
+      by_verdict (Err x) small h = (ap byte_of h.0 ∙ ap (λ t. cond t 1 refused_byte) (ne_eqb (number_of x.fault) 22 (λ e. omega (arith, small x refl))), h.1)
 
 -- by a grammar, and by tables
 pub line_by : (b w c₀ l₀ : List ℕ) (r : Answer) (c l : List ℕ) → AcceptedOutcome b w c₀ l₀ r c l → LineBy b w c₀ (byte_of r) c
@@ -69,8 +74,8 @@ tables_line t w c₀ l₀ r c l h = line_read w c₀ _ (parsing_by t w) l₀ r c
 
 pub line_same : (p u : Parsing) → SameParsing p u → (v : Verdict) (c₀ : List ℕ) (n : ℕ) (c : List ℕ) → LineRead v p c₀ n c → LineRead v u c₀ n c
 unfolding LineRead
-line_same p u same accepted c₀ n c h = (counts_same p.parse u.parse n same.parse h.0, chart_same_lem p u same c₀ c h.1)
-line_same p u same (Rejected number place) c₀ n c h = h
+line_same p u same (Ok _) c₀ n c h = (counts_same p.parse u.parse n same.parse h.0, chart_same_lem p u same c₀ c h.1)
+line_same p u same (Err x) c₀ n c h = h
 
 -- what becomes of a line by the tables becomes of it by their grammar
 pub line_carried : (b : List ℕ) → WellFormed b → ((k : ℕ) → get_or b k 0 < characters) → (t : List ℕ) → FlatTables b t
@@ -84,8 +89,8 @@ line_carried b formed bytes t flat w text c₀ v c h =
 
 read_small : (v : Verdict) (p : Parsing) (c₀ : List ℕ) (n : ℕ) (c : List ℕ) → LineRead v p c₀ n c → n ≤ refused_byte
 unfolding LineRead
-read_small accepted p c₀ n c h = omega (arith, (counts_bounds p.parse n h.0).at_most_two)
-read_small (Rejected number place) p c₀ n c h = omega (arith, h.0)
+read_small (Ok _) p c₀ n c h = omega (arith, (counts_bounds p.parse n h.0).at_most_two)
+read_small (Err x) p c₀ n c h = omega (arith, h.0)
 
 pub line_small : (b w c₀ : List ℕ) (n : ℕ) (c : List ℕ) → LineBy b w c₀ n c → n ≤ refused_byte
 unfolding LineBy
@@ -95,8 +100,8 @@ line_small b w c₀ n c h = read_small _ (reading_by b w) c₀ n c h
 
 read_unique : (v : Verdict) (p : Parsing) (c₀ : List ℕ) (n m : ℕ) (c d : List ℕ) → LineRead v p c₀ n c → LineRead v p c₀ m d → (n ≡ m) × (c ≡ d)
 unfolding LineRead
-read_unique accepted p c₀ n m c d h k = (counts_unique p.parse n m h.0 k.0, chart_unique p c₀ c d h.1 k.1)
-read_unique (Rejected number place) p c₀ n m c d h k = (h.0 ∙ sym k.0, h.1 ∙ sym k.1)
+read_unique (Ok _) p c₀ n m c d h k = (counts_unique p.parse n m h.0 k.0, chart_unique p c₀ c d h.1 k.1)
+read_unique (Err x) p c₀ n m c d h k = (h.0 ∙ sym k.0, h.1 ∙ sym k.1)
 
 pub line_unique : (b w c₀ : List ℕ) (n m : ℕ) (c d : List ℕ) → LineBy b w c₀ n c → LineBy b w c₀ m d → (n ≡ m) × (c ≡ d)
 unfolding LineBy

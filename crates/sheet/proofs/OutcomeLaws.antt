@@ -7,56 +7,57 @@ use lib.Dec.{ltb}
 use lib.ListN.{length}
 use borrow.Author.Tests.{lt-ltb, le-ltb}
 use Rattle.refusal.specs.Verdict.{Verdict}
-use Rattle.grammar.specs.declared.Verdict.TheVariants.{accepted, Refused as Rejected}
 use Rattle.sheet.proofs.LineLaws.{line_unique}
 use Rattle.sheet.proofs.SummedLaws.{summed_unique}
 use Rattle.split.specs.Lines.{lines, line_at, next_start}
 use Rattle.sheet.specs.Outcome.{LineBy, Summed, SheetIf, SheetOutcome, StepFrom, StepIf, StepOutcome}
 use Rattle.sheet.specs.Refusals.{step_refusal, sheet_refusal}
-use Rattle.sheet.specs.declared.Step.{Step}
-use Rattle.sheet.specs.declared.Step.TheVariants.{End, Line, Refused}
-use Rattle.writing.specs.declared.WriteAnswer.{WriteAnswer}
-use Rattle.writing.specs.declared.WriteAnswer.TheVariants.{Written, Refused as NotWritten}
+use Rattle.refusal.specs.Verdict.{accepted}
+use Rattle.std.specs.Prelude.{Some, None}
+use Rattle.sheet.specs.Outcome.{Step}
+use Rattle.std.specs.Prelude.{Result}
+use Rattle.std.specs.Prelude.{Ok, Err}
+use Rattle.refusal.specs.declared.Refusal.{Refusal}
 
 -- ---- the sheet
 
 module _ (b s c₀ m₀ : List ℕ) where
-  pub sheet_refused : (n k : ℕ) → sheet_refusal b s m₀ ≡ Rejected n k → SheetOutcome b s c₀ m₀ (NotWritten n k) c₀ m₀
+  pub sheet_refused : (x : Refusal) → sheet_refusal b s m₀ ≡ Err x → SheetOutcome b s c₀ m₀ (Err x) c₀ m₀
   unfolding SheetOutcome SheetIf
-  sheet_refused n k e = rw e (refl, refl, refl)
+  sheet_refused x e = rw e (refl, refl, refl)
 
-  pub sheet_read : (count : ℕ) (c m : List ℕ) → sheet_refusal b s m₀ ≡ accepted → count ≡ length (lines s) → Summed (LineBy b) s c₀ m₀ c m → SheetOutcome b s c₀ m₀ (Written count) c m
+  pub sheet_read : (count : ℕ) (c m : List ℕ) → sheet_refusal b s m₀ ≡ accepted → count ≡ length (lines s) → Summed (LineBy b) s c₀ m₀ c m → SheetOutcome b s c₀ m₀ (Ok count) c m
   unfolding SheetOutcome SheetIf
-  sheet_read count c m e same h = rw e (ap Written same, h)
+  sheet_read count c m e same h = rw e (ap (λ (k : ℕ). Ok k) same, h)
 
-  if_unique : (v : Verdict) (r r' : WriteAnswer) (c c' m m' : List ℕ) → SheetIf v b s c₀ m₀ r c m → SheetIf v b s c₀ m₀ r' c' m' → (r ≡ r') × (c ≡ c') × (m ≡ m')
+  if_unique : (v : Verdict) (r r' : Result ℕ Refusal) (c c' m m' : List ℕ) → SheetIf v b s c₀ m₀ r c m → SheetIf v b s c₀ m₀ r' c' m' → (r ≡ r') × (c ≡ c') × (m ≡ m')
   unfolding SheetIf
-  if_unique accepted r r' c c' m m' h k =
+  if_unique (Ok _) r r' c c' m m' h k =
       let same = summed_unique (LineBy b) (line_unique b) s c₀ m₀ c c' m m' h.1 k.1 in
       (h.0 ∙ sym k.0, same.0, same.1)
-  if_unique (Rejected number place) r r' c c' m m' h k = (h.0 ∙ sym k.0, h.1 ∙ sym k.1, h.2 ∙ sym k.2)
+  if_unique (Err x) r r' c c' m m' h k = (h.0 ∙ sym k.0, h.1 ∙ sym k.1, h.2 ∙ sym k.2)
 
   -- For one input, two outcomes that meet the promise have the same answer and the same bytes.
-  pub sheet_unique : (r r' : WriteAnswer) (c c' m m' : List ℕ) → SheetOutcome b s c₀ m₀ r c m → SheetOutcome b s c₀ m₀ r' c' m' → (r ≡ r') × (c ≡ c') × (m ≡ m')
+  pub sheet_unique : (r r' : Result ℕ Refusal) (c c' m m' : List ℕ) → SheetOutcome b s c₀ m₀ r c m → SheetOutcome b s c₀ m₀ r' c' m' → (r ≡ r') × (c ≡ c') × (m ≡ m')
   unfolding SheetOutcome
   sheet_unique r r' c c' m m' h k = if_unique (sheet_refusal b s m₀) r r' c c' m m' h k
 
 -- ---- a step
 
 module _ (b s : List ℕ) (start : ℕ) (c₀ : List ℕ) where
-  pub step_refused : (n k : ℕ) → step_refusal b s ≡ Rejected n k → StepOutcome b s start c₀ (Refused n k) start c₀
+  pub step_refused : (x : Refusal) → step_refusal b s ≡ Err x → StepOutcome b s start c₀ (Err x) start c₀
   unfolding StepOutcome StepIf
-  step_refused n k e = rw e (refl, refl, refl)
+  step_refused x e = rw e (refl, refl, refl)
 
   pub step_taken : (r : Step) (next : ℕ) (c : List ℕ) → step_refusal b s ≡ accepted → StepFrom (ltb start (length s)) b s start c₀ r next c → StepOutcome b s start c₀ r next c
   unfolding StepOutcome StepIf
   step_taken r next c e h = rw e h
 
-  pub step_end : length s ≤ start → StepFrom (ltb start (length s)) b s start c₀ End start c₀
+  pub step_end : length s ≤ start → StepFrom (ltb start (length s)) b s start c₀ (Ok None) start c₀
   unfolding StepFrom
   step_end l = rw (le-ltb start (length s) l) (refl, refl, refl)
 
-  pub step_line : (v next : ℕ) (c : List ℕ) → start < length s → LineBy b (line_at s start) c₀ v c → next ≡ next_start s start → StepFrom (ltb start (length s)) b s start c₀ (Line v) next c
+  pub step_line : (v next : ℕ) (c : List ℕ) → start < length s → LineBy b (line_at s start) c₀ v c → next ≡ next_start s start → StepFrom (ltb start (length s)) b s start c₀ (Ok (Some v)) next c
   unfolding StepFrom
   step_line v next c l h e = rw (lt-ltb start (length s) l) (v, refl, h, e)
 
@@ -64,13 +65,13 @@ module _ (b s : List ℕ) (start : ℕ) (c₀ : List ℕ) where
   unfolding StepFrom
   from_unique true r r' next next' c c' h k =
       let same = line_unique b (line_at s start) c₀ h.0 k.0 c c' h.2 k.2 in
-      (h.1 ∙ ap Line same.0 ∙ sym k.1, h.3 ∙ sym k.3, same.1)
+      (h.1 ∙ ap (λ (v : ℕ). Ok (Some v)) same.0 ∙ sym k.1, h.3 ∙ sym k.3, same.1)
   from_unique false r r' next next' c c' h k = (h.0 ∙ sym k.0, h.1 ∙ sym k.1, h.2 ∙ sym k.2)
 
   step_if_unique : (v : Verdict) (r r' : Step) (next next' : ℕ) (c c' : List ℕ) → StepIf v b s start c₀ r next c → StepIf v b s start c₀ r' next' c' → (r ≡ r') × (next ≡ next') × (c ≡ c')
   unfolding StepIf
-  step_if_unique accepted r r' next next' c c' h k = from_unique (ltb start (length s)) r r' next next' c c' h k
-  step_if_unique (Rejected number place) r r' next next' c c' h k = (h.0 ∙ sym k.0, h.1 ∙ sym k.1, h.2 ∙ sym k.2)
+  step_if_unique (Ok _) r r' next next' c c' h k = from_unique (ltb start (length s)) r r' next next' c c' h k
+  step_if_unique (Err x) r r' next next' c c' h k = (h.0 ∙ sym k.0, h.1 ∙ sym k.1, h.2 ∙ sym k.2)
 
   -- For one input, two outcomes that meet the promise give the same, stand at the same place, and have the same chart.
   pub step_unique : (r r' : Step) (next next' : ℕ) (c c' : List ℕ) → StepOutcome b s start c₀ r next c → StepOutcome b s start c₀ r' next' c' → (r ≡ r') × (next ≡ next') × (c ≡ c')

@@ -16,11 +16,15 @@ use Rattle.priority.proofs.RefusalLaws.{checked_number}
 use Rattle.priority.specs.Check.{checked}
 use Rattle.split.specs.Lines.{lines}
 use Rattle.sheet.specs.Refusals.{sheet_limit, sheet_too_long, summary_too_short, step_refusal, sheet_refusal}
+use Rattle.refusal.specs.Verdict.{refused}
+use Rattle.refusal.specs.declared.Fault.TheVariants.{LongSheet, ShortSummary}
+use Rattle.refusal.specs.declared.Refusal.{Refusal}
+use Rattle.refusal.specs.Fault.{number_of}
 
 -- ---- 25
 
 module _ (s : List ℕ) where
-  long_sheet : sheet_limit < length s → sheet_too_long s ≡ Refused 25 (length s)
+  long_sheet : sheet_limit < length s → sheet_too_long s ≡ refused LongSheet (length s)
   unfolding sheet_too_long
   long_sheet h = rw (lt-ltb sheet_limit (length s) h) refl
 
@@ -28,20 +32,20 @@ module _ (s : List ℕ) where
   unfolding sheet_too_long
   short_sheet h = rw (le-ltb sheet_limit (length s) h) refl
 
-  sheet_long : {n k : ℕ} → sheet_too_long s ≡ Refused n k → (n ≡ 25) × (sheet_limit < length s) × (k ≡ length s)
+  sheet_long : {r : Refusal} → sheet_too_long s ≡ Err r → (number_of r.fault ≡ 25) × (sheet_limit < length s) × (r.place ≡ length s)
   unfolding sheet_too_long
   sheet_long e =
-      refuse_case (λ n k. (n ≡ 25) × (sheet_limit < length s) × (k ≡ length s)) (ltb sheet_limit (length s)) 25 (length s) e
+      refuse_case (λ x. (number_of x.fault ≡ 25) × (sheet_limit < length s) × (x.place ≡ length s)) (ltb sheet_limit (length s)) LongSheet (length s) e
       (λ t. (refl, ltb-true sheet_limit (length s) t, refl))
 
   sheet_short : sheet_too_long s ≡ accepted → length s ≤ sheet_limit
   unfolding sheet_too_long
-  sheet_short e = ltb-false sheet_limit (length s) (refuse_accepted _ 25 (length s) e)
+  sheet_short e = ltb-false sheet_limit (length s) (refuse_accepted _ LongSheet (length s) e)
 
 -- ---- 26
 
 module _ (s m : List ℕ) where
-  short_summary : length m < length (lines s) → summary_too_short s m ≡ Refused 26 (length (lines s))
+  short_summary : length m < length (lines s) → summary_too_short s m ≡ refused ShortSummary (length (lines s))
   unfolding summary_too_short
   short_summary h = rw (lt-ltb (length m) (length (lines s)) h) refl
 
@@ -49,25 +53,25 @@ module _ (s m : List ℕ) where
   unfolding summary_too_short
   long_summary h = rw (le-ltb (length m) (length (lines s)) h) refl
 
-  summary_short : {n k : ℕ} → summary_too_short s m ≡ Refused n k → (n ≡ 26) × (length m < length (lines s)) × (k ≡ length (lines s))
+  summary_short : {r : Refusal} → summary_too_short s m ≡ Err r → (number_of r.fault ≡ 26) × (length m < length (lines s)) × (r.place ≡ length (lines s))
   unfolding summary_too_short
   summary_short e =
-      refuse_case (λ n k. (n ≡ 26) × (length m < length (lines s)) × (k ≡ length (lines s))) (ltb (length m) (length (lines s))) 26 (length (lines s)) e
+      refuse_case (λ x. (number_of x.fault ≡ 26) × (length m < length (lines s)) × (x.place ≡ length (lines s))) (ltb (length m) (length (lines s))) ShortSummary (length (lines s)) e
       (λ t. (refl, ltb-true (length m) (length (lines s)) t, refl))
 
   summary_long : summary_too_short s m ≡ accepted → length (lines s) ≤ length m
   unfolding summary_too_short
-  summary_long e = ltb-false (length m) (length (lines s)) (refuse_accepted _ 26 (length (lines s)) e)
+  summary_long e = ltb-false (length m) (length (lines s)) (refuse_accepted _ ShortSummary (length (lines s)) e)
 
 -- ---- in order
 
 module _ (b s : List ℕ) where
   -- what refuses a step
-  pub step_grammar : {n k : ℕ} → checked b ≡ Refused n k → step_refusal b s ≡ Refused n k
+  pub step_grammar : {r : Refusal} → checked b ≡ Err r → step_refusal b s ≡ Err r
   unfolding step_refusal
   step_grammar e = rw e refl
 
-  pub step_long : checked b ≡ accepted → sheet_limit < length s → step_refusal b s ≡ Refused 25 (length s)
+  pub step_long : checked b ≡ accepted → sheet_limit < length s → step_refusal b s ≡ refused LongSheet (length s)
   unfolding step_refusal
   step_long e h = rw e (long_sheet s h)
 
@@ -85,10 +89,10 @@ module _ (b s : List ℕ) where
     unfolding sheet_refusal step_refusal
     step_first = and_assoc (checked b) (sheet_too_long s) (summary_too_short s m)
 
-    pub sheet_step : {n k : ℕ} → step_refusal b s ≡ Refused n k → sheet_refusal b s m ≡ Refused n k
+    pub sheet_step : {r : Refusal} → step_refusal b s ≡ Err r → sheet_refusal b s m ≡ Err r
     sheet_step e = step_first ∙ rw e refl
 
-    pub sheet_few : step_refusal b s ≡ accepted → length m < length (lines s) → sheet_refusal b s m ≡ Refused 26 (length (lines s))
+    pub sheet_few : step_refusal b s ≡ accepted → length m < length (lines s) → sheet_refusal b s m ≡ refused ShortSummary (length (lines s))
     sheet_few e h = step_first ∙ rw e (short_summary s m h)
 
     pub sheet_allowed : step_refusal b s ≡ accepted → length (lines s) ≤ length m → sheet_refusal b s m ≡ accepted
@@ -105,35 +109,35 @@ module _ (b s : List ℕ) where
   abbrev step_lines : List Verdict
   step_lines = checked b ∷ sheet_too_long s ∷ []
 
-  step_first_line : {n k : ℕ} → step_refusal b s ≡ Refused n k → FirstIn step_lines n k
+  step_first_line : {r : Refusal} → step_refusal b s ≡ Err r → FirstIn step_lines r
   unfolding step_refusal
   step_first_line e = order_first step_lines e
 
-  step_by_grammar : {n k : ℕ} → FirstIn step_lines n k → n ≤ 9 → checked b ≡ Refused n k
+  step_by_grammar : {r : Refusal} → FirstIn step_lines r → number_of r.fault ≤ 9 → checked b ≡ Err r
   step_by_grammar (here e) small = e
   step_by_grammar (there a (here e)) small = absurd (omega (arith, (sheet_long s e).0))
   step_by_grammar (there a (there _ e)) small = elim e [ ]
 
-  step_by_long : {n k : ℕ} → FirstIn step_lines n k → n ≡ 25 → (checked b ≡ accepted) × (sheet_limit < length s) × (k ≡ length s)
+  step_by_long : {r : Refusal} → FirstIn step_lines r → number_of r.fault ≡ 25 → (checked b ≡ accepted) × (sheet_limit < length s) × (r.place ≡ length s)
   step_by_long (here e) is = absurd (omega (arith, checked_number b e))
   step_by_long (there a (here e)) is = let h = sheet_long s e in (a, h.1, h.2)
   step_by_long (there a (there _ e)) is = elim e [ ]
 
-  step_by_number : {n k : ℕ} → FirstIn step_lines n k → (n ≤ 9) ⊎ (n ≡ 25)
+  step_by_number : {r : Refusal} → FirstIn step_lines r → (number_of r.fault ≤ 9) ⊎ (number_of r.fault ≡ 25)
   step_by_number (here e) = inl (checked_number b e)
   step_by_number (there a (here e)) = inr (sheet_long s e).0
   step_by_number (there a (there _ e)) = elim e [ ]
 
   -- 1 to 9: the grammar's.
-  pub refusal_grammar : (n k : ℕ) → n ≤ 9 → (step_refusal b s ≡ Refused n k) ↔ (checked b ≡ Refused n k)
-  refusal_grammar n k small = ((λ e. step_by_grammar (step_first_line e) small), (λ e. step_grammar b s e))
+  pub refusal_grammar : (r : Refusal) → number_of r.fault ≤ 9 → (step_refusal b s ≡ Err r) ↔ (checked b ≡ Err r)
+  refusal_grammar r small = ((λ e. step_by_grammar (step_first_line e) small), (λ e. step_grammar b s e))
 
   -- 25: the sheet is over its limit; the place is its length.
-  pub refusal_long : (k : ℕ) → (step_refusal b s ≡ Refused 25 k) ↔ ((checked b ≡ accepted) × (sheet_limit < length s) × (k ≡ length s))
-  refusal_long k = ((λ e. step_by_long (step_first_line e) refl), (λ (e, long, place). step_long b s e long ∙ ap (Refused 25) (sym place)))
+  pub refusal_long : (k : ℕ) → (step_refusal b s ≡ refused LongSheet k) ↔ ((checked b ≡ accepted) × (sheet_limit < length s) × (k ≡ length s))
+  refusal_long k = ((λ e. step_by_long (step_first_line e) refl), (λ (e, long, place). step_long b s e long ∙ ap (λ (n : ℕ). refused LongSheet n) (sym place)))
 
   -- There is no other number.
-  pub refusal_number : {n k : ℕ} → step_refusal b s ≡ Refused n k → (n ≤ 9) ⊎ (n ≡ 25)
+  pub refusal_number : {r : Refusal} → step_refusal b s ≡ Err r → (number_of r.fault ≤ 9) ⊎ (number_of r.fault ≡ 25)
   refusal_number e = step_by_number (step_first_line e)
 
   -- None of them.
@@ -143,20 +147,20 @@ module _ (b s : List ℕ) where
 
   -- Those of a sheet are the same, and 26: the summary is too short; the place is how many lines there are.
   module _ (m : List ℕ) where
-    sheet_cases : {n k : ℕ} → sheet_refusal b s m ≡ Refused n k → (step_refusal b s ≡ Refused n k) ⊎ ((step_refusal b s ≡ accepted) × (summary_too_short s m ≡ Refused n k))
+    sheet_cases : {r : Refusal} → sheet_refusal b s m ≡ Err r → (step_refusal b s ≡ Err r) ⊎ ((step_refusal b s ≡ accepted) × (summary_too_short s m ≡ Err r))
     sheet_cases e = and_refused (step_refusal b s) (summary_too_short s m) (sym (step_first b s m) ∙ e)
 
-    pub sheet_refusal_first : (n k : ℕ) → n ≤ 25 → (sheet_refusal b s m ≡ Refused n k) ↔ (step_refusal b s ≡ Refused n k)
-    sheet_refusal_first n k small = (
+    pub sheet_refusal_first : (r : Refusal) → number_of r.fault ≤ 25 → (sheet_refusal b s m ≡ Err r) ↔ (step_refusal b s ≡ Err r)
+    sheet_refusal_first r small = (
       (λ e. ⊎_elim (λ h. h) (λ (a, h). absurd (omega (arith, (summary_short s m h).0))) (sheet_cases e)),
       (λ e. sheet_step b s m e),
     )
 
-    pub sheet_refusal_few : (k : ℕ) → (sheet_refusal b s m ≡ Refused 26 k) ↔ ((step_refusal b s ≡ accepted) × (length m < length (lines s)) × (k ≡ length (lines s)))
+    pub sheet_refusal_few : (k : ℕ) → (sheet_refusal b s m ≡ refused ShortSummary k) ↔ ((step_refusal b s ≡ accepted) × (length m < length (lines s)) × (k ≡ length (lines s)))
     sheet_refusal_few k = (
       (λ e. ⊎_elim (λ h. absurd (⊎_elim (λ l. omega arith) (λ l. omega arith) (refusal_number h))) (λ (a, h). let few = summary_short s m h in (a, few.1, few.2)) (sheet_cases e)),
-      (λ (a, few, place). sheet_few b s m a few ∙ ap (Refused 26) (sym place)),
+      (λ (a, few, place). sheet_few b s m a few ∙ ap (λ (n : ℕ). refused ShortSummary n) (sym place)),
     )
 
-    pub sheet_refusal_number : {n k : ℕ} → sheet_refusal b s m ≡ Refused n k → (n ≤ 9) ⊎ ((n ≡ 25) ⊎ (n ≡ 26))
+    pub sheet_refusal_number : {r : Refusal} → sheet_refusal b s m ≡ Err r → (number_of r.fault ≤ 9) ⊎ ((number_of r.fault ≡ 25) ⊎ (number_of r.fault ≡ 26))
     sheet_refusal_number e = ⊎_elim (λ h. ⊎_elim (λ l. inl l) (λ l. inr (inl l)) (refusal_number h)) (λ (a, h). inr (inr (summary_short s m h).0)) (sheet_cases e)

@@ -9,7 +9,6 @@ use Rattle.engine.specs.Refusals.{too_long, chart_too_short}
 use Rattle.grammar.specs.Turned.{TurnedRound}
 use Rattle.refusal.specs.Verdict.{in_order}
 use Rattle.refusal.specs.Verdict.{Verdict}
-use Rattle.grammar.specs.declared.Verdict.TheVariants.{accepted, Refused as Rejected}
 use Rattle.parse.proofs.TurnedLaws.{turned_chart_bytes, turned_parsing}
 use Rattle.parse.specs.Outcome.{reading_by, too_short}
 use Rattle.priority.proofs.TurnedLaws.{turned_checked}
@@ -18,8 +17,12 @@ use Rattle.sheet.proofs.LineLaws.{line_same}
 use Rattle.split.specs.Lines.{lines, line_at}
 use Rattle.sheet.specs.Outcome.{LineRead, LineBy, Summed, SheetIf, SheetOutcome, StepFrom, StepIf, StepOutcome}
 use Rattle.sheet.specs.Refusals.{sheet_too_long, summary_too_short, step_refusal, sheet_refusal}
-use Rattle.sheet.specs.declared.Step.{Step}
-use Rattle.writing.specs.declared.WriteAnswer.{WriteAnswer}
+use Rattle.refusal.specs.Verdict.{accepted}
+use Rattle.sheet.specs.Outcome.{Step}
+use Rattle.std.specs.Prelude.{Result}
+use Rattle.std.specs.Prelude.{Err}
+use Rattle.refusal.specs.declared.Refusal.{Refusal}
+use Rattle.std.specs.Prelude.{Ok}
 
 module _ (b d : List ℕ) (t : TurnedRound b d) where
   turned_line : (w c₀ : List ℕ) (v : ℕ) (c : List ℕ) → LineBy d w c₀ v c → LineBy b w c₀ v c
@@ -33,16 +36,16 @@ module _ (b d : List ℕ) (t : TurnedRound b d) where
   turned_summed : (s c₀ m₀ c m : List ℕ) → Summed (LineBy d) s c₀ m₀ c m → Summed (LineBy b) s c₀ m₀ c m
   turned_summed s c₀ m₀ c m h = record { bytes = h.bytes; in_turn = turn_carried (LineBy d) (LineBy b) turned_line (lines s) c₀ h.bytes c h.in_turn; written = h.written }
 
-  turned_sheet_if : (v : Verdict) (s c₀ m₀ : List ℕ) (r : WriteAnswer) (c m : List ℕ) → SheetIf v d s c₀ m₀ r c m → SheetIf v b s c₀ m₀ r c m
+  turned_sheet_if : (v : Verdict) (s c₀ m₀ : List ℕ) (r : Result ℕ Refusal) (c m : List ℕ) → SheetIf v d s c₀ m₀ r c m → SheetIf v b s c₀ m₀ r c m
   unfolding SheetIf
-  turned_sheet_if accepted s c₀ m₀ r c m h = (h.0, turned_summed s c₀ m₀ c m h.1)
-  turned_sheet_if (Rejected number place) s c₀ m₀ r c m h = h
+  turned_sheet_if (Ok _) s c₀ m₀ r c m h = (h.0, turned_summed s c₀ m₀ c m h.1)
+  turned_sheet_if (Err x) s c₀ m₀ r c m h = h
 
   turned_sheet_refusal : (s m : List ℕ) → sheet_refusal d s m ≡ sheet_refusal b s m
   unfolding sheet_refusal
   turned_sheet_refusal s m = ap (λ (v : Verdict). in_order (v ∷ sheet_too_long s ∷ summary_too_short s m ∷ [])) (turned_checked b d t)
 
-  pub turned_sheet : (s c₀ m₀ : List ℕ) (r : WriteAnswer) (c m : List ℕ) → SheetOutcome d s c₀ m₀ r c m → SheetOutcome b s c₀ m₀ r c m
+  pub turned_sheet : (s c₀ m₀ : List ℕ) (r : Result ℕ Refusal) (c m : List ℕ) → SheetOutcome d s c₀ m₀ r c m → SheetOutcome b s c₀ m₀ r c m
   unfolding SheetOutcome
   turned_sheet s c₀ m₀ r c m h = turned_sheet_if (sheet_refusal b s m₀) s c₀ m₀ r c m (subst (λ (v : Verdict). SheetIf v d s c₀ m₀ r c m) (turned_sheet_refusal s m₀) h)
 
@@ -56,8 +59,8 @@ module _ (b d : List ℕ) (t : TurnedRound b d) where
 
     turned_step_if : (v : Verdict) → StepIf v d s start c₀ r next c → StepIf v b s start c₀ r next c
     unfolding StepIf
-    turned_step_if accepted h = turned_from (ltb start (length s)) h
-    turned_step_if (Rejected number place) h = h
+    turned_step_if (Ok _) h = turned_from (ltb start (length s)) h
+    turned_step_if (Err x) h = h
 
     turned_step_refusal : step_refusal d s ≡ step_refusal b s
     unfolding step_refusal

@@ -17,9 +17,10 @@ use Rattle.split.specs.Lines.{lines, line_at, next_start}
 use Rattle.sheet.specs.Outcome.{LineBy, InTurn, SheetOutcome, StepOutcome}
 use Rattle.sheet.specs.Refusals.{step_refusal}
 use Rattle.sheet.specs.Walk.{Steps, given}
-use Rattle.sheet.specs.declared.Step.{Step}
-use Rattle.sheet.specs.declared.Step.TheVariants.{End, Line}
-use Rattle.writing.specs.declared.WriteAnswer.TheVariants.{Written}
+use Rattle.std.specs.Prelude.{Some, None}
+use Rattle.sheet.specs.Outcome.{Step}
+use Rattle.std.specs.Prelude.{Ok}
+use Rattle.refusal.specs.declared.Refusal.{Refusal}
 
 module _ (b s : List ℕ) (allowed : step_refusal b s ≡ accepted) where
   -- What steps give, and what the chart holds then: that of as many lines, read in turn.
@@ -28,7 +29,7 @@ module _ (b s : List ℕ) (allowed : step_refusal b s ≡ accepted) where
     pub chart : InTurn (LineBy b) (take (length rs) ws) c₀ (take (length rs) bytes) c
 
   -- no line is left
-  gave_end : (start : ℕ) (c₀ : List ℕ) (r : Step) (then : ℕ) (c₁ : List ℕ) → StepOutcome b s start c₀ r then c₁ → length s ≤ start → (r ≡ End) × (then ≡ start) × (c₁ ≡ c₀)
+  gave_end : (start : ℕ) (c₀ : List ℕ) (r : Step) (then : ℕ) (c₁ : List ℕ) → StepOutcome b s start c₀ r then c₁ → length s ≤ start → (r ≡ Ok None) × (then ≡ start) × (c₁ ≡ c₀)
   gave_end start c₀ r then c₁ o past =
       let is = (step_end_exactly b s start c₀ r then c₁ o).1 (allowed, past) in
       let stays = step_stays b s start c₀ r then c₁ o (λ v e. let z : ◌≡◌ {A = ℕ} 0 1 = cc in omega arith) in
@@ -36,12 +37,12 @@ module _ (b s : List ℕ) (allowed : step_refusal b s ≡ accepted) where
 
   -- a line: its byte and its chart are those of reading it
   gave_line : (start : ℕ) (c₀ : List ℕ) (r : Step) (then : ℕ) (c₁ : List ℕ) → StepOutcome b s start c₀ r then c₁ → start < length s
-      → (v : ℕ) (c : List ℕ) → LineBy b (line_at s start) c₀ v c → (r ≡ Line v) × (then ≡ next_start s start) × (c₁ ≡ c)
+      → (v : ℕ) (c : List ℕ) → LineBy b (line_at s start) c₀ v c → (r ≡ Ok (Some v)) × (then ≡ next_start s start) × (c₁ ≡ c)
   gave_line start c₀ r then c₁ o l v c h =
       let (u, is) = step_line_comes b s start c₀ r then c₁ o allowed l in
       let (a, below, read, goes) = step_line_says b s start c₀ r then c₁ o u is in
       let same = line_unique b (line_at s start) c₀ u v c₁ c read h in
-      (is ∙ ap Line same.0, goes, same.1)
+      (is ∙ ap (λ (v : ℕ). Ok (Some v)) same.0, goes, same.1)
 
   gives : (rs : List Step) (start : ℕ) (c₀ bytes end : List ℕ) (next : ℕ) (c : List ℕ) (ws : List (List ℕ)) → lines (drop start s) ≡ ws
       → InTurn (LineBy b) ws c₀ bytes end → Steps b s start c₀ rs next c → Gave ws c₀ bytes rs c
@@ -77,11 +78,11 @@ module _ (b s : List ℕ) (allowed : step_refusal b s ≡ accepted) where
   walk_gives c₀ bytes end t rs next c u = gives rs 0 c₀ bytes end next c (lines s) refl t u
 
 -- A walker begun at 0 with the chart that a sheet was read with: the bytes of its summary, the charts of its lines, and in the end the sheet's.
-pub walk_summary : (b s c₀ m₀ : List ℕ) (n : ℕ) (c m : List ℕ) → SheetOutcome b s c₀ m₀ (Written n) c m → (rs : List Step) (next : ℕ) (d : List ℕ) → Steps b s 0 c₀ rs next d
+pub walk_summary : (b s c₀ m₀ : List ℕ) (n : ℕ) (c m : List ℕ) → SheetOutcome b s c₀ m₀ (Ok n) c m → (rs : List Step) (next : ℕ) (d : List ℕ) → Steps b s 0 c₀ rs next d
     → (rs ≡ given (length rs) (take n m)) × InTurn (LineBy b) (take (length rs) (lines s)) c₀ (take (length rs) (take n m)) d × (length (take n m) ≤ length rs → d ≡ c)
 walk_summary b s c₀ m₀ n c m o rs next d u =
-    let read = sheet_in_turn b s c₀ m₀ (Written n) c m o n refl in
-    let allowed = (sheet_room b s m₀ ((sheet_read_exactly b s c₀ m₀ (Written n) c m o n).0 refl).0).0 in
+    let read = sheet_in_turn b s c₀ m₀ (Ok n) c m o n refl in
+    let allowed = (sheet_room b s m₀ ((sheet_read_exactly b s c₀ m₀ (Ok n) c m o n).0 refl).0).0 in
     let gave = walk_gives b s allowed c₀ (take n m) c read rs next d u in (
       gave.steps,
       gave.chart,

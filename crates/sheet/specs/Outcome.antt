@@ -4,19 +4,22 @@ use Rattle.common.specs.Lists.{overwritten}
 use Rattle.engine.specs.Outcome.{Parsing, ChartAfter}
 use Rattle.engine.specs.Refusals.{too_long, text_refusal}
 use Rattle.engine.specs.Roots.{parsing_by}
-use Rattle.engine.specs.declared.Answer.{Answer}
-use Rattle.engine.specs.declared.Answer.TheVariants.{None, One, Several, Refused as NotRead}
 use Rattle.refusal.specs.Verdict.{in_order}
 use Rattle.refusal.specs.Verdict.{Verdict}
-use Rattle.grammar.specs.declared.Verdict.TheVariants.{accepted, Refused as Rejected}
 use Rattle.parse.specs.Outcome.{too_short, reading_by}
 use Rattle.split.specs.Lines.{lines, line_at, next_start}
 use Rattle.sheet.specs.Refusals.{step_refusal, sheet_refusal}
-use Rattle.sheet.specs.declared.Step.{Step}
-use Rattle.sheet.specs.declared.Step.TheVariants.{End, Line, Refused}
 use Rattle.theory.specs.Counts.{Counts}
-use Rattle.writing.specs.declared.WriteAnswer.{WriteAnswer}
-use Rattle.writing.specs.declared.WriteAnswer.TheVariants.{Written, Refused as NotWritten}
+use Rattle.engine.specs.declared.Parses.TheVariants.{None, One, Several}
+use Rattle.refusal.specs.Verdict.{accepted}
+use Rattle.std.specs.Prelude.{Some, None}
+use Rattle.engine.specs.Outcome.{Answer}
+use Rattle.std.specs.Prelude.{Result}
+use Rattle.std.specs.Prelude.{Ok, Err}
+use Rattle.refusal.specs.declared.Refusal.{Refusal}
+use Rattle.refusal.specs.Fault.{number_of}
+use Rattle.std.specs.Prelude.{Option}
+use Rattle.refusal.specs.declared.Fault.{Fault}
 
 -- ---- a line
 
@@ -24,18 +27,22 @@ use Rattle.writing.specs.declared.WriteAnswer.TheVariants.{Written, Refused as N
 abbrev pub refused_byte : ℕ
 refused_byte = 3
 
+-- By refusal 22 there is one parse, whose listing doesn't fit.
+unfoldable pub fault_byte : Fault → ℕ
+fault_byte fault = cond (eqb (number_of fault) 22) 1 refused_byte
+
 -- The summary byte of what reading a line answers: 0 none, 1 one, 2 several, 3 refused. One whose listing doesn't fit, refusal 22, is one.
 unfoldable pub byte_of : Answer → ℕ
-byte_of None = 0
-byte_of (One n) = 1
-byte_of Several = 2
-byte_of (NotRead number place) = cond (eqb number 22) 1 refused_byte
+byte_of (Ok None) = 0
+byte_of (Ok (One n)) = 1
+byte_of (Ok Several) = 2
+byte_of (Err x) = fault_byte x.fault
 
 -- A line is read. Refused, it has byte 3, and the chart, which held c₀, stays. Otherwise its byte v is how many parses it has, 2 for more, and the chart
 -- is what parsing it leaves.
 unfoldable pub LineRead : Verdict → Parsing → (c₀ : List ℕ) (v : ℕ) (c : List ℕ) → Type 0
-LineRead accepted p c₀ v c = Counts p.parse v × ChartAfter p c₀ c
-LineRead (Rejected number place) p c₀ v c = (v ≡ refused_byte) × (c ≡ c₀)
+LineRead (Ok _) p c₀ v c = Counts p.parse v × ChartAfter p c₀ c
+LineRead (Err x) p c₀ v c = (v ≡ refused_byte) × (c ≡ c₀)
 
 -- A line w is read by grammar b: 10 and 20 are the refusals that can fall on it.
 unfoldable pub LineBy : (b w c₀ : List ℕ) (v : ℕ) (c : List ℕ) → Type 0
@@ -63,24 +70,28 @@ pub record Summed (R : (w c₀ : List ℕ) (v : ℕ) (c : List ℕ) → Type 0) 
   pub written : m ≡ overwritten bytes m₀
 
 -- By a refusal nothing is changed. Otherwise the lines are read, and the answer is how many there are.
-unfoldable pub SheetIf : Verdict → (b s c₀ m₀ : List ℕ) → WriteAnswer → (c m : List ℕ) → Type 0
-SheetIf accepted b s c₀ m₀ r c m = (r ≡ Written (length (lines s))) × Summed (LineBy b) s c₀ m₀ c m
-SheetIf (Rejected number place) b s c₀ m₀ r c m = (r ≡ NotWritten number place) × (c ≡ c₀) × (m ≡ m₀)
+unfoldable pub SheetIf : Verdict → (b s c₀ m₀ : List ℕ) → Result ℕ Refusal → (c m : List ℕ) → Type 0
+SheetIf (Ok _) b s c₀ m₀ r c m = (r ≡ Ok (length (lines s))) × Summed (LineBy b) s c₀ m₀ c m
+SheetIf (Err x) b s c₀ m₀ r c m = (r ≡ Err x) × (c ≡ c₀) × (m ≡ m₀)
 
-unfoldable pub SheetOutcome : (b s c₀ m₀ : List ℕ) → WriteAnswer → (c m : List ℕ) → Type 0
+unfoldable pub SheetOutcome : (b s c₀ m₀ : List ℕ) → Result ℕ Refusal → (c m : List ℕ) → Type 0
 SheetOutcome b s c₀ m₀ r c m = SheetIf (sheet_refusal b s m₀) b s c₀ m₀ r c m
 
 -- ---- a step
 
+-- What a step gives: the summary byte of a line, nothing if no line is left, or a refusal.
+abbrev pub Step : Type 0
+Step = Result (Option ℕ) Refusal
+
 -- With a place of the sheet to start at, the line from there on is read, and the next start is that of the next line. Without one no line is left.
 unfoldable pub StepFrom : Bool → (b s : List ℕ) (start : ℕ) (c₀ : List ℕ) → Step → (next : ℕ) (c : List ℕ) → Type 0
-StepFrom true b s start c₀ r next c = (v : ℕ) × (r ≡ Line v) × LineBy b (line_at s start) c₀ v c × (next ≡ next_start s start)
-StepFrom false b s start c₀ r next c = (r ≡ End) × (next ≡ start) × (c ≡ c₀)
+StepFrom true b s start c₀ r next c = (v : ℕ) × (r ≡ Ok (Some v)) × LineBy b (line_at s start) c₀ v c × (next ≡ next_start s start)
+StepFrom false b s start c₀ r next c = (r ≡ Ok None) × (next ≡ start) × (c ≡ c₀)
 
 -- Refused, it stays where it is.
 unfoldable pub StepIf : Verdict → (b s : List ℕ) (start : ℕ) (c₀ : List ℕ) → Step → (next : ℕ) (c : List ℕ) → Type 0
-StepIf accepted b s start c₀ r next c = StepFrom (ltb start (length s)) b s start c₀ r next c
-StepIf (Rejected number place) b s start c₀ r next c = (r ≡ Refused number place) × (next ≡ start) × (c ≡ c₀)
+StepIf (Ok _) b s start c₀ r next c = StepFrom (ltb start (length s)) b s start c₀ r next c
+StepIf (Err x) b s start c₀ r next c = (r ≡ Err x) × (next ≡ start) × (c ≡ c₀)
 
 unfoldable pub StepOutcome : (b s : List ℕ) (start : ℕ) (c₀ : List ℕ) → Step → (next : ℕ) (c : List ℕ) → Type 0
 StepOutcome b s start c₀ r next c = StepIf (step_refusal b s) b s start c₀ r next c

@@ -1,8 +1,10 @@
 -- Steps down a sheet, one after the other (02, [4]).
 use Rattle.std.specs.Prelude.{ℕ, zero, suc, ◌≡◌, List, [], ◌∷◌}
 use Rattle.sheet.specs.Outcome.{StepOutcome}
-use Rattle.sheet.specs.declared.Step.{Step}
-use Rattle.sheet.specs.declared.Step.TheVariants.{End, Line}
+use Rattle.std.specs.Prelude.{Some, None}
+use Rattle.sheet.specs.Outcome.{Step}
+use Rattle.std.specs.Prelude.{Ok}
+use Rattle.refusal.specs.declared.Refusal.{Refusal}
 
 -- From a start and with a chart that holds c₀ steps are taken that give these in turn; the walker then stands at `next`, and the chart holds c.
 unfoldable pub Steps : (b s : List ℕ) (start : ℕ) (c₀ : List ℕ) → List Step → (next : ℕ) (c : List ℕ) → Type 0
@@ -12,5 +14,5 @@ Steps b s start c₀ (r ∷ rs) next c = (then : ℕ) × (c₁ : List ℕ) × St
 -- What k steps give of lines with these bytes: the bytes in turn, and then, however many steps are left, that no line is.
 unfoldable pub given : ℕ → List ℕ → List Step
 given zero bytes = []
-given (suc k) [] = End ∷ given k []
-given (suc k) (v ∷ bytes) = Line v ∷ given k bytes
+given (suc k) [] = (Ok None) ∷ given k []
+given (suc k) (v ∷ bytes) = (Ok (Some v)) ∷ given k bytes

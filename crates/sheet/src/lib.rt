@@ -1,23 +1,22 @@
 // A sheet: each line is read from its own part of it. The operations "a sheet", which writes a summary byte for each line, and "a step down a sheet".
 #![tactic(auto)]
 
-ghost use Rattle.std.specs.Prelude.{◌≡◌, ◌≤◌, ltb, length};
+ghost use Rattle.std.specs.Prelude.{◌≡◌, ◌≤◌, ltb, length, Ok};
 ghost use Rattle.grammar.specs.Formed.{WellFormed};
 ghost use Rattle.prepare.specs.Prepared.{Prepared};
 ghost use Rattle.tables.specs.Layout.{ParserTables};
 ghost use Rattle.split.specs.Lines.{lines};
 ghost use Rattle.sheet.specs.Refusals.{step_refusal, sheet_refusal};
-ghost use Rattle.sheet.specs.Outcome.{byte_of, TablesLine, Summed, LineBy, SheetOutcome, StepFrom, StepOutcome};
+ghost use Rattle.sheet.specs.Outcome.{byte_of, fault_byte, TablesLine, Summed, LineBy, SheetOutcome, StepFrom, StepOutcome};
 
-use engine::{Answer, parse_prepared};
+use engine::{Parses, parse_prepared};
 use flatten::flatten;
-use grammar::Verdict;
 use parse::parse_accepted;
 use prepare::{prepare, zero_prepared};
 use priority::check_grammar;
+use refusal::{Fault, Refusal};
 use split::{behind, count_lines, line_end};
 use tables::zero_tables;
-use writing::WriteAnswer;
 
 // Most bytes of a sheet.
 const SHEET_LIMIT: usize = 65535;
@@ -25,21 +24,10 @@ const SHEET_LIMIT: usize = 65535;
 // Bytes of a buffer that has room for no number: no listing is written.
 const NO_LISTING: usize = 1;
 
-// What a step down a sheet gives.
-#[derive(Clone, Copy)]
-pub enum Step {
-    // No line is left.
-    End,
-    // A line, by its summary byte.
-    Line(u8),
-    // The refusal's number and its place.
-    Refused(usize, usize),
-}
-
-// A step, and where the next line starts after it.
+// A step down a sheet: the summary byte of a line, nothing if no line is left, or a refusal; and where the next line starts after it.
 #[derive(Clone, Copy)]
 pub struct Stepped {
-    pub step: Step,
+    pub step: Result<Option<u8>, Refusal>,
     pub next: usize,
 }
 
@@ -53,54 +41,58 @@ pub struct Walker<'a> {
 // ---- refusals
 
 // The grammar's, and then 25: the sheet is over its limit.
-fn check_sheet(book: &[u8], sheet: &[u8]) -> Verdict
+fn check_sheet(book: &[u8], sheet: &[u8]) -> Result<(), Refusal>
     ensures { result ≡ step_refusal book.now sheet.now }
 {
-    let verdict = check_grammar(book);
-    match verdict {
-        Verdict::Refused(number, place) => Verdict::Refused(number, place),
-        Verdict::Accepted => {
-            if SHEET_LIMIT < sheet.len() {
-                return Verdict::Refused(25, sheet.len());
-            }
-            Verdict::Accepted
-        }
+    check_grammar(book)?;
+    if SHEET_LIMIT < sheet.len() {
+        return Err(Fault::LongSheet.at(sheet.len()));
     }
+    Ok(())
 }
 
 // These, and then 26: the summary is too short.
-fn check_summary(book: &[u8], sheet: &[u8], summary: &[u8]) -> Verdict
+fn check_summary(book: &[u8], sheet: &[u8], summary: &[u8]) -> Result<(), Refusal>
     ensures { result ≡ sheet_refusal book.now sheet.now summary.now }
 {
-    let verdict = check_sheet(book, sheet);
-    match verdict {
-        Verdict::Refused(number, place) => Verdict::Refused(number, place),
-        Verdict::Accepted => {
-            let needed = count_lines(sheet);
-            if summary.len() < needed {
-                return Verdict::Refused(26, needed);
-            }
-            Verdict::Accepted
-        }
+    check_sheet(book, sheet)?;
+    let needed = count_lines(sheet);
+    if summary.len() < needed {
+        return Err(Fault::ShortSummary.at(needed));
     }
+    Ok(())
 }
 
 // ---- a line
 
 // The summary byte of what reading a line answers. By 22 there is one reading, whose listing has no room.
-fn summary_byte(answer: Answer) -> u8
+fn summary_byte(answer: Result<Parses, Refusal>) -> u8
     ensures { result ≡ byte_of answer }
 {
     match answer {
-        Answer::None => 0,
-        Answer::One(_) => 1,
-        Answer::Several => 2,
-        Answer::Refused(number, _) => {
-            if number == 22 {
-                return 1;
-            }
-            3
-        }
+        Ok(parses) => parses_byte(parses),
+        Err(refusal) => refused_byte(refusal.fault),
+    }
+}
+
+// That of a line that is read.
+fn parses_byte(parses: Parses) -> u8
+    ensures { result ≡ byte_of (Ok parses) }
+{
+    match parses {
+        Parses::None => 0,
+        Parses::One(_) => 1,
+        Parses::Several => 2,
+    }
+}
+
+// That of a line that is refused.
+fn refused_byte(fault: Fault) -> u8
+    ensures { result ≡ fault_byte fault }
+{
+    match fault {
+        Fault::LongListing => 1,
+        _ => 3,
     }
 }
 
@@ -148,17 +140,17 @@ fn read_accepted(book: &[u8], sheet: &[u8], chart: &mut [u8], summary: &mut [u8]
 }
 
 // The operation "a sheet": a summary byte for each line, and how many lines there are.
-pub fn read_sheet(book: &[u8], sheet: &[u8], chart: &mut [u8], summary: &mut [u8]) -> WriteAnswer
+pub fn read_sheet(
+    book: &[u8],
+    sheet: &[u8],
+    chart: &mut [u8],
+    summary: &mut [u8],
+) -> Result<usize, Refusal>
     ensures { SheetOutcome book.now sheet.now chart.old summary.old result chart.new summary.new }
 {
-    let verdict = check_summary(book, sheet, summary);
-    match verdict {
-        Verdict::Refused(number, place) => WriteAnswer::Refused(number, place),
-        Verdict::Accepted => {
-            read_accepted(book, sheet, chart, summary);
-            WriteAnswer::Written(count_lines(sheet))
-        }
-    }
+    check_summary(book, sheet, summary)?;
+    read_accepted(book, sheet, chart, summary);
+    Ok(count_lines(sheet))
 }
 
 // ---- a step
@@ -167,15 +159,12 @@ pub fn read_sheet(book: &[u8], sheet: &[u8], chart: &mut [u8], summary: &mut [u8
 pub fn step_at(book: &[u8], sheet: &[u8], start: usize, chart: &mut [u8]) -> Stepped
     ensures { StepOutcome book.now sheet.now start chart.old result.step result.next chart.new }
 {
-    let verdict = check_sheet(book, sheet);
-    match verdict {
-        Verdict::Refused(number, place) => {
-            Stepped {
-                step: Step::Refused(number, place),
-                next: start,
-            }
-        }
-        Verdict::Accepted => step_accepted(book, sheet, start, chart),
+    match check_sheet(book, sheet) {
+        Err(refusal) => Stepped {
+            step: Err(refusal),
+            next: start,
+        },
+        Ok(()) => step_accepted(book, sheet, start, chart),
     }
 }
 
@@ -186,14 +175,14 @@ fn step_accepted(book: &[u8], sheet: &[u8], start: usize, chart: &mut [u8]) -> S
 {
     if sheet.len() <= start {
         return Stepped {
-            step: Step::End,
+            step: Ok(None),
             next: start,
         };
     }
     let end = line_end(sheet, start);
     let byte = read_alone(book, &sheet[start..end], chart);
     Stepped {
-        step: Step::Line(byte),
+        step: Ok(Some(byte)),
         next: behind(sheet, end),
     }
 }
@@ -222,7 +211,7 @@ pub fn next_line<'s, 'a, 'b, 'c>(
     walker: &'s mut Walker<'a>,
     book: &'b [u8],
     chart: &'c mut [u8],
-) -> Step
+) -> Result<Option<u8>, Refusal>
     ensures { (walker.new.sheet ≡ walker.old.sheet) × StepOutcome book.now walker.old.sheet.now walker.old.next chart.old result walker.new.next chart.new }
 {
     let stepped = step_at(book, walker.sheet, walker.next, chart);

@@ -2,12 +2,15 @@
 use mathlib.Core.Path.{sym, ◌∙◌}
 use Rattle.sheet.proofs.RefusalLaws.{step_grammar, step_long, step_allowed}
 use Rattle.sheet.proofs.check_sheet.Goals as goal
+use Rattle.std.proofs.lemmas.Result.{err_from_is_err_and}
 
 pub returns-then-sheet-gt-SHEET_LIMIT : goal.returns-then-sheet-gt-SHEET_LIMIT
-returns-then-sheet-gt-SHEET_LIMIT c = sym (step_long c.args.book.now c.args.sheet.now (sym c.check_grammar-verdict.ensures ∙ c.in-Accepted.is) c.if-sheet-gt-SHEET_LIMIT.true)
+returns-then-sheet-gt-SHEET_LIMIT c = rw c.at.ensures (sym (step_long c.args.book.now c.args.sheet.now (sym c.check_grammar.ensures ∙ c.in_ok-check_grammar.was) c.if-sheet-gt-SHEET_LIMIT.true))
 
-pub returns-in-Refused : goal.returns-in-Refused
-returns-in-Refused c = sym (step_grammar c.args.book.now c.args.sheet.now (sym c.check_grammar-verdict.ensures ∙ c.in-Refused.is))
+pub returns-in_err-check_grammar : goal.returns-in_err-check_grammar
+returns-in_err-check_grammar c =
+    let p = err_from_is_err_and c.from_residual.result c.from_residual.ensures.1 in
+    rw (p.1, p.2) (sym (step_grammar c.args.book.now c.args.sheet.now (sym c.check_grammar.ensures ∙ c.in_err-check_grammar.was)))
 
-pub returns-else-sheet-gt-SHEET_LIMIT : goal.returns-else-sheet-gt-SHEET_LIMIT
-returns-else-sheet-gt-SHEET_LIMIT c = sym (step_allowed c.args.book.now c.args.sheet.now (sym c.check_grammar-verdict.ensures ∙ c.in-Accepted.is) c.if-sheet-gt-SHEET_LIMIT.false)
+pub returns : goal.returns
+returns c = sym (step_allowed c.args.book.now c.args.sheet.now (sym c.check_grammar.ensures ∙ c.in_ok-check_grammar.was) c.if-sheet-gt-SHEET_LIMIT.false)
