@@ -6,72 +6,97 @@ use mathlib.Core.Path.{◌≡◌, refl, sym}
 use native.Mathlib.Omega.{arith}
 use Rattle.listing.proofs.RefusedLaws.{refused_small}
 use Rattle.listing.specs.Answer.{listing_answer}
-use Rattle.listing.specs.declared.ListingAnswer.{ListingAnswer}
-use Rattle.listing.specs.declared.ListingAnswer.TheVariants.{Right, Wrong, Refused as NotChecked}
 use Rattle.page.specs.Answer.{page_length, page_if, page_answer}
-use Rattle.writing.proofs.AnswerLaws.{refused_written, same_refused, written_exactly, refused_exactly}
-use Rattle.writing.specs.declared.WriteAnswer.TheVariants.{Written, Refused}
+use Rattle.writing.proofs.AnswerLaws.{refused_written, written_exactly, refused_exactly}
+use Rattle.listing.specs.declared.Judgement.TheVariants.{Right, Wrong}
+use Rattle.listing.specs.Answer.{ListingAnswer}
+use Rattle.std.specs.Prelude.{Ok, Err}
+use Rattle.refusal.specs.Verdict.{refused}
+use Rattle.refusal.specs.declared.Fault.TheVariants.{WrongListing, LongPage}
+use Rattle.refusal.specs.declared.Refusal.{Refusal}
+use Rattle.refusal.proofs.VerdictLaws.{same_refusal}
+use Rattle.refusal.specs.Fault.{number_of}
+use Rattle.refusal.specs.Verdict.{refusal}
+use Rattle.std.specs.Prelude.{Result}
+use mathlib.Core.Path.{ap}
 
 -- ---- by what checking the listing answers
 
+abbrev Answer : Type 0
+Answer = Result ℕ Refusal
+
+same : {x y : Refusal} → ◌≡◌ {A = Answer} (Err x) (Err y) → x ≡ y
+same = same_refusal {B = ℕ}
+
+-- a refusal of the check has one of its own numbers
+abbrev Small : ListingAnswer → Type 0
+Small a = (x : Refusal) → a ≡ Err x → number_of x.fault ≤ 11
+
 module _ (needed room : ℕ) where
-  written_if : (a : ListingAnswer) (n : ℕ) → page_if a needed room ≡ Written n → (a ≡ Right) × (n ≡ needed) × (n ≤ room)
+  written_if : (a : ListingAnswer) (n : ℕ) → page_if a needed room ≡ Ok n → (a ≡ Ok Right) × (n ≡ needed) × (n ≤ room)
   unfolding page_if
-  written_if Right n e = let h = (written_exactly 24 needed room n).0 e in (refl, h.0, h.1)
-  written_if (Wrong k) n e = absurd (refused_written n 23 k e)
-  written_if (NotChecked m k) n e = absurd (refused_written n m k e)
+  written_if (Ok Right) n e = let h = (written_exactly LongPage needed room n).0 e in (refl, h.0, h.1)
+  written_if (Ok (Wrong k)) n e = refused_written n (refusal WrongListing k) e
+  written_if (Err x) n e = refused_written n x e
 
-  too_long_if : (a : ListingAnswer) (k : ℕ) → ((m j : ℕ) → a ≡ NotChecked m j → m ≤ 11) → page_if a needed room ≡ Refused 24 k → (a ≡ Right) × (k ≡ needed) × (room < k)
+  too_long_if : (a : ListingAnswer) (k : ℕ) → Small a → page_if a needed room ≡ refused LongPage k → (a ≡ Ok Right) × (k ≡ needed) × (room < k)
   unfolding page_if
-  too_long_if Right k small e = let h = (refused_exactly 24 needed room 24 k).0 e in (refl, h.1, h.2)
-  too_long_if (Wrong j) k small e = absurd (omega (arith, (same_refused 23 j 24 k e).0))
-  too_long_if (NotChecked m j) k small e = absurd (omega (arith, (same_refused m j 24 k e).0, small m j refl))
+  too_long_if (Ok Right) k small e =
+      let h = (refused_exactly LongPage needed room (refusal LongPage k)).0 e in
+      let place = ap (λ (x : Refusal). x.place) h.0 in
+      (refl, place, omega (arith, h.1, place))
+  too_long_if (Ok (Wrong j)) k small e = absurd (omega (arith, ap (λ (x : Refusal). number_of x.fault) (same e)))
+  too_long_if (Err x) k small e = absurd (omega (arith, ap (λ (y : Refusal). number_of y.fault) (same e), small x refl))
 
-  wrong_if : (a : ListingAnswer) (k : ℕ) → ((m j : ℕ) → a ≡ NotChecked m j → m ≤ 11) → page_if a needed room ≡ Refused 23 k → a ≡ Wrong k
+  wrong_if : (a : ListingAnswer) (k : ℕ) → Small a → page_if a needed room ≡ refused WrongListing k → a ≡ Ok (Wrong k)
   unfolding page_if
-  wrong_if Right k small e = absurd (omega (arith, ((refused_exactly 24 needed room 23 k).0 e).0))
-  wrong_if (Wrong j) k small e = rw (same_refused 23 j 23 k e).1 refl
-  wrong_if (NotChecked m j) k small e = absurd (omega (arith, (same_refused m j 23 k e).0, small m j refl))
+  wrong_if (Ok Right) k small e =
+      let h = (refused_exactly LongPage needed room (refusal WrongListing k)).0 e in
+      absurd (omega (arith, ap (λ (x : Refusal). number_of x.fault) h.0))
+  wrong_if (Ok (Wrong j)) k small e = ap (λ (x : Refusal). Ok (Wrong x.place)) (same e)
+  wrong_if (Err x) k small e = absurd (omega (arith, ap (λ (y : Refusal). number_of y.fault) (same e), small x refl))
 
-  refused_if : (a : ListingAnswer) (n k : ℕ) → n ≤ 11 → page_if a needed room ≡ Refused n k → a ≡ NotChecked n k
+  refused_if : (a : ListingAnswer) (x : Refusal) → number_of x.fault ≤ 11 → page_if a needed room ≡ Err x → a ≡ Err x
   unfolding page_if
-  refused_if Right n k small e = absurd (omega (arith, ((refused_exactly 24 needed room n k).0 e).0))
-  refused_if (Wrong j) n k small e = absurd (omega (arith, (same_refused 23 j n k e).0))
-  refused_if (NotChecked m j) n k small e = let same = same_refused m j n k e in rw (same.0, same.1) refl
+  refused_if (Ok Right) x small e =
+      let h = (refused_exactly LongPage needed room x).0 e in
+      absurd (omega (arith, small, ap (λ (y : Refusal). number_of y.fault) h.0))
+  refused_if (Ok (Wrong j)) x small e = absurd (omega (arith, small, ap (λ (y : Refusal). number_of y.fault) (same e)))
+  refused_if (Err y) x small e = ap (λ (z : Refusal). Err z) (same e)
 
-  number_if : (a : ListingAnswer) (n k : ℕ) → ((m j : ℕ) → a ≡ NotChecked m j → m ≤ 11) → page_if a needed room ≡ Refused n k → (n ≤ 11) ⊎ ((n ≡ 23) ⊎ (n ≡ 24))
+  number_if : (a : ListingAnswer) (x : Refusal) → Small a → page_if a needed room ≡ Err x → (number_of x.fault ≤ 11) ⊎ ((number_of x.fault ≡ 23) ⊎ (number_of x.fault ≡ 24))
   unfolding page_if
-  number_if Right n k small e = inr (inr ((refused_exactly 24 needed room n k).0 e).0)
-  number_if (Wrong j) n k small e = inr (inl (sym (same_refused 23 j n k e).0))
-  number_if (NotChecked m j) n k small e = inl (omega (arith, (same_refused m j n k e).0, small m j refl))
+  number_if (Ok Right) x small e = inr (inr (ap (λ (y : Refusal). number_of y.fault) ((refused_exactly LongPage needed room x).0 e).0))
+  number_if (Ok (Wrong j)) x small e = inr (inl (sym (ap (λ (y : Refusal). number_of y.fault) (same e))))
+  number_if (Err y) x small e = inl (omega (arith, ap (λ (z : Refusal). number_of z.fault) (same e), small y refl))
 
 -- ---- the answer
 
 module _ (b w l : List ℕ) (room : ℕ) where
   -- Written exactly if the listing is right and its page fits.
-  pub page_fits : (n : ℕ) → (page_answer b w l room ≡ Written n) ↔ ((listing_answer b w l ≡ Right) × (n ≡ page_length l) × (n ≤ room))
+  pub page_fits : (n : ℕ) → (page_answer b w l room ≡ Ok n) ↔ ((listing_answer b w l ≡ Ok Right) × (n ≡ page_length l) × (n ≤ room))
   unfolding page_answer page_if
-  page_fits n = (written_if (page_length l) room (listing_answer b w l) n, (λ h. rw h.0 ((written_exactly 24 (page_length l) room n).1 (h.1, h.2))))
+  page_fits n = (written_if (page_length l) room (listing_answer b w l) n, (λ h. rw h.0 ((written_exactly LongPage (page_length l) room n).1 (h.1, h.2))))
 
   -- 24 exactly if it is right and its page doesn't fit; the place is how many bytes the page has.
-  pub page_too_long : (k : ℕ) → (page_answer b w l room ≡ Refused 24 k) ↔ ((listing_answer b w l ≡ Right) × (k ≡ page_length l) × (room < k))
+  pub page_too_long : (k : ℕ) → (page_answer b w l room ≡ refused LongPage k) ↔ ((listing_answer b w l ≡ Ok Right) × (k ≡ page_length l) × (room < k))
   unfolding page_answer page_if
   page_too_long k = (
     too_long_if (page_length l) room (listing_answer b w l) k (refused_small b w l),
-    (λ h. rw h.0 ((refused_exactly 24 (page_length l) room 24 k).1 (refl, h.1, h.2))),
+    (λ h. rw h.0 ((refused_exactly LongPage (page_length l) room (refusal LongPage k)).1 (ap (refusal LongPage) h.1, omega (arith, h.1, h.2)))),
   )
 
   -- 23 exactly if it is wrong; the place is the index.
-  pub page_wrong : (k : ℕ) → (page_answer b w l room ≡ Refused 23 k) ↔ (listing_answer b w l ≡ Wrong k)
+  pub page_wrong : (k : ℕ) → (page_answer b w l room ≡ refused WrongListing k) ↔ (listing_answer b w l ≡ Ok (Wrong k))
   unfolding page_answer page_if
   page_wrong k = (wrong_if (page_length l) room (listing_answer b w l) k (refused_small b w l), (λ h. rw h refl))
 
   -- 1 to 11 exactly as checking the listing is refused.
-  pub page_refused : (n k : ℕ) → n ≤ 11 → (page_answer b w l room ≡ Refused n k) ↔ (listing_answer b w l ≡ NotChecked n k)
+  pub page_refused : (x : Refusal) → number_of x.fault ≤ 11 → (page_answer b w l room ≡ Err x) ↔ (listing_answer b w l ≡ Err x)
   unfolding page_answer page_if
-  page_refused n k small = (refused_if (page_length l) room (listing_answer b w l) n k small, (λ h. rw h refl))
+  page_refused x small = (refused_if (page_length l) room (listing_answer b w l) x small, (λ h. rw h refl))
 
   -- No other number is given.
-  pub page_numbers : (n k : ℕ) → page_answer b w l room ≡ Refused n k → (n ≤ 11) ⊎ ((n ≡ 23) ⊎ (n ≡ 24))
+  pub page_numbers : (x : Refusal) → page_answer b w l room ≡ Err x → (number_of x.fault ≤ 11) ⊎ ((number_of x.fault ≡ 23) ⊎ (number_of x.fault ≡ 24))
   unfolding page_answer
-  page_numbers n k e = number_if (page_length l) room (listing_answer b w l) n k (refused_small b w l) e
+  page_numbers x e = number_if (page_length l) room (listing_answer b w l) x (refused_small b w l) e

@@ -8,8 +8,6 @@ use lib.Seq.{slice, drop_at, take-append-le}
 use Rattle.common.proofs.AllLaws.{all_of_at}
 use Rattle.common.specs.Lists.{All, overwritten}
 use Rattle.listing.specs.Answer.{listing_answer}
-use Rattle.listing.specs.declared.ListingAnswer.{ListingAnswer}
-use Rattle.listing.specs.declared.ListingAnswer.TheVariants.{Right, Wrong, Refused as NotChecked}
 use Rattle.numbers.specs.Numbers.{numbers_of}
 use Rattle.lines.proofs.ReadLaws.{row_read, page_line}
 use Rattle.page.proofs.RightLaws.{RightListing, rows_count, row_fits}
@@ -23,6 +21,10 @@ use Rattle.rows.proofs.UnderLaws.{row_stands}
 use Rattle.rows.specs.Rows.{no_row, rows}
 use Rattle.rows.specs.declared.Row.{Row}
 use Rattle.theory.specs.Tree.{Tree, yield, listing, Subtree}
+use Rattle.listing.specs.declared.Judgement.TheVariants.{Right, Wrong}
+use Rattle.listing.specs.Answer.{ListingAnswer}
+use Rattle.std.specs.Prelude.{Ok, Err}
+use Rattle.refusal.specs.declared.Refusal.{Refusal}
 
 module _ {b w l : List ℕ} (given : RightListing b w l) {t : Tree} (lent : Listed b w l t) where
   all_fit : All (RowFits w) (rows 0 0 t)
@@ -59,7 +61,7 @@ module _ {b w l : List ℕ} (given : RightListing b w l) {t : Tree} (lent : List
     row_is : under.row ≡ get_or (rows 0 0 t) index no_row
     unfolding RowIf
     row_is =
-        let (u, other, e) : RowIf Right b w l index under.row = rw given.right at under.under.is_row in
+        let (u, other, e) : RowIf (Ok Right) b w l index under.row = rw given.right at under.under.is_row in
         e ∙ ap (λ (v : Tree). get_or (rows 0 0 v) index no_row) (one_listed b given.bytes w l given.right u t other lent)
 
     pub part_spelled : index < length (numbers_of l) → (s : Tree) × Subtree s t × ((others : List ℕ) × (drop index (numbers_of l) ≡ listing s ++ others)) × (part ≡ yield s)
@@ -73,13 +75,13 @@ module _ {b w l : List ℕ} (given : RightListing b w l) {t : Tree} (lent : List
 
 -- Without such a number, or with a listing that is not right, the part is the empty one at the start.
 module _ (b w l : List ℕ) (index : ℕ) where
-  none_if : (a : ListingAnswer) (r : Row) → (a ≡ Right → length (numbers_of l) ≤ index) → RowIf a b w l index r → r ≡ no_row
+  none_if : (a : ListingAnswer) (r : Row) → (a ≡ Ok Right → length (numbers_of l) ≤ index) → RowIf a b w l index r → r ≡ no_row
   unfolding RowIf
-  none_if Right r absent h =
+  none_if (Ok Right) r absent h =
       let count = rows_length 0 0 h.0 ∙ ap (length {A = ℕ}) h.1.listed in
       h.2 ∙ get_or-eq_default (rows 0 0 h.0) no_row {n = index} (omega (arith, absent refl))
-  none_if (Wrong k) r absent h = h
-  none_if (NotChecked number place) r absent h = h
+  none_if (Ok (Wrong k)) r absent h = h
+  none_if (Err x) r absent h = h
 
-  pub row_none : (r : Row) → RowUnder b w l index r → (listing_answer b w l ≡ Right → length (numbers_of l) ≤ index) → r ≡ no_row
+  pub row_none : (r : Row) → RowUnder b w l index r → (listing_answer b w l ≡ Ok Right → length (numbers_of l) ≤ index) → r ≡ no_row
   row_none r under absent = none_if (listing_answer b w l) r absent under.is_row

@@ -8,8 +8,6 @@ use Rattle.charset.specs.Set.{characters}
 use Rattle.chart.specs.Layout.{text_limit}
 use Rattle.common.proofs.AllLaws.{all_of_at}
 use Rattle.listing.specs.Answer.{listing_answer}
-use Rattle.listing.specs.declared.ListingAnswer.{ListingAnswer}
-use Rattle.listing.specs.declared.ListingAnswer.TheVariants.{Right, Wrong, Refused as NotChecked}
 use Rattle.numbers.proofs.NumbersLaws.{numbers_length}
 use Rattle.numbers.specs.Numbers.{listing_limit, numbers_of}
 use Rattle.page.proofs.RightLaws.{RightListing, listed_whole, right_short, right_few, right_tree, rows_count, yield_count, row_fits}
@@ -27,25 +25,31 @@ use Rattle.theory.specs.Tree.{Tree}
 use Rattle.writing.proofs.AnswerLaws.{written_exactly, refused_exactly}
 use Rattle.writing.proofs.PutLaws.{put_same, put_start}
 use Rattle.writing.specs.Put.{Put}
-use Rattle.writing.specs.declared.WriteAnswer.TheVariants.{Written, Refused}
+use Rattle.listing.specs.declared.Judgement.TheVariants.{Right, Wrong}
+use Rattle.listing.specs.Answer.{ListingAnswer}
+use Rattle.std.specs.Prelude.{Ok, Err}
+use Rattle.refusal.specs.Verdict.{refused}
+use Rattle.refusal.specs.declared.Fault.TheVariants.{WrongListing, LongPage}
+use Rattle.refusal.specs.declared.Refusal.{Refusal}
+use Rattle.refusal.specs.Verdict.{refusal}
 
 -- ---- a listing that is not right
 
 module _ (b w l page : List ℕ) where
-  pub page_not_checked : (number place : ℕ) → listing_answer b w l ≡ NotChecked number place → PageOutcome b w l page (Refused number place) page
+  pub page_not_checked : (r : Refusal) → listing_answer b w l ≡ Err r → PageOutcome b w l page (Err r) page
   unfolding page_answer page_if PageAfter
-  page_not_checked number place e = record { answer = rw e refl; after = refl }
+  page_not_checked r e = record { answer = rw e refl; after = refl }
 
-  pub page_wrong : (index : ℕ) → listing_answer b w l ≡ Wrong index → PageOutcome b w l page (Refused 23 index) page
+  pub page_wrong : (index : ℕ) → listing_answer b w l ≡ Ok (Wrong index) → PageOutcome b w l page (refused WrongListing index) page
   unfolding page_answer page_if PageAfter
   page_wrong index e = record { answer = rw e refl; after = refl }
 
 module _ (b w l : List ℕ) (index : ℕ) where
-  pub row_not_checked : (number place : ℕ) → listing_answer b w l ≡ NotChecked number place → RowUnder b w l index no_row
+  pub row_not_checked : (r : Refusal) → listing_answer b w l ≡ Err r → RowUnder b w l index no_row
   unfolding RowIf
-  row_not_checked number place e = record { is_row = rw e refl; ordered = omega arith; within = omega arith }
+  row_not_checked r e = record { is_row = rw e refl; ordered = omega arith; within = omega arith }
 
-  pub row_wrong : (k : ℕ) → listing_answer b w l ≡ Wrong k → RowUnder b w l index no_row
+  pub row_wrong : (k : ℕ) → listing_answer b w l ≡ Ok (Wrong k) → RowUnder b w l index no_row
   unfolding RowIf
   row_wrong k e = record { is_row = rw e refl; ordered = omega arith; within = omega arith }
 
@@ -57,11 +61,11 @@ module _ {b w l : List ℕ} (given : RightListing b w l) where
   unfolding page_length
   needed_is = ap (λ (n : ℕ). line_length * n) (sym (numbers_length l))
 
-  pub page_too_long : (page : List ℕ) → length page < line_length * (length l / 2) → PageOutcome b w l page (Refused 24 (line_length * (length l / 2))) page
+  pub page_too_long : (page : List ℕ) → length page < line_length * (length l / 2) → PageOutcome b w l page (refused LongPage (line_length * (length l / 2))) page
   unfolding page_answer page_if PageAfter
   page_too_long page h =
-      let long = refused_exactly 24 (page_length l) (length page) 24 (line_length * (length l / 2)) in
-      record { answer = rw given.right (sym (long.1 (refl, needed_is, h))); after = refl }
+      let long = refused_exactly LongPage (page_length l) (length page) (refusal LongPage (line_length * (length l / 2))) in
+      record { answer = rw given.right (sym (long.1 (ap (refusal LongPage) needed_is, omega (arith, needed_is, h)))); after = refl }
 
   -- the listing has no such number
   pub row_beyond : (index : ℕ) → length l / 2 ≤ index → RowUnder b w l index no_row
@@ -97,11 +101,11 @@ module _ {b w l : List ℕ} (given : RightListing b w l) where
         (record { is_row = rw given.right (t, lent, refl); ordered = within.3; within = omega (arith, within.4, yield_count given lent) })
 
     pub page_written : (page₀ page : List ℕ) (n : ℕ) → line_length * (length l / 2) ≤ length page₀ → Put (page_text w (table_rows (numbers_of l) table)) page₀ 0 page n
-        → PageOutcome b w l page₀ (Written (line_length * (length l / 2))) page
+        → PageOutcome b w l page₀ (Ok (line_length * (length l / 2))) page
     unfolding page_answer page_if PageAfter
     page_written page₀ page n h put =
         let (t, lent) = right_tree given in
-        let fits = written_exactly 24 (page_length l) (length page₀) (line_length * (length l / 2)) in
+        let fits = written_exactly LongPage (page_length l) (length page₀) (line_length * (length l / 2)) in
         let all : table_rows (numbers_of l) table ≡ rows 0 0 t =
         ap (λ (v : List ℕ). table_rows v table) (sym lent.listed)
         ∙ rows_said t table₀ table (placed t (listed_whole given lent)).wrote
@@ -118,9 +122,9 @@ module _ {b w l : List ℕ} (given : RightListing b w l) where
 short_if : (b w l : List ℕ) → ((k : ℕ) → get_or b k 0 < characters) → (index : ℕ) (r : Row) → r.end ≤ length w → (a : ListingAnswer) → listing_answer b w l ≡ a → RowIf a b w l index r
     → r.end ≤ text_limit
 unfolding RowIf
-short_if b w l bytes index r within Right e h = omega (arith, right_short (record { bytes = bytes; right = e }))
-short_if b w l bytes index r within (Wrong k) e h = omega (arith, ap (λ (q : Row). q.end) h)
-short_if b w l bytes index r within (NotChecked number place) e h = omega (arith, ap (λ (q : Row). q.end) h)
+short_if b w l bytes index r within (Ok Right) e h = omega (arith, right_short (record { bytes = bytes; right = e }))
+short_if b w l bytes index r within (Ok (Wrong k)) e h = omega (arith, ap (λ (q : Row). q.end) h)
+short_if b w l bytes index r within (Err x) e h = omega (arith, ap (λ (q : Row). q.end) h)
 
 -- a row under a number ends within the limit of texts
 pub under_short : (b w l : List ℕ) → ((k : ℕ) → get_or b k 0 < characters) → (index : ℕ) (r : Row) → RowUnder b w l index r → r.end ≤ text_limit

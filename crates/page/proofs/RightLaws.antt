@@ -12,7 +12,6 @@ use Rattle.layout.proofs.FramedLaws.{bodies_in}
 use Rattle.layout.specs.Layout.{start_sort}
 use Rattle.listing.proofs.RefusedLaws.{right_exactly}
 use Rattle.listing.specs.Answer.{listing_answer}
-use Rattle.listing.specs.declared.ListingAnswer.TheVariants.{Right}
 use Rattle.numbers.proofs.NumbersLaws.{numbers_length}
 use Rattle.numbers.specs.Numbers.{listing_limit, numbers_of}
 use Rattle.page.specs.Answer.{Listed}
@@ -23,11 +22,14 @@ use Rattle.rows.proofs.RowsLaws.{row_number, rows_length, row_within}
 use Rattle.rows.specs.Rows.{no_row, rows}
 use Rattle.rows.specs.Walk.{ListedAt, WalkFrom}
 use Rattle.theory.specs.Tree.{Tree, yield, listing}
+use Rattle.listing.specs.declared.Judgement.TheVariants.{Right, Wrong}
+use Rattle.std.specs.Prelude.{Ok}
+use Rattle.refusal.specs.declared.Refusal.{Refusal}
 
 -- The listing l of the text w is right by grammar b, which has bytes.
 pub record RightListing (b w l : List ℕ) : Type 0 where
   pub bytes : (k : ℕ) → get_or b k 0 < characters
-  pub right : listing_answer b w l ≡ Right
+  pub right : listing_answer b w l ≡ Ok Right
 
 module _ {b w l : List ℕ} (given : RightListing b w l) where
   pub right_formed : WellFormed b

@@ -4,8 +4,6 @@ use Rattle.std.proofs.Math.Seq.{slice}
 use Rattle.common.specs.Lists.{overwritten}
 use Rattle.flatten.specs.Reading.{Reading}
 use Rattle.listing.specs.Answer.{listing_answer}
-use Rattle.listing.specs.declared.ListingAnswer.{ListingAnswer}
-use Rattle.listing.specs.declared.ListingAnswer.TheVariants.{Right, Wrong, Refused as NotChecked}
 use Rattle.numbers.specs.Numbers.{numbers_of}
 use Rattle.lines.specs.Text.{line_length, page_text}
 use Rattle.rows.specs.Rows.{no_row, rows}
@@ -13,8 +11,13 @@ use Rattle.rows.specs.Table.{places}
 use Rattle.rows.specs.declared.Row.{Row}
 use Rattle.theory.specs.Tree.{Tree, listing}
 use Rattle.writing.specs.Answer.{fitted}
-use Rattle.writing.specs.declared.WriteAnswer.{WriteAnswer}
-use Rattle.writing.specs.declared.WriteAnswer.TheVariants.{Written, Refused}
+use Rattle.listing.specs.declared.Judgement.TheVariants.{Right, Wrong}
+use Rattle.listing.specs.Answer.{ListingAnswer}
+use Rattle.std.specs.Prelude.{Result}
+use Rattle.std.specs.Prelude.{Ok, Err}
+use Rattle.refusal.specs.Verdict.{refused}
+use Rattle.refusal.specs.declared.Fault.TheVariants.{WrongListing, LongPage}
+use Rattle.refusal.specs.declared.Refusal.{Refusal}
 
 -- t is the parse of w whose listing was lent. There is no other.
 pub record Listed (b w l : List ℕ) (t : Tree) : Type 0 where
@@ -29,20 +32,20 @@ page_length l = line_length * length (numbers_of l)
 
 -- By what checking the listing answers: its refusals stand; 23 if it is wrong, the place is the index;
 -- 24 if the page is longer than the buffer, the place is the page's length.
-unfoldable pub page_if : ListingAnswer → (needed room : ℕ) → WriteAnswer
-page_if (NotChecked number place) needed room = Refused number place
-page_if (Wrong index) needed room = Refused 23 index
-page_if Right needed room = fitted 24 needed room
+unfoldable pub page_if : ListingAnswer → (needed room : ℕ) → Result ℕ Refusal
+page_if (Err r) needed room = Err r
+page_if (Ok (Wrong index)) needed room = refused WrongListing index
+page_if (Ok Right) needed room = fitted LongPage needed room
 
-unfoldable pub page_answer : (b w l : List ℕ) (room : ℕ) → WriteAnswer
+unfoldable pub page_answer : (b w l : List ℕ) (room : ℕ) → Result ℕ Refusal
 page_answer b w l room = page_if (listing_answer b w l) (page_length l) room
 
 -- The buffer, which held page₀, then starts with the page of the parse listed, and beyond it is what it was; a refusal changes nothing.
-unfoldable pub PageAfter : (b w l page₀ : List ℕ) → WriteAnswer → (page : List ℕ) → Type 0
-PageAfter b w l page₀ (Written n) page = (t : Tree) × Listed b w l t × (page ≡ overwritten (page_text w (rows 0 0 t)) page₀)
-PageAfter b w l page₀ (Refused number place) page = page ≡ page₀
+unfoldable pub PageAfter : (b w l page₀ : List ℕ) → Result ℕ Refusal → (page : List ℕ) → Type 0
+PageAfter b w l page₀ (Ok n) page = (t : Tree) × Listed b w l t × (page ≡ overwritten (page_text w (rows 0 0 t)) page₀)
+PageAfter b w l page₀ (Err r) page = page ≡ page₀
 
-pub record PageOutcome (b w l page₀ : List ℕ) (r : WriteAnswer) (page : List ℕ) : Type 0 where
+pub record PageOutcome (b w l page₀ : List ℕ) (r : Result ℕ Refusal) (page : List ℕ) : Type 0 where
   pub answer : r ≡ page_answer b w l (length page₀)
   pub after : PageAfter b w l page₀ r page
 
@@ -50,9 +53,9 @@ pub record PageOutcome (b w l page₀ : List ℕ) (r : WriteAnswer) (page : List
 
 -- By what checking the listing answers: the row of a number of the parse listed; and no row if the listing has no such number, is wrong, or is not checked.
 unfoldable pub RowIf : ListingAnswer → (b w l : List ℕ) (index : ℕ) → Row → Type 0
-RowIf Right b w l index r = (t : Tree) × Listed b w l t × (r ≡ get_or (rows 0 0 t) index no_row)
-RowIf (Wrong k) b w l index r = r ≡ no_row
-RowIf (NotChecked number place) b w l index r = r ≡ no_row
+RowIf (Ok Right) b w l index r = (t : Tree) × Listed b w l t × (r ≡ get_or (rows 0 0 t) index no_row)
+RowIf (Ok (Wrong k)) b w l index r = r ≡ no_row
+RowIf (Err x) b w l index r = r ≡ no_row
 
 -- r is the row under number `index`; it says which part of the text that is. Without such a number it is the empty part at the text's start.
 pub record RowUnder (b w l : List ℕ) (index : ℕ) (r : Row) : Type 0 where

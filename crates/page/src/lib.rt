@@ -1,45 +1,49 @@
 // A parse as a page for the binder, a line for each number of its listing; and the part of the text under a number.
 #![tactic(auto)]
 
-ghost use Rattle.std.specs.Prelude.{◌≡◌};
+ghost use Rattle.std.specs.Prelude.{◌≡◌, Ok};
 ghost use Rattle.listing.specs.Answer.{listing_answer};
-ghost use Rattle.listing.specs.declared.ListingAnswer.TheVariants.{Right};
+ghost use Rattle.listing.specs.declared.Judgement.TheVariants.{Right};
 ghost use Rattle.rows.specs.Rows.{no_row};
 ghost use Rattle.page.specs.Answer.{PageOutcome, RowUnder, TextUnder, PlacesUnder};
 
 use lines::{LINE_LENGTH, put_rows};
-use listing::{ListingAnswer, check_listing};
+use listing::{Judgement, check_listing};
 use numbers::LISTING_LIMIT;
+use refusal::{Fault, Refusal};
 use rows::{PLACES, Row, place_tree, row_at};
-use writing::WriteAnswer;
 
 // ---- the page
 
 // The operation "the page of a reading". A page longer than the buffer is refused and changes nothing.
-pub fn write_page(book: &[u8], text: &[u8], listing: &[u8], page: &mut [u8]) -> WriteAnswer
+pub fn write_page(
+    book: &[u8],
+    text: &[u8],
+    listing: &[u8],
+    page: &mut [u8],
+) -> Result<usize, Refusal>
     ensures { PageOutcome book.now text.now listing.now page.old result page.new }
 {
-    let answer = check_listing(book, text, listing);
-    match answer {
-        ListingAnswer::Refused(number, place) => WriteAnswer::Refused(number, place),
-        ListingAnswer::Wrong(index) => WriteAnswer::Refused(23, index),
-        ListingAnswer::Right => write_right(book, text, listing, page),
+    let judgement = check_listing(book, text, listing)?;
+    match judgement {
+        Judgement::Wrong(index) => Err(Fault::WrongListing.at(index)),
+        Judgement::Right => write_right(book, text, listing, page),
     }
 }
 
 // The same for a listing that is right.
-fn write_right(book: &[u8], text: &[u8], listing: &[u8], page: &mut [u8]) -> WriteAnswer
-    requires { listing_answer book.now text.now listing.now ≡ Right }
+fn write_right(book: &[u8], text: &[u8], listing: &[u8], page: &mut [u8]) -> Result<usize, Refusal>
+    requires { listing_answer book.now text.now listing.now ≡ Ok Right }
     ensures { PageOutcome book.now text.now listing.now page.old result page.new }
 {
     let needed = LINE_LENGTH * (listing.len() / 2);
     if page.len() < needed {
-        return WriteAnswer::Refused(24, needed);
+        return Err(Fault::LongPage.at(needed));
     }
     let mut table = [0u64; LISTING_LIMIT];
     place_tree(book, listing, &mut table, 0, 0, 0);
     put_rows(page, text, listing, &table);
-    WriteAnswer::Written(needed)
+    Ok(needed)
 }
 
 // ---- the text under a number
@@ -58,11 +62,12 @@ pub fn text_under<'a>(book: &[u8], text: &'a [u8], listing: &[u8], index: usize)
 pub fn row_under(book: &[u8], text: &[u8], listing: &[u8], index: usize) -> Row
     ensures { RowUnder book.now text.now listing.now index result }
 {
-    let answer = check_listing(book, text, listing);
-    match answer {
-        ListingAnswer::Refused(_, _) => no_row(),
-        ListingAnswer::Wrong(_) => no_row(),
-        ListingAnswer::Right => row_of_right(book, text, listing, index),
+    match check_listing(book, text, listing) {
+        Err(_) => no_row(),
+        Ok(judgement) => match judgement {
+            Judgement::Wrong(_) => no_row(),
+            Judgement::Right => row_of_right(book, text, listing, index),
+        },
     }
 }
 
@@ -76,7 +81,7 @@ pub fn places_under(book: &[u8], text: &[u8], listing: &[u8], index: usize) -> u
 
 // The same for a listing that is right.
 fn row_of_right(book: &[u8], text: &[u8], listing: &[u8], index: usize) -> Row
-    requires { listing_answer book.now text.now listing.now ≡ Right }
+    requires { listing_answer book.now text.now listing.now ≡ Ok Right }
     ensures { RowUnder book.now text.now listing.now index result }
 {
     if listing.len() / 2 <= index {

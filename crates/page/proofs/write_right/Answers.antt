@@ -18,7 +18,7 @@ returns-then-page-needed c =
     let start = c in
     let a = start.args in
     let given : RightListing a.book.now a.text.now a.listing.now = record { bytes = λ k. omega (arith, c.type_inv.book k); right = start.requires } in
-    page_too_long given a.page.now c.if-page-needed.true
+    rw c.at.ensures (page_too_long given a.page.now c.if-page-needed.true)
 
 pub place_tree-requires : goal.place_tree-requires
 place_tree-requires c =
