@@ -1,6 +1,8 @@
 -- The answer of an operation, in the form in which all calls give it (include/meadowsink.h): a kind and a value, in one number, and the place of a refusal.
 use Rattle.std.specs.Prelude.{ℕ, ◌+◌, ◌*◌, ◌^◌, ◌<◌}
 use Rattle.reply.specs.declared.Reply.{Reply}
+use Rattle.refusal.specs.Fault.{number_of as fault_number}
+use Rattle.refusal.specs.declared.Refusal.{Refusal}
 
 -- kinds are below this
 abbrev pub kind_limit : ℕ
@@ -15,8 +17,8 @@ abbrev pub answered : ℕ → ℕ → Reply
 answered kind value = record { kind = kind; value = value; place = 0 }
 
 -- the value of a refusal is its number
-abbrev pub refused : ℕ → ℕ → Reply
-refused number place = record { kind = refused_kind; value = number; place = place }
+abbrev pub refused : Refusal → Reply
+refused r = record { kind = refused_kind; value = fault_number r.fault; place = r.place }
 
 -- 4 × value + kind
 abbrev pub number_of : Reply → ℕ

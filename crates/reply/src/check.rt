@@ -2,15 +2,15 @@
 ghost use Rattle.std.specs.Prelude.{◌≡◌};
 ghost use Rattle.reply.specs.Answers.{check_reply};
 
-use crate::{Reply, answer, refusal};
-use grammar::Verdict;
+use crate::{Reply, answer, refused};
+use refusal::Refusal;
 
 // Kind 0 is accepted.
-pub fn check_reply(verdict: Verdict) -> Reply
+pub fn check_reply(verdict: Result<(), Refusal>) -> Reply
     ensures { result ≡ check_reply verdict }
 {
     match verdict {
-        Verdict::Accepted => answer(0, 0),
-        Verdict::Refused(number, place) => refusal(number, place),
+        Ok(()) => answer(0, 0),
+        Err(refusal) => refused(refusal),
     }
 }

@@ -2,16 +2,19 @@
 ghost use Rattle.std.specs.Prelude.{◌≡◌};
 ghost use Rattle.reply.specs.Answers.{listing_reply};
 
-use crate::{Reply, answer, refusal};
-use listing::ListingAnswer;
+use crate::{Reply, answer, refused};
+use listing::Judgement;
+use refusal::Refusal;
 
 // Kind 0 is right, kind 1 wrong; the value is the index.
-pub fn listing_reply(judgement: ListingAnswer) -> Reply
-    ensures { result ≡ listing_reply judgement }
+pub fn listing_reply(judged: Result<Judgement, Refusal>) -> Reply
+    ensures { result ≡ listing_reply judged }
 {
-    match judgement {
-        ListingAnswer::Right => answer(0, 0),
-        ListingAnswer::Wrong(index) => answer(1, index),
-        ListingAnswer::Refused(number, place) => refusal(number, place),
+    match judged {
+        Ok(judgement) => match judgement {
+            Judgement::Right => answer(0, 0),
+            Judgement::Wrong(index) => answer(1, index),
+        },
+        Err(refusal) => refused(refusal),
     }
 }

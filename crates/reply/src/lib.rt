@@ -2,17 +2,18 @@
 #![tactic(auto)]
 
 pub mod check;
-pub mod check_flat;
 pub mod check_listing;
 pub mod conflict;
+pub mod count;
 pub mod ordered;
 pub mod read;
 pub mod step;
 pub mod why;
-pub mod write;
 
 ghost use Rattle.std.specs.Prelude.{◌≡◌};
 ghost use Rattle.reply.specs.Reply.{Fits, answered, refused, number_of, place_of};
+
+use refusal::Refusal;
 
 // Its kind, its value, and the place of a refusal, 0 for none.
 #[derive(Clone, Copy)]
@@ -36,13 +37,13 @@ pub fn answer(kind: usize, value: usize) -> Reply
     }
 }
 
-pub fn refusal(number: usize, place: usize) -> Reply
-    ensures { result ≡ refused number place }
+pub fn refused(refusal: Refusal) -> Reply
+    ensures { result ≡ refused refusal }
 {
     Reply {
         kind: REFUSED,
-        value: number,
-        place,
+        value: refusal.fault.number(),
+        place: refusal.place,
     }
 }
 

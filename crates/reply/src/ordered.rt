@@ -2,17 +2,17 @@
 ghost use Rattle.std.specs.Prelude.{◌≡◌};
 ghost use Rattle.reply.specs.Answers.{order_value, compare_reply};
 
-use crate::{Reply, answer, refusal};
-use compare::CompareAnswer;
+use crate::{Reply, answer, refused};
 use order::Order;
+use refusal::Refusal;
 
 // Kind 1 is compared; its value says how.
-pub fn compare_reply(compared: CompareAnswer) -> Reply
+pub fn compare_reply(compared: Result<Order, Refusal>) -> Reply
     ensures { result ≡ compare_reply compared }
 {
     match compared {
-        CompareAnswer::Ordered(order) => answer(1, order_value(order)),
-        CompareAnswer::Refused(number, place) => refusal(number, place),
+        Ok(order) => answer(1, order_value(order)),
+        Err(refusal) => refused(refusal),
     }
 }
 

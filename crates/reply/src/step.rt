@@ -2,9 +2,9 @@
 ghost use Rattle.std.specs.Prelude.{◌≡◌};
 ghost use Rattle.reply.specs.Answers.{step_reply, Near};
 
-use crate::{Reply, answer, refusal};
+use crate::{Reply, answer, refused};
 use common::wide;
-use sheet::{Step, Stepped};
+use sheet::Stepped;
 
 // How many values a summary byte has.
 const SUMMARY_VALUES: usize = 4;
@@ -14,11 +14,11 @@ pub fn step_reply(stepped: Stepped) -> Reply
     requires { Near stepped.step stepped.next }
     ensures { result ≡ step_reply stepped.step stepped.next }
 {
-    let step = stepped.step;
-    let next = stepped.next;
-    match step {
-        Step::End => answer(0, 0),
-        Step::Line(byte) => answer(1, SUMMARY_VALUES * next + wide(byte)),
-        Step::Refused(number, place) => refusal(number, place),
+    match stepped.step {
+        Ok(line) => match line {
+            None => answer(0, 0),
+            Some(byte) => answer(1, SUMMARY_VALUES * stepped.next + wide(byte)),
+        },
+        Err(refusal) => refused(refusal),
     }
 }

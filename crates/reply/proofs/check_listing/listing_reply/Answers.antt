@@ -5,12 +5,12 @@ use Rattle.reply.proofs.check_listing.listing_reply.Goals as goal
 
 pub returns-in-Right : goal.returns-in-Right
 unfolding listing_reply
-returns-in-Right c = rw (c.answer.ensures, c.in-Right.is) refl
+returns-in-Right c = rw (c.answer.ensures, c.in-Ok.is, c.in-Right.is) refl
 
 pub returns-in-Wrong : goal.returns-in-Wrong
 unfolding listing_reply
-returns-in-Wrong c = rw (c.answer-in-Wrong.ensures, c.in-Wrong.is) refl
+returns-in-Wrong c = rw (c.answer-in-Wrong.ensures, c.in-Ok.is, c.in-Wrong.is) refl
 
-pub returns-in-Refused : goal.returns-in-Refused
+pub returns-in-Err : goal.returns-in-Err
 unfolding listing_reply
-returns-in-Refused c = rw (c.refusal.ensures, c.in-Refused.is) refl
+returns-in-Err c = rw (c.refused.ensures, c.in-Err.is) refl

@@ -1,16 +1,17 @@
 -- `conflict_reply` meets its contract, answer by answer.
-use mathlib.Core.Path.{refl}
+use mathlib.Core.Path.{refl, ap}
+use mathlib.Core.Bool.{Bool}
 use Rattle.reply.specs.Answers.{conflict_reply}
 use Rattle.reply.proofs.conflict.conflict_reply.Goals as goal
 
-pub returns-in-No : goal.returns-in-No
+pub returns-then-conflicts : goal.returns-then-conflicts
 unfolding conflict_reply
-returns-in-No c = rw (c.answer.ensures, c.in-No.is) refl
+returns-then-conflicts c = rw (c.answer.ensures, c.in-Ok.is, c.if-conflicts.true) refl
 
-pub returns-in-Yes : goal.returns-in-Yes
+pub returns-else-conflicts : goal.returns-else-conflicts
 unfolding conflict_reply
-returns-in-Yes c = rw (c.answer-in-Yes.ensures, c.in-Yes.is) refl
+returns-else-conflicts c = rw (c.answer-in-Ok.ensures, c.in-Ok.is, c.if-conflicts.false) refl
 
-pub returns-in-Refused : goal.returns-in-Refused
+pub returns-in-Err : goal.returns-in-Err
 unfolding conflict_reply
-returns-in-Refused c = rw (c.refusal.ensures, c.in-Refused.is) refl
+returns-in-Err c = rw (c.refused.ensures, c.in-Err.is) refl

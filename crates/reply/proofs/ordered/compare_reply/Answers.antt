@@ -4,10 +4,10 @@ use Rattle.reply.specs.Answers.{compare_reply}
 use Rattle.reply.specs.Reply.{answered}
 use Rattle.reply.proofs.ordered.compare_reply.Goals as goal
 
-pub returns-in-Ordered : goal.returns-in-Ordered
+pub returns-in-Ok : goal.returns-in-Ok
 unfolding compare_reply
-returns-in-Ordered c = rw c.in-Ordered.is (c.answer.ensures ∙ ap (answered 1) c.order_value.ensures)
+returns-in-Ok c = rw c.in-Ok.is (c.answer.ensures ∙ ap (answered 1) c.order_value.ensures)
 
-pub returns-in-Refused : goal.returns-in-Refused
+pub returns-in-Err : goal.returns-in-Err
 unfolding compare_reply
-returns-in-Refused c = rw c.in-Refused.is c.refusal.ensures
+returns-in-Err c = rw c.in-Err.is c.refused.ensures

@@ -1,51 +1,26 @@
 -- `reason_reply` meets its contract, answer by answer.
-use Prim.Native.Nat.{◌<◌}
-use mathlib.Core.Path.{refl, subst}
-use native.Mathlib.Omega.{arith}
-use Rattle.common.specs.Bytes.{byte_values}
-use Rattle.reply.specs.Answers.{reason_reply, Few}
+use mathlib.Core.Path.{◌≡◌, refl, ◌∙◌, ap, subst}
+use Rattle.reason.specs.declared.Cause.{Cause}
+use Rattle.refusal.specs.declared.Refusal.{Refusal}
+use Rattle.std.specs.Prelude.{Option, Some, Result, Ok}
+use Rattle.reply.specs.Answers.{reason_reply, Few, FewOf}
 use Rattle.reply.proofs.why.reason_reply.Goals as goal
 
-pub overflow_mul-n : goal.overflow_mul-n
+few : (r : Result (Option Cause) Refusal) (found : Option Cause) (cause : Cause) → Few r → r ≡ Ok found → found ≡ Some cause → FewOf cause
 unfolding Few
-overflow_mul-n c = let few : c.in-Higher.n < byte_values = subst Few c.in-Higher.is c.requires in omega (arith, few)
+few r found cause h e f = subst Few (e ∙ ap (λ (o : Option Cause). Ok o) f) h
 
-pub overflow_add-n : goal.overflow_add-n
-unfolding Few
-overflow_add-n c = let few : c.in-Higher.n < byte_values = subst Few c.in-Higher.is c.requires in omega (arith, few)
+pub cause_value-requires : goal.cause_value-requires
+cause_value-requires c = few c.args.reason _ _ c.requires c.in-Ok.is c.in-Some.is
 
-pub overflow_mul-d : goal.overflow_mul-d
-unfolding Few
-overflow_mul-d c = let few : c.in-AtFirst.d < byte_values = subst Few c.in-AtFirst.is c.requires in omega (arith, few)
-
-pub overflow_add-d : goal.overflow_add-d
-unfolding Few
-overflow_add-d c = let few : c.in-AtFirst.d < byte_values = subst Few c.in-AtFirst.is c.requires in omega (arith, few)
-
-pub overflow_mul-d-in-AtLast : goal.overflow_mul-d-in-AtLast
-unfolding Few
-overflow_mul-d-in-AtLast c = let few : c.in-AtLast.d < byte_values = subst Few c.in-AtLast.is c.requires in omega (arith, few)
-
-pub overflow_add-d-in-AtLast : goal.overflow_add-d-in-AtLast
-unfolding Few
-overflow_add-d-in-AtLast c = let few : c.in-AtLast.d < byte_values = subst Few c.in-AtLast.is c.requires in omega (arith, few)
-
-pub returns-in-Free : goal.returns-in-Free
+pub returns-in-None : goal.returns-in-None
 unfolding reason_reply
-returns-in-Free c = rw (c.answer.ensures, c.in-Free.is) refl
+returns-in-None c = rw (c.answer.ensures, c.in-Ok.is, c.in-None.is) refl
 
-pub returns-in-Higher : goal.returns-in-Higher
+pub returns-in-Some : goal.returns-in-Some
 unfolding reason_reply
-returns-in-Higher c = rw (c.answer-in-Higher.ensures, c.in-Higher.is) refl
+returns-in-Some c = rw (c.answer-in-Some.ensures, c.cause_value.ensures, c.in-Ok.is, c.in-Some.is) refl
 
-pub returns-in-AtFirst : goal.returns-in-AtFirst
+pub returns-in-Err : goal.returns-in-Err
 unfolding reason_reply
-returns-in-AtFirst c = rw (c.answer-in-AtFirst.ensures, c.in-AtFirst.is) refl
-
-pub returns-in-AtLast : goal.returns-in-AtLast
-unfolding reason_reply
-returns-in-AtLast c = rw (c.answer-in-AtLast.ensures, c.in-AtLast.is) refl
-
-pub returns-in-Refused : goal.returns-in-Refused
-unfolding reason_reply
-returns-in-Refused c = rw (c.refusal.ensures, c.in-Refused.is) refl
+returns-in-Err c = rw (c.refused.ensures, c.in-Err.is) refl
