@@ -19,8 +19,9 @@ use Rattle.flatten.proofs.TestsLaws.{TestsAre, tests_parses}
 use Rattle.flatten.specs.Reading.{Reading}
 use Rattle.refusal.proofs.VerdictLaws.{and_first}
 use Rattle.refusal.specs.Verdict.{in_order}
-use Rattle.refusal.specs.Verdict.{Verdict}
-use Rattle.std.specs.Prelude.{Err}
+use Rattle.refusal.specs.Fault.{number_of}
+use Rattle.refusal.specs.Verdict.{Verdict, RefusedBy}
+use Rattle.std.specs.Prelude.{Ok, Err}
 use Rattle.refusal.specs.Verdict.{accepted}
 use Rattle.layout.specs.Layout.{productions}
 use Rattle.marked.proofs.CaseTests.{same, all_bytes, starts, grammar_of, derives, derives_at, parses, Spans, chart_of, empty_test, step_test, parse_sum, accepts, refuses, Given, tests, every, Shown, case_of, case_test, table_test}
@@ -158,14 +159,16 @@ module _ (b w : List ℕ) (good : checked b ≡ accepted) (bytes : all_bytes b �
 
 accepts_true : (v : Verdict) → accepts v ≡ true → v ≡ accepted
 unfolding accepts
-accepts_true accepted e = refl
-accepts_true (Refused number place) e = absurd (false≢true e)
+accepts_true (Ok _) e = refl
+accepts_true (Err r) e = absurd (false≢true e)
 
-refuses_true : (number place : ℕ) (v : Verdict) → refuses number place v ≡ true → v ≡ Refused number place
+refuses_true : (number place : ℕ) (v : Verdict) → refuses number place v ≡ true → RefusedBy v number place
 unfolding refuses
-refuses_true number place accepted e = absurd (false≢true e)
-refuses_true number place (Refused n p) e =
-    ap₂ Refused (eqb-true n number (and_first_true (eqb n number) (eqb p place) e)) (eqb-true p place (and_second_true (eqb n number) (eqb p place) e))
+refuses_true number place (Ok _) e = absurd (false≢true e)
+refuses_true number place (Err r) e =
+    let numbered = eqb (number_of r.fault) number in
+    let placed = eqb r.place place in
+    (r, refl, eqb-true (number_of r.fault) number (and_first_true numbered placed e), eqb-true r.place place (and_second_true numbered placed e))
 
 -- where reading is not refused, the grammar is not
 readable : (b w chart : List ℕ) → refusal b w chart ≡ accepted → checked b ≡ accepted

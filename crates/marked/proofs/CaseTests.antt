@@ -8,9 +8,9 @@ use Rattle.flatten.specs.Flat.{may_stand}
 use Rattle.charset.specs.Set.{characters}
 use Rattle.classes.specs.Classes.{is_class, class_has}
 use Rattle.common.specs.Below.{all_below, bit_of}
+use Rattle.refusal.specs.Fault.{number_of}
 use Rattle.refusal.specs.Verdict.{Verdict}
-use Rattle.std.specs.Prelude.{Err}
-use Rattle.refusal.specs.Verdict.{accepted}
+use Rattle.std.specs.Prelude.{Ok, Err}
 use Rattle.layout.specs.Layout.{productions, start_sort, argument_count, result_sort, argument}
 use Rattle.layout.specs.Limits.{class_base}
 use Rattle.marked.specs.Cases.{Expected, no_reading, one_reading, several_readings, bad_grammar, refused, Case}
@@ -104,12 +104,12 @@ parse_sum g w c = argument_sum g w c g.count 0 0 (length w)
 -- ---- verdicts
 
 unfoldable pub accepts : Verdict → Bool
-accepts accepted = true
-accepts (Refused number place) = false
+accepts (Ok _) = true
+accepts (Err r) = false
 
 unfoldable pub refuses : ℕ → ℕ → Verdict → Bool
-refuses number place accepted = false
-refuses number place (Refused n p) = eqb n number && eqb p place
+refuses number place (Ok _) = false
+refuses number place (Err r) = eqb (number_of r.fault) number && eqb r.place place
 
 -- ---- cases
 

@@ -7,7 +7,7 @@ use lib.ListN.{length, replicate, length-replicate}
 use Rattle.common.specs.Lists.{All, overwritten}
 use Rattle.engine.proofs.AnswerLaws.{none_exactly, none_buffer, several_exactly, several_buffer, one_exactly, one_buffer}
 use Rattle.engine.specs.Refusals.{chart_too_short}
-use Rattle.engine.specs.declared.Answer.{Answer}
+use Rattle.engine.specs.Outcome.{Answer}
 use Rattle.flatten.specs.Reading.{Reading}
 use Rattle.marked.specs.Cases.{Expected, no_reading, one_reading, several_readings, bad_grammar, refused, Says, Case, Statement, Answers, Promised}
 use Rattle.numbers.specs.Written.{bytes_of}
@@ -35,8 +35,8 @@ module _ (b w c₀ l₀ : List ℕ) (r : Answer) (c l : List ℕ) (o : Outcome b
   says_answers several_readings (free, two) =
       let a = (accepted_outcome b w c₀ l₀ r c l o free).answer in
       ((several_exactly (Reading b w) l₀ r l a).1 two, several_buffer (Reading b w) l₀ r l a two)
-  says_answers (bad_grammar number place) e = let a = refused_outcome b w c₀ l₀ r c l o number place ((refusal_grammar b w c₀ number place (checked_number b e)).1 e) in (a.0, a.2)
-  says_answers (refused number place) e = let a = refused_outcome b w c₀ l₀ r c l o number place e in (a.0, a.2)
+  says_answers (bad_grammar number place) (x, e, n, p) = let a = refused_outcome b w c₀ l₀ r c l o x ((refusal_grammar b w c₀ x (checked_number b e)).1 e) in ((x, a.0, n, p), a.2)
+  says_answers (refused number place) (x, e, n, p) = let a = refused_outcome b w c₀ l₀ r c l o x e in ((x, a.0, n, p), a.2)
 
 -- what is said of one chart is said of every chart as long
 says_moved : (b w c c' : List ℕ) → length c ≡ length c' → (e : Expected) → Says b w c e → Says b w c' e
@@ -45,7 +45,7 @@ says_moved b w c c' long no_reading h = (sym (refusal_length b w c c' long) ∙ 
 says_moved b w c c' long (one_reading numbers) h = (sym (refusal_length b w c c' long) ∙ h.0, h.1, h.2, h.3)
 says_moved b w c c' long several_readings h = (sym (refusal_length b w c c' long) ∙ h.0, h.1)
 says_moved b w c c' long (bad_grammar number place) h = h
-says_moved b w c c' long (refused number place) h = sym (refusal_length b w c c' long) ∙ h
+says_moved b w c c' long (refused number place) (x, e, n, p) = (x, sym (refusal_length b w c c' long) ∙ e, n, p)
 
 case_promised : (c : Case) → Statement c → Promised c
 unfolding Statement Promised

@@ -1,11 +1,10 @@
 -- The marked cases of 01, (a) to (k), stated for the definitions: which trees are readings, and what is refused. No program is run.
-use Rattle.std.specs.Prelude.{ℕ, ◌*◌, ◌≤◌, ◌≡◌, List, [], ◌∷◌, ◌++◌, length, replicate}
+use Rattle.std.specs.Prelude.{ℕ, ◌*◌, ◌≤◌, ◌≡◌, List, [], ◌∷◌, ◌++◌, length, replicate, Ok}
 use Rattle.common.specs.Lists.{overwritten}
-use Rattle.engine.specs.declared.Answer.{Answer}
-use Rattle.engine.specs.declared.Answer.TheVariants.{None, One, Several, Refused as NotRead}
+use Rattle.engine.specs.Outcome.{Answer}
+use Rattle.engine.specs.declared.Parses.TheVariants.{None, One, Several}
 use Rattle.numbers.specs.Written.{bytes_of}
-use Rattle.std.specs.Prelude.{Err}
-use Rattle.refusal.specs.Verdict.{accepted}
+use Rattle.refusal.specs.Verdict.{accepted, RefusedBy}
 use Rattle.parse.specs.Outcome.{refusal, Outcome}
 use Rattle.flatten.specs.Reading.{Reading}
 use Rattle.priority.specs.Check.{checked}
@@ -29,8 +28,8 @@ unfoldable pub Says : (b w chart : List ℕ) → Expected → Type 0
 Says b w chart no_reading = (refusal b w chart ≡ accepted) × ((t : Tree) → Reading b w t → ⊥)
 Says b w chart (one_reading numbers) = (refusal b w chart ≡ accepted) × (t : Tree) × Only (Reading b w) t × (listing t ≡ numbers)
 Says b w chart several_readings = (refusal b w chart ≡ accepted) × Two (Reading b w)
-Says b w chart (bad_grammar number place) = checked b ≡ Refused number place
-Says b w chart (refused number place) = refusal b w chart ≡ Refused number place
+Says b w chart (bad_grammar number place) = RefusedBy (checked b) number place
+Says b w chart (refused number place) = RefusedBy (refusal b w chart) number place
 
 pub record Case : Type 0 where
   pub book : List ℕ
@@ -44,11 +43,11 @@ Statement c = Says c.book c.text (replicate c.lent 0) c.expected
 
 -- The same of the operation's promise: what its answer is, and what the buffer of the listing, which held l₀, holds afterwards.
 unfoldable pub Answers : Expected → (l₀ : List ℕ) → Answer → (l : List ℕ) → Type 0
-Answers no_reading l₀ r l = (r ≡ None) × (l ≡ l₀)
-Answers (one_reading numbers) l₀ r l = 2 * length numbers ≤ length l₀ → (r ≡ One (length numbers)) × (l ≡ overwritten (bytes_of numbers) l₀)
-Answers several_readings l₀ r l = (r ≡ Several) × (l ≡ l₀)
-Answers (bad_grammar number place) l₀ r l = (r ≡ NotRead number place) × (l ≡ l₀)
-Answers (refused number place) l₀ r l = (r ≡ NotRead number place) × (l ≡ l₀)
+Answers no_reading l₀ r l = (r ≡ Ok None) × (l ≡ l₀)
+Answers (one_reading numbers) l₀ r l = 2 * length numbers ≤ length l₀ → (r ≡ Ok (One (length numbers))) × (l ≡ overwritten (bytes_of numbers) l₀)
+Answers several_readings l₀ r l = (r ≡ Ok Several) × (l ≡ l₀)
+Answers (bad_grammar number place) l₀ r l = RefusedBy r number place × (l ≡ l₀)
+Answers (refused number place) l₀ r l = RefusedBy r number place × (l ≡ l₀)
 
 -- any outcome, for every chart of the case's length and every buffer, whatever they hold
 unfoldable pub Promised : Case → Type 0

@@ -3,10 +3,8 @@ use Prim.Native.Nat.{ℕ}
 use mathlib.Core.List.{List}
 use mathlib.Core.Path.{◌≡◌, sym, ◌∙◌, ap}
 use native.Mathlib.Omega.{arith}
-use Rattle.compare.proofs.OneLaws.{compared_one, compared_number}
+use Rattle.compare.proofs.OneLaws.{compared_one}
 use Rattle.compare.specs.Answer.{Compared}
-use Rattle.compare.specs.declared.CompareAnswer.{CompareAnswer}
-use Rattle.compare.specs.declared.CompareAnswer.TheVariants.{Ordered, Refused}
 use Rattle.meadowsink.specs.Compare.{CompareCall}
 use Rattle.order.specs.Order.{order_number}
 use Rattle.order.specs.declared.Order.{Order}
@@ -15,8 +13,11 @@ use Rattle.reply.proofs.ReplyLaws.{answered_fits, refused_fits}
 use Rattle.reply.specs.Answers.{order_value, compare_reply}
 use Rattle.reply.specs.Reply.{Fits}
 use Rattle.reply.specs.declared.Reply.{Reply}
+use Rattle.compare.specs.Answer.{CompareAnswer}
+use Rattle.std.specs.Prelude.{Ok, Err}
+use Rattle.refusal.specs.declared.Refusal.{Refusal}
 
-order_fits : (o : Order) → Fits (compare_reply (Ordered o))
+order_fits : (o : Order) → Fits (compare_reply (Ok o))
 unfolding compare_reply order_value order_number
 order_fits Below = answered_fits 1 0 (omega arith) (omega arith)
 order_fits Equal = answered_fits 1 1 (omega arith) (omega arith)
@@ -25,8 +26,8 @@ order_fits Neither = answered_fits 1 3 (omega arith) (omega arith)
 
 pub compare_fits : (b w first second : List ℕ) (r : CompareAnswer) → Compared b w first second r → Fits (compare_reply r)
 unfolding compare_reply
-compare_fits b w first second (Ordered o) h = order_fits o
-compare_fits b w first second (Refused number place) h = refused_fits number place (omega (arith, compared_number b w first second number place h))
+compare_fits b w first second (Ok o) h = order_fits o
+compare_fits b w first second (Err r) h = refused_fits r
 
 -- What is lent determines the call's number.
 pub compare_call_unique : (number : Reply → ℕ) (b w first second : List ℕ) (r r' : ℕ) → CompareCall number b w first second r → CompareCall number b w first second r' → r ≡ r'

@@ -9,30 +9,28 @@ use native.Mathlib.Omega.{arith}
 use lib.Dec.{eqb}
 use lib.ListN.{length, get_or, set, take, length-set}
 use lib.Seq.{ext_get_or, get_or-set_same, get_or-set_other}
-use Rattle.archive.proofs.RefusalLaws.{flat_numbers}
 use Rattle.archive.proofs.UniqueLaws.{flat_unique}
 use Rattle.archive.specs.Outcome.{trees_of, flat_refusal, FlatOutcome}
 use Rattle.ccg.specs.Ccg.{Line}
 use Rattle.common.proofs.ListLaws.{length_tabulate, get_d_tabulate}
 use Rattle.common.specs.Lists.{tabulate}
-use Rattle.engine.specs.declared.Answer.{Answer}
-use Rattle.refusal.specs.Verdict.{unless_refused}
-use Rattle.refusal.specs.Verdict.{Verdict}
-use Rattle.grammar.specs.declared.Verdict.TheVariants.{accepted, Refused as Rejected}
+use Rattle.refusal.specs.Verdict.{Verdict, refusal, unless_refused}
 use Rattle.layout.specs.Limits.{production_limit}
-use Rattle.load.proofs.AbsentLaws.{names_number}
 use Rattle.load.proofs.CheckLaws.{checked_unique}
 use Rattle.load.specs.Absent.{absent_names}
 use Rattle.load.specs.Check.{lines_answer, Checked}
-use Rattle.load.specs.declared.FlatAnswer.{FlatAnswer}
-use Rattle.load.specs.declared.FlatAnswer.TheVariants.{Lines, Refused as NotLoaded}
 use Rattle.meadowsink.proofs.ViewerLaws.{after_fits, used_short, call_unique}
 use Rattle.meadowsink.specs.Flat.{root_entries, FlatCall, CheckCall}
 use Rattle.meadowsink.specs.Viewer.{used_limit, UsedOutcome}
 use Rattle.reply.proofs.ReplyLaws.{answered_fits, refused_fits}
-use Rattle.reply.specs.Answers.{read_reply, lines_reply}
+use Rattle.reply.specs.Answers.{read_reply, count_reply}
 use Rattle.reply.specs.Reply.{Fits}
 use Rattle.reply.specs.declared.Reply.{Reply}
+use Rattle.engine.specs.Outcome.{Answer}
+use Rattle.std.specs.Prelude.{Result}
+use Rattle.std.specs.Prelude.{Ok, Err}
+use Rattle.refusal.specs.declared.Fault.TheVariants.{Form}
+use Rattle.refusal.specs.declared.Refusal.{Refusal}
 
 -- ---- the root
 
@@ -68,21 +66,21 @@ pub flat_read_fits : (flat : List ℕ) (roots : List Bool) (w c₀ l₀ : List �
 unfolding FlatOutcome read_reply
 flat_read_fits flat roots w c₀ l₀ r c l o =
     ⊎_elim
-    (λ (place, not_in, is, chart, listing). subst⁻¹ (λ (x : Answer). Fits (read_reply x)) is (refused_fits 27 place (omega arith)))
-    (λ (g, says, u). after_fits (trees_of g roots w) c₀ (take used_limit l₀) r c o.used (flat_refusal g roots w c₀) (used_short l₀) (λ n k e. ⊎_elim (λ a. omega arith) (⊎_elim (λ a. omega arith) (λ a. omega arith)) (flat_numbers g roots w c₀ n k e)) u)
+    (λ (place, not_in, is, chart, listing). subst⁻¹ (λ (x : Answer). Fits (read_reply x)) is (refused_fits (refusal Form place)))
+    (λ (g, says, u). after_fits (trees_of g roots w) c₀ (take used_limit l₀) r c o.used (flat_refusal g roots w c₀) (used_short l₀) u)
     o.outcome
 
-lines_fit : (g : List Line) → length g ≤ production_limit → (v : Verdict) → ((n k : ℕ) → v ≡ Rejected n k → n ≡ 28) → Fits (lines_reply (unless_refused NotLoaded v (Lines (length g))))
-unfolding lines_reply
-lines_fit g few accepted small = answered_fits 1 (length g) (omega arith) (omega arith)
-lines_fit g few (Rejected n k) small = refused_fits n k (omega (arith, small n k refl))
+lines_fit : (g : List Line) → length g ≤ production_limit → (v : Verdict) → Fits (count_reply (unless_refused v (Ok (length g))))
+unfolding count_reply
+lines_fit g few (Ok _) = answered_fits 1 (length g) (omega arith) (omega arith)
+lines_fit g few (Err r) = refused_fits r
 
-pub check_flat_fits : (flat : List ℕ) (r : FlatAnswer) → Checked flat r → Fits (lines_reply r)
-unfolding Checked lines_answer lines_reply
+pub check_flat_fits : (flat : List ℕ) (r : Result ℕ Refusal) → Checked flat r → Fits (count_reply r)
+unfolding Checked lines_answer count_reply
 check_flat_fits flat r h =
     ⊎_elim
-    (λ (place, not_in, is). subst⁻¹ (λ (x : FlatAnswer). Fits (lines_reply x)) is (refused_fits 27 place (omega arith)))
-    (λ (g, says, is). subst⁻¹ (λ (x : FlatAnswer). Fits (lines_reply x)) is (lines_fit g says.writable.few (absent_names g) (names_number g)))
+    (λ (place, not_in, is). subst⁻¹ (λ (x : Result ℕ Refusal). Fits (count_reply x)) is (refused_fits (refusal Form place)))
+    (λ (g, says, is). subst⁻¹ (λ (x : Result ℕ Refusal). Fits (count_reply x)) is (lines_fit g says.writable.few (absent_names g)))
     h
 
 -- ---- the outcomes
@@ -94,4 +92,4 @@ flat_call_unique number flat roots w c₀ l₀ = call_unique (FlatOutcome flat (
 
 pub check_call_unique : (number : Reply → ℕ) (flat : List ℕ) (r r' : ℕ) → CheckCall number flat r → CheckCall number flat r' → r ≡ r'
 check_call_unique number flat r r' h k =
-    h.is_number ∙ ap (λ (answer : FlatAnswer). number (lines_reply answer)) (checked_unique flat h.answer k.answer h.outcome k.outcome) ∙ sym k.is_number
+    h.is_number ∙ ap (λ (answer : Result ℕ Refusal). number (count_reply answer)) (checked_unique flat h.answer k.answer h.outcome k.outcome) ∙ sym k.is_number

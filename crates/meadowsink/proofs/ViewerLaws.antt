@@ -8,27 +8,23 @@ use native.Mathlib.Decide.{dec_lt}
 use lib.ListN.{length, take, drop, length-take, drop_of_length-le}
 use lib.Seq.{take_all}
 use Rattle.engine.specs.Outcome.{Parsing, UnlessRefused}
-use Rattle.engine.specs.declared.Answer.{Answer}
 use Rattle.refusal.specs.Verdict.{Verdict}
-use Rattle.grammar.specs.declared.Verdict.TheVariants.{accepted, Refused as Rejected}
 use Rattle.meadowsink.specs.Viewer.{used_limit, Promise, UsedOutcome, CallOutcome}
-use Rattle.parse.proofs.NumberLaws.{refusal_numbered}
 use Rattle.parse.proofs.OutcomeLaws.{outcome_unique}
 use Rattle.parse.specs.Outcome.{refusal, reading_by, Outcome}
 use Rattle.reply.proofs.AnswersLaws.{own_read_fits}
 use Rattle.reply.proofs.ReplyLaws.{refused_fits}
 use Rattle.reply.specs.Answers.{read_reply}
-use Rattle.reply.specs.Reply.{value_limit, Fits}
+use Rattle.reply.specs.Reply.{Fits}
 use Rattle.reply.specs.declared.Reply.{Reply}
+use Rattle.engine.specs.Outcome.{Answer}
+use Rattle.std.specs.Prelude.{Ok, Err}
+use Rattle.refusal.specs.declared.Refusal.{Refusal}
 
--- A verdict whose numbers are small.
-abbrev pub Small : Verdict → Type 0
-Small v = (number place : ℕ) → v ≡ Rejected number place → number < value_limit
-
-pub after_fits : (s : Parsing) (c₀ l₀ : List ℕ) (r : Answer) (c l : List ℕ) (v : Verdict) → length l₀ ≤ used_limit → Small v → UnlessRefused v s c₀ l₀ r c l → Fits (read_reply r)
+pub after_fits : (s : Parsing) (c₀ l₀ : List ℕ) (r : Answer) (c l : List ℕ) (v : Verdict) → length l₀ ≤ used_limit → UnlessRefused v s c₀ l₀ r c l → Fits (read_reply r)
 unfolding UnlessRefused read_reply
-after_fits s c₀ l₀ r c l accepted h small a = own_read_fits s l₀ r l (omega arith) a.answer
-after_fits s c₀ l₀ r c l (Rejected number place) h small a = subst⁻¹ (λ (x : Answer). Fits (read_reply x)) a.0 (refused_fits number place (small number place refl))
+after_fits s c₀ l₀ r c l (Ok _) h a = own_read_fits s l₀ r l (omega arith) a.answer
+after_fits s c₀ l₀ r c l (Err x) h a = subst⁻¹ (λ (y : Answer). Fits (read_reply y)) a.0 (refused_fits x)
 
 pub used_short : (l₀ : List ℕ) → length (take used_limit l₀) ≤ used_limit
 used_short l₀ = omega (arith, length-take used_limit l₀)
@@ -36,7 +32,7 @@ used_short l₀ = omega (arith, length-take used_limit l₀)
 pub read_fits : (b w c₀ l₀ : List ℕ) (r : Answer) (c l : List ℕ) → UsedOutcome (Outcome b w) c₀ l₀ r c l → Fits (read_reply r)
 unfolding Outcome
 read_fits b w c₀ l₀ r c l o =
-    after_fits (reading_by b w) c₀ (take used_limit l₀) r c o.used (refusal b w c₀) (used_short l₀) (λ n k e. omega (arith, (refusal_numbered b w c₀).small n k e)) o.outcome
+    after_fits (reading_by b w) c₀ (take used_limit l₀) r c o.used (refusal b w c₀) (used_short l₀) o.outcome
 
 -- ---- the part of the buffer that is used
 

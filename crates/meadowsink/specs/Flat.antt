@@ -4,10 +4,11 @@ use Rattle.archive.specs.Outcome.{FlatOutcome}
 use Rattle.common.specs.Lists.{tabulate}
 use Rattle.layout.specs.Limits.{production_limit}
 use Rattle.load.specs.Check.{Checked}
-use Rattle.load.specs.declared.FlatAnswer.{FlatAnswer}
 use Rattle.meadowsink.specs.Viewer.{CallOutcome}
-use Rattle.reply.specs.Answers.{lines_reply}
+use Rattle.reply.specs.Answers.{count_reply}
 use Rattle.reply.specs.declared.Reply.{Reply}
+use Rattle.std.specs.Prelude.{Result}
+use Rattle.refusal.specs.declared.Refusal.{Refusal}
 
 -- The entries for the root: one for each line that there could be; it is yes if its byte is there and is not 0.
 unfoldable pub root_entries : List ℕ → List Bool
@@ -19,6 +20,6 @@ FlatCall number flat roots w = CallOutcome number (FlatOutcome flat (root_entrie
 
 -- The same for checking.
 pub record CheckCall (number : Reply → ℕ) (flat : List ℕ) (r : ℕ) : Type 0 where
-  pub answer : FlatAnswer
+  pub answer : Result ℕ Refusal
   pub outcome : Checked flat answer
-  pub is_number : r ≡ number (lines_reply answer)
+  pub is_number : r ≡ number (count_reply answer)

@@ -1,10 +1,11 @@
 -- The calls that read a text, by a grammar or by a flat text (01, "Readings, listings and the chart"; 02, [7]): the sheet viewer's, and that for the place of a refusal.
 use Rattle.std.specs.Prelude.{ℕ, ◌≡◌, List, ◌++◌, take, drop}
-use Rattle.engine.specs.declared.Answer.{Answer}
 use Rattle.parse.specs.Outcome.{Outcome}
 use Rattle.reply.specs.Answers.{read_reply}
 use Rattle.reply.specs.Reply.{number_of, place_of}
 use Rattle.reply.specs.declared.Reply.{Reply}
+use Rattle.engine.specs.Outcome.{Answer}
+use Rattle.refusal.specs.declared.Refusal.{Refusal}
 
 -- most bytes of the listing's buffer that the call uses
 abbrev pub used_limit : ℕ

@@ -3,7 +3,7 @@ ghost use Rattle.reply.specs.Reply.{number_of, place_of};
 ghost use Rattle.meadowsink.specs.Flat.{CheckCall};
 
 use load::check_flat;
-use reply::check_flat::lines_reply;
+use reply::count::count_reply;
 use reply::{number, place};
 
 // How many lines a flat text has.
@@ -11,7 +11,7 @@ use reply::{number, place};
 pub extern "C" fn meadowsink_check_flat(flat: &[u8]) -> u64
     ensures { CheckCall number_of flat.now result }
 {
-    number(lines_reply(check_flat(flat)))
+    number(count_reply(check_flat(flat)))
 }
 
 // Where it is refused.
@@ -19,5 +19,5 @@ pub extern "C" fn meadowsink_check_flat(flat: &[u8]) -> u64
 pub extern "C" fn meadowsink_check_flat_place(flat: &[u8]) -> u64
     ensures { CheckCall place_of flat.now result }
 {
-    place(lines_reply(check_flat(flat)))
+    place(count_reply(check_flat(flat)))
 }

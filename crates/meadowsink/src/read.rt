@@ -3,8 +3,9 @@ ghost use Rattle.std.specs.Prelude.{◌≡◌, min};
 ghost use Rattle.parse.specs.Outcome.{Outcome};
 ghost use Rattle.meadowsink.specs.Viewer.{used_limit, UsedOutcome, ViewerOutcome, PlaceOutcome};
 
-use engine::Answer;
+use engine::Parses;
 use parse::parse;
+use refusal::Refusal;
 use reply::read::read_reply;
 use reply::{number, place};
 
@@ -15,14 +16,11 @@ pub const USED_LIMIT: usize = 65536;
 pub fn used_part(n: usize) -> usize
     ensures { result ≡ min n used_limit }
 {
-    if USED_LIMIT < n {
-        return USED_LIMIT;
-    }
-    n
+    n.min(USED_LIMIT)
 }
 
 // Parses with at most the first 65,536 bytes of the listing's buffer.
-fn parse_used(book: &[u8], text: &[u8], chart: &mut [u8], listing: &mut [u8]) -> Answer
+fn parse_used(book: &[u8], text: &[u8], chart: &mut [u8], listing: &mut [u8]) -> Result<Parses, Refusal>
     ensures { UsedOutcome (Outcome book.now text.now) chart.old listing.old result chart.new listing.new }
 {
     let most = used_part(listing.len());

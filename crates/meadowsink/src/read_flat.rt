@@ -7,8 +7,9 @@ ghost use Rattle.meadowsink.specs.Flat.{root_entries, FlatCall};
 
 use crate::read::used_part;
 use archive::parse_flat;
-use engine::Answer;
+use engine::Parses;
 use layout::limits::PRODUCTION_LIMIT;
+use refusal::Refusal;
 use reply::read::read_reply;
 use reply::{number, place};
 
@@ -17,10 +18,8 @@ fn root_entries(bytes: &[u8]) -> [bool; PRODUCTION_LIMIT]
     ensures { result ≡ root_entries bytes.now }
 {
     let mut entries = [false; PRODUCTION_LIMIT];
-    let mut r = 0;
-    while r < PRODUCTION_LIMIT {
+    for r in 0..PRODUCTION_LIMIT {
         entries[r] = is_yes(bytes, r);
-        r += 1;
     }
     entries
 }
@@ -28,10 +27,7 @@ fn root_entries(bytes: &[u8]) -> [bool; PRODUCTION_LIMIT]
 fn is_yes(bytes: &[u8], r: usize) -> bool
     ensures { result ≡ not (eqb (get_or bytes.now r 0) 0) }
 {
-    if bytes.len() <= r {
-        return false;
-    }
-    bytes[r] != 0
+    r < bytes.len() && bytes[r] != 0
 }
 
 // Parses with at most the first 65,536 bytes of the listing's buffer.
@@ -41,7 +37,7 @@ fn parse_used(
     text: &[u8],
     chart: &mut [u8],
     listing: &mut [u8],
-) -> Answer
+) -> Result<Parses, Refusal>
     ensures { UsedOutcome (FlatOutcome flat.now (root_entries roots.now) text.now) chart.old listing.old result chart.new listing.new }
 {
     let most = used_part(listing.len());

@@ -2,7 +2,7 @@
 ghost use Rattle.meadowsink.specs.Sheet.{SheetCall};
 ghost use Rattle.reply.specs.Reply.{number_of, place_of};
 
-use reply::write::write_reply;
+use reply::count::count_reply;
 use reply::{number, place};
 use sheet::read_sheet;
 
@@ -16,7 +16,7 @@ pub extern "C" fn meadowsink_sheet(
 ) -> u64
     ensures { SheetCall number_of book.now sheet.now chart.old summary.old result chart.new summary.new }
 {
-    number(write_reply(read_sheet(book, sheet, chart, summary)))
+    number(count_reply(read_sheet(book, sheet, chart, summary)))
 }
 
 // Where the sheet is refused. It reads and writes as the call before does.
@@ -29,5 +29,5 @@ pub extern "C" fn meadowsink_sheet_place(
 ) -> u64
     ensures { SheetCall place_of book.now sheet.now chart.old summary.old result chart.new summary.new }
 {
-    place(write_reply(read_sheet(book, sheet, chart, summary)))
+    place(count_reply(read_sheet(book, sheet, chart, summary)))
 }

@@ -4,7 +4,7 @@ use native.Mathlib.Omega.{arith}
 use lib.ListN.{get_or-eq_default}
 use Rattle.meadowsink.proofs.read_flat.is_yes.Goals as goal
 
-pub returns-then-bytes-r : goal.returns-then-bytes-r
-returns-then-bytes-r c =
+pub returns : goal.returns
+returns c =
     let start = c in
     rw (get_or-eq_default start.args.bytes.now 0 {n = start.args.r} (omega arith)) refl

@@ -8,9 +8,9 @@ pub number-requires : goal.number-requires
 number-requires c =
     let a = c.args in
     let read = c.read_sheet in
-    rw c.write_reply.ensures (sheet_fits a.book.now a.sheet.now a.chart.now a.summary.now read.result read.new.chart read.new.summary read.ensures)
+    rw c.count_reply.ensures (sheet_fits a.book.now a.sheet.now a.chart.now a.summary.now read.result read.new.chart read.new.summary read.ensures)
 
 pub returns : goal.returns
 returns c =
     let read = c.read_sheet in
-    record { answer = read.result; outcome = read.ensures; is_number = c.number.ensures ∙ ap number_of c.write_reply.ensures }
+    record { answer = read.result; outcome = read.ensures; is_number = c.number.ensures ∙ ap number_of c.count_reply.ensures }

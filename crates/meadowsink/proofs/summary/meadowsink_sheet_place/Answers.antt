@@ -6,4 +6,4 @@ use Rattle.meadowsink.proofs.summary.meadowsink_sheet_place.Goals as goal
 pub returns : goal.returns
 returns c =
     let read = c.read_sheet in
-    record { answer = read.result; outcome = read.ensures; is_number = c.place.ensures ∙ ap place_of c.write_reply.ensures }
+    record { answer = read.result; outcome = read.ensures; is_number = c.place.ensures ∙ ap place_of c.count_reply.ensures }

@@ -12,9 +12,9 @@ pub number-requires : goal.number-requires
 number-requires c =
     let a = c.args in
     let bytes : (k : ℕ) → get_or a.book.now k 0 < characters = λ k. omega (arith, c.type_inv.book k) in
-    rw (c.write_reply.ensures, c.write_page.ensures.answer) (page_fits a.book.now a.text.now a.listing.now bytes (length a.page.now))
+    rw (c.count_reply.ensures, c.write_page.ensures.answer) (page_fits a.book.now a.text.now a.listing.now bytes (length a.page.now))
 
 pub returns : goal.returns
 returns c =
     let made = c.write_page in
-    record { answer = made.result; outcome = made.ensures; is_number = c.number.ensures ∙ ap number_of c.write_reply.ensures }
+    record { answer = made.result; outcome = made.ensures; is_number = c.number.ensures ∙ ap number_of c.count_reply.ensures }

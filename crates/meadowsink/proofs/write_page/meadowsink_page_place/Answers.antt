@@ -6,4 +6,4 @@ use Rattle.meadowsink.proofs.write_page.meadowsink_page_place.Goals as goal
 pub returns : goal.returns
 returns c =
     let made = c.write_page in
-    record { answer = made.result; outcome = made.ensures; is_number = c.place.ensures ∙ ap place_of c.write_reply.ensures }
+    record { answer = made.result; outcome = made.ensures; is_number = c.place.ensures ∙ ap place_of c.count_reply.ensures }
