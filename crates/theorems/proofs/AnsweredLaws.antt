@@ -2,23 +2,21 @@
 use Prim.Native.Nat.{ℕ}
 use mathlib.Core.Path.{◌≡◌, refl}
 use mathlib.Core.List.{List}
-use Rattle.engine.specs.Outcome.{Answered, UnlessRefused}
+use Rattle.engine.specs.Outcome.{Answer, Answered, UnlessRefused}
 use Rattle.engine.specs.Refusals.{too_long}
-use Rattle.engine.specs.declared.Answer.{Answer}
-use Rattle.engine.specs.declared.Answer.TheVariants.{Refused}
 use Rattle.flatten.specs.Reading.{Reading}
 use Rattle.refusal.proofs.VerdictLaws.{and_first, and_second}
-use Rattle.refusal.specs.Verdict.{and_then}
-use Rattle.refusal.specs.Verdict.{Verdict}
-use Rattle.grammar.specs.declared.Verdict.TheVariants.{accepted, Refused as Rejected}
+use Rattle.refusal.specs.Verdict.{Verdict, accepted, and_then}
+use Rattle.refusal.specs.declared.Refusal.{Refusal}
+use Rattle.std.specs.Prelude.{Ok, Err}
 use Rattle.parse.specs.Outcome.{too_short, refusal, reading_by, Outcome}
 use Rattle.priority.specs.Check.{checked}
 
-module _ (b w c₀ l₀ : List ℕ) (r : Answer) (c l : List ℕ) (other : (number place : ℕ) → r ≡ Refused number place → ⊥) where
+module _ (b w c₀ l₀ : List ℕ) (r : Answer) (c l : List ℕ) (other : (x : Refusal) → r ≡ Err x → ⊥) where
   answered_accepted : (v : Verdict) → UnlessRefused v (reading_by b w) c₀ l₀ r c l → (v ≡ accepted) × Answered (Reading b w) l₀ r l
   unfolding UnlessRefused
-  answered_accepted accepted h = (refl, h.answer)
-  answered_accepted (Rejected number place) h = absurd (other number place h.0)
+  answered_accepted (Ok _) h = (refl, h.answer)
+  answered_accepted (Err x) h = absurd (other x h.0)
 
   pub answered_parts : Outcome b w c₀ l₀ r c l → (checked b ≡ accepted) × (too_long w ≡ accepted) × Answered (Reading b w) l₀ r l
   unfolding Outcome refusal

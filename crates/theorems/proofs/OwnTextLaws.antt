@@ -19,8 +19,7 @@ use Rattle.charset.specs.Set.{characters}
 use Rattle.chart.specs.Layout.{chart_bytes}
 use Rattle.common.proofs.ListLaws.{length_tabulate, get_d_tabulate}
 use Rattle.engine.proofs.SameParsingLaws.{SameParsing, chart_bytes_same, unless_same}
-use Rattle.engine.specs.Outcome.{UnlessRefused}
-use Rattle.engine.specs.declared.Answer.{Answer}
+use Rattle.engine.specs.Outcome.{Answer, UnlessRefused}
 use Rattle.flatten.proofs.FlatLaws.{flat_length, flat_arguments, flat_class_at, flat_trees, flat_lists}
 use Rattle.flatten.proofs.FlatWrittenLaws.{flat_written}
 use Rattle.flatten.proofs.TableTextLaws.{flat_of_production}
@@ -41,9 +40,9 @@ use Rattle.priority.specs.Check.{checked}
 use Rattle.theorems.specs.Theorems.{start_entries}
 use Rattle.theory.specs.Tree.{Tree, Forest, production_number, yield, yields}
 
-module _ (b : List ℕ) (bytes : (k : ℕ) → get_or b k 0 < characters) (accepted : checked b ≡ accepted) where
+module _ (b : List ℕ) (bytes : (k : ℕ) → get_or b k 0 < characters) (good : checked b ≡ accepted) where
   abbrev formed : WellFormed b
-  formed = accepted_formed b accepted
+  formed = accepted_formed b good
 
   abbrev g : List Line
   g = flat_grammar b
@@ -145,7 +144,7 @@ module _ (b : List ℕ) (bytes : (k : ℕ) → get_or b k 0 < characters) (accep
     own_refusal c₀ =
         let need : chart_bytes (line_arity g) (length g) (length w) ≡ chart_bytes (argument_count b) (productions b) (length w) =
         chart_bytes_same (line_arity g) (argument_count b) (length g) (productions b) (length w) (flat_length b) arity_is_lem in
-        rw ((names_accepted g).1 no_names, root_accepted, accepted, need) refl
+        rw ((names_accepted g).1 no_names, root_accepted, good, need) refl
 
     -- What is promised of the flat text is promised of the grammar.
     pub own_outcome : (c₀ l₀ : List ℕ) (r : Answer) (c l : List ℕ) → FlatOutcome (grammar_text g) (start_entries b) w c₀ l₀ r c l → Outcome b w c₀ l₀ r c l

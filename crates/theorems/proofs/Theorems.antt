@@ -1,6 +1,6 @@
 -- The theorems of the page, each from the law that proves it.
 use Prim.Native.Nat.{ℕ, ◌+◌, ◌<◌}
-use mathlib.Core.Path.{◌≡◌, refl, sym, ◌∙◌, ap, subst, subst⁻¹, fun_ext}
+use mathlib.Core.Path.{◌≡◌, refl, sym, ◌∙◌, ap, subst, subst₂, subst⁻¹, fun_ext}
 use mathlib.Core.Bool.{true}
 use mathlib.Core.Logic.{◌↔◌, ⊎_elim, inl, inr}
 use mathlib.Core.List.{List}
@@ -18,10 +18,10 @@ use Rattle.ccg.specs.Text.{grammar_text}
 use Rattle.archive.proofs.ExactLaws.{refusal_named, refusal_ten, refusal_twenty, refused_exactly as flat_refused_exactly, form_exactly, flat_unchanged, flat_parsed}
 use Rattle.archive.proofs.UniqueLaws.{flat_unique}
 use Rattle.archive.specs.Outcome.{trees_of, FlatOutcome}
-use Rattle.engine.specs.Outcome.{Parsing, Parsed}
+use Rattle.engine.specs.Outcome.{Answer, Parsing, Parsed}
 use Rattle.form.proofs.CornerLaws.{all_corners, full_stops}
 use Rattle.form.proofs.FormLaws.{says_unique}
-use Rattle.load.proofs.CheckLaws.{loaded_says, checked_lines, checked_form, checked_absent, checked_numbers}
+use Rattle.load.proofs.CheckLaws.{loaded_says, checked_lines, checked_form, checked_absent, checked_faults}
 use Rattle.load.proofs.NamesLaws.{names_accepted}
 use Rattle.theorems.proofs.OwnTextLaws.{own_outcome}
 use Rattle.ccg.proofs.ListingLaws.{listing_determines}
@@ -33,10 +33,7 @@ use Rattle.charset.specs.Set.{characters, has, in_range}
 use Rattle.classes.proofs.ClassesLaws.{class_passes}
 use Rattle.common.proofs.BelowLaws.{between_in, between_ends}
 use Rattle.compare.proofs.OneLaws.{compared_one, ordered_exactly, not_compared_exactly as compare_refused, compared_numbers}
-use Rattle.compare.specs.Answer.{Compared}
-use Rattle.compare.specs.Refusals.{ComparisonRefused, first, second}
-use Rattle.compare.specs.declared.CompareAnswer.{CompareAnswer}
-use Rattle.compare.specs.declared.CompareAnswer.TheVariants.{Ordered, Refused as NotCompared}
+use Rattle.compare.specs.Answer.{CompareAnswer, Compared}
 use Rattle.ccg.specs.Ccg.{Class, Line, Generated}
 use Rattle.flatten.specs.Flat.{flat_class, flat_grammar, plain_class}
 use Rattle.engine.proofs.AnswerLaws.{none_exactly, none_buffer, several_exactly, several_buffer, one_exactly, one_buffer, long_exactly, long_buffer, refused_is_long}
@@ -49,7 +46,11 @@ use Rattle.theorems.proofs.ComparedLaws.{uses_listed, says_trees, compared_swapp
 use Rattle.theorems.proofs.OneRightLaws.{one_right}
 use Rattle.theorems.proofs.PassesLaws.{test_passes, tree_passes, flat_passes, table_passes}
 use Rattle.theorems.proofs.TurnedLaws.{turned_question, turned_listing, turned_page, turned_row, turned_part}
-use Rattle.std.specs.Prelude.{Err}
+use Rattle.refusal.proofs.FaultLaws.{never_six as no_six}
+use Rattle.refusal.specs.Verdict.{refusal, RefusedBy}
+use Rattle.refusal.specs.declared.Fault.TheVariants.{LongText, ShortChart, NoLine}
+use Rattle.refusal.specs.declared.Refusal.{Refusal}
+use Rattle.std.specs.Prelude.{Result, Ok, Err, Some}
 use Rattle.listing.proofs.RefusedLaws.{grammar_exactly as listing_grammar, ten_exactly as listing_ten, eleven_exactly, right_exactly}
 use Rattle.listing.specs.Answer.{listing_answer}
 use Rattle.marked.proofs.Marked.{marked_outcomes}
@@ -60,7 +61,6 @@ use Rattle.page.proofs.LinesLaws.{line_says, page_beyond, part_spelled, row_none
 use Rattle.page.proofs.RightLaws.{RightListing}
 use Rattle.page.proofs.UniqueLaws.{one_listed, page_one, row_one, part_one}
 use Rattle.page.specs.Answer.{page_length, PageAfter, PageOutcome}
-use Rattle.engine.specs.declared.Answer.{Answer}
 use Rattle.parse.specs.Outcome.{Outcome, reading_by}
 use Rattle.parse.proofs.AnswerLaws.{parsed_outcome, refused_unchanged, grammar_exactly, ten_exactly, twenty_exactly, text_numbers}
 use Rattle.parse.proofs.OutcomeLaws.{outcome_unique}
@@ -80,10 +80,11 @@ use Rattle.priority.specs.Check.{checked}
 use Rattle.priority.specs.Priorities.{Kind, left, right, nonassoc, kind_number, either_way, declaration_of, declarations_of}
 use Rattle.priority.specs.declared.Declaration.{Declaration}
 use Rattle.priority.specs.Spelled.{spelled_out}
-use Rattle.priority.proofs.RefusalLaws.{refused_first, first_refused, accepted_free, free_accepted, checked_not_six}
+use Rattle.priority.specs.Refusals.{First}
+use Rattle.priority.proofs.RefusalLaws.{refused_first, first_refused, accepted_free, free_accepted}
 use Rattle.priority.proofs.TurnedLaws.{turned_checked, turned_conflict, rising_judged}
 use Rattle.reason.proofs.ExactlyLaws.{free_exactly, refused_exactly as reason_refused_exactly, higher_exactly, first_exactly, last_exactly, chain_written, buffer_kept, one_answer, any_shortest}
-use Rattle.reason.specs.declared.ReasonAnswer.TheVariants.{Higher as ByChain}
+use Rattle.reason.specs.declared.Cause.TheVariants.{Higher as ByChain}
 use Rattle.rows.proofs.RowsLaws.{row_number}
 use Rattle.rows.proofs.UnderLaws.{row_stands}
 use Rattle.rows.specs.declared.Row.{Row}
@@ -97,8 +98,6 @@ use Rattle.sheet.proofs.WalkLaws.{walk_summary}
 use Rattle.tables.specs.Layout.{slot, takes_char}
 use Rattle.writing.proofs.DigitsLaws.{numeral_plain, numeral_only}
 use Rattle.writing.proofs.NumeralLaws.{numeral_value, numeral_leading}
-use Rattle.writing.specs.declared.WriteAnswer.{WriteAnswer}
-use Rattle.writing.specs.declared.WriteAnswer.TheVariants.{Written, Refused as NotWritten}
 use Rattle.theorems.specs.Theorems.{Bytes, AcceptedExactly, RefusedExactly, ConflictExactly, FlatExactly, Refuses, OneOutcome, ListingExactly, OneIsRight, Declares, FlatIsVisser, FlatIsCompleted, FlatTrees, FlatArguments, ReadingsAreFlat, Read, TextDetermines, Archived, FlatIsWritten, ListingDetermines, OneListed, PageExactly, PageSays, Pages, Parts, SaysOfGroup, GroupsSay, Spells, GroupsAreTheirPairs, SpelledBooks, PairsAsBefore, RangesSay, TurnedRangesSame, RangesCanRise, RisingRangesAsBefore, NeverSix, LinesSay, Sheets, LinesAlone, EachStep, WalkersGoDown, EqualExactly, ReadingsPart, SeveralPart, TwinsRefused, EqualAsBefore, NumeralsSay, FlatNumerals, PageNumerals, PassesClass, MarkedCases, RoundTrips, ChecksFlat, RefusesFlat, ReadFlat, OneFlatOutcome, start_entries, LodgedAndRead, Corners, Chains, Reasons, OneReason, UsesOfTrees, Compares, Swaps, Orders, AnswersInOrder, ReadExactly}
 
 -- ---- demand 1
@@ -107,7 +106,7 @@ pub accepted_exactly : AcceptedExactly
 accepted_exactly b = ((λ e. accepted_free b e), (λ h. free_accepted b h))
 
 pub refused_exactly : RefusedExactly
-refused_exactly b number place = ((λ e. refused_first b e), (λ h. first_refused b h))
+refused_exactly b number place = ((λ (x, e, n, k). subst₂ (First b) n k (refused_first b e)), (λ h. first_refused b h))
 
 pub conflict_exactly : (b : List ℕ) (p i q : ℕ) → ConflictExactly b p i q
 conflict_exactly b p i q =
@@ -120,7 +119,7 @@ flat_exactly b out₀ =
       too_long = flat_too_long b (length out₀);
       grammar = flat_grammar_lem b (length out₀);
       written = λ n text. refl;
-      unwritten = λ n k text. refl;
+      unwritten = λ x text. refl;
     }
 
 pub reading_refused : Refuses
@@ -225,16 +224,16 @@ page_exactly b w l room =
     }
 
 -- a page that was refused
-refused_page : (b w l page₀ : List ℕ) (r : WriteAnswer) (page : List ℕ) (n k : ℕ) → r ≡ NotWritten n k → PageAfter b w l page₀ r page → page ≡ page₀
+refused_page : (b w l page₀ : List ℕ) (r : Result ℕ Refusal) (page : List ℕ) (x : Refusal) → r ≡ Err x → PageAfter b w l page₀ r page → page ≡ page₀
 unfolding PageAfter
-refused_page b w l page₀ r page n k e after = subst (λ (a : WriteAnswer). PageAfter b w l page₀ a page) e after
+refused_page b w l page₀ r page x e after = subst (λ (a : Result ℕ Refusal). PageAfter b w l page₀ a page) e after
 
 -- and one that was written
-written_page : (b : List ℕ) → Bytes b → (w l page₀ : List ℕ) (r : WriteAnswer) (page : List ℕ) (n : ℕ) → r ≡ Written n → PageOutcome b w l page₀ r page → PageSays b w l page₀ page
+written_page : (b : List ℕ) → Bytes b → (w l page₀ : List ℕ) (r : Result ℕ Refusal) (page : List ℕ) (n : ℕ) → r ≡ Ok n → PageOutcome b w l page₀ r page → PageSays b w l page₀ page
 unfolding PageAfter page_length
 written_page b bytes w l page₀ r page n e o =
     let given : RightListing b w l = record { bytes = bytes; right = ((page_fits b w l (length page₀) n).0 (sym o.answer ∙ e)).0 } in
-    let (t, lent, after) : PageAfter b w l page₀ (Written n) page = subst (λ (a : WriteAnswer). PageAfter b w l page₀ a page) e o.after in
+    let (t, lent, after) : PageAfter b w l page₀ (Ok n) page = subst (λ (a : Result ℕ Refusal). PageAfter b w l page₀ a page) e o.after in
     record {
       tree = t;
       listed = lent;
@@ -249,7 +248,7 @@ pages b bytes w l page₀ r page o = (
   record {
     answer = o.answer;
     one = λ r' page' o'. page_one b bytes w l page₀ r r' page page' o o';
-    unchanged = λ n k e. refused_page b w l page₀ r page n k e o.after;
+    unchanged = λ x e. refused_page b w l page₀ r page x e o.after;
   },
   (λ n e. written_page b bytes w l page₀ r page n e o),
 )
@@ -355,26 +354,24 @@ ranges_can_rise b e =
 
 pub rising_ranges_as_before : RisingRangesAsBefore
 rising_ranges_as_before b rise =
-    record { class = rising_characters b rise; judged = rising_judged b (rising_passed b rise) }
+    record { class = rising_characters b rise; judged = λ six. rising_judged b (rising_passed b rise six) }
 
--- a comparison's refusals up to 11 are those of checking a listing
-six_compared : (b : List ℕ) (k : ℕ) → (checked b ≡ Refused 6 k → ⊥) → (w l m : List ℕ) → ComparisonRefused (listing_answer b w l) (listing_answer b w m) 6 k → ⊥
-six_compared b k none w l m (first e) = none ((listing_grammar b w l 6 k (omega arith)).0 e)
-six_compared b k none w l m (second h e) = none ((listing_grammar b w m 6 k (omega arith)).0 e)
+-- no refusal has number 6
+none_by_six : {A : Type 0} (v : Result A Refusal) (k : ℕ) → RefusedBy v 6 k → ⊥
+none_by_six v k (x, e, six, at) = no_six x.fault six
 
 pub never_six : (b : List ℕ) (k : ℕ) → NeverSix b k
 never_six b k =
-    let none = checked_not_six b in
     record {
-      check = none;
-      question = λ p i q e. ⊎_elim none (λ (_, _, n, _). omega arith) ((conflict_refused b p i q 6 k).0 e);
-      flat = λ room e. none ((flat_grammar_lem b room 6 k (omega arith)).0 e);
-      reading = λ w chart₀ l₀ r chart l o e. none ((grammar_exactly b w chart₀ l₀ r chart l o 6 k (omega arith)).0 e);
-      listing = λ w l e. none ((listing_grammar b w l 6 k (omega arith)).0 e);
-      compare = λ w l m r h e. six_compared b k none w l m ((compare_refused b w l m 6 k).0 (subst (Compared b w l m) e h));
-      page = λ w l room e. none ((listing_grammar b w l 6 k (omega arith)).0 ((page_refused b w l room 6 k (omega arith)).0 e));
-      sheet = λ s chart₀ m₀ r chart m o e. none ((sheet_grammar b s chart₀ m₀ r chart m o 6 k (omega arith)).0 e);
-      step = λ s start chart₀ r next chart o e. none ((step_grammar b s start chart₀ r next chart o 6 k (omega arith)).0 e);
+      check = none_by_six _ k;
+      question = λ p i q. none_by_six _ k;
+      flat = λ room. none_by_six _ k;
+      reading = λ w chart₀ l₀ r chart l o. none_by_six r k;
+      listing = λ w l. none_by_six _ k;
+      compare = λ w l m r h. none_by_six r k;
+      page = λ w l room. none_by_six _ k;
+      sheet = λ s chart₀ m₀ r chart m o. none_by_six r k;
+      step = λ s start chart₀ r next chart o. none_by_six r k;
     }
 
 -- ---- request 4
@@ -452,7 +449,7 @@ flat_numerals = grammar_names
 
 pub page_numerals : PageNumerals
 page_numerals b bytes w l page₀ n page o =
-    let says = written_page b bytes w l page₀ (Written n) page n refl o in
+    let says = written_page b bytes w l page₀ (Ok n) page n refl o in
     (says.tree, says.listed, λ k h. (says.line k h).numerals)
 
 pub passes_class : (b : List ℕ) (k c : ℕ) → PassesClass b k c
@@ -482,21 +479,21 @@ checks_flat text r h =
       lines = checked_lines text r h;
       not_in_form = checked_form text r h;
       absent = checked_absent text r h;
-      no_other = checked_numbers text r h;
+      no_other = checked_faults text r h;
     }
 
 pub refuses_flat : RefusesFlat
 refuses_flat flat roots w chart₀ l₀ r chart l o =
     record {
       not_in_form = form_exactly flat roots w chart₀ l₀ r chart l o;
-      absent = λ g says k. let answer = flat_refused_exactly flat roots w chart₀ l₀ r chart l o g says 28 k (λ e. omega arith) in
+      absent = λ g says k. let answer = flat_refused_exactly flat roots w chart₀ l₀ r chart l o g says (refusal NoLine k) (λ e. omega arith) in
           let line = refusal_named g roots w chart₀ k in (
             (λ e. ⊎_elim (λ f. inl f) (λ (a, f). inr ((names_accepted g).0 a, f)) (line.0 (answer.0 e))),
             (λ h. answer.1 (line.1 (⊎_elim (λ f. inl f) (λ (a, f). inr ((names_accepted g).1 a, f)) h))),
           );
-      ten = λ g says k. let answer = flat_refused_exactly flat roots w chart₀ l₀ r chart l o g says 10 k (λ e. omega arith) in
+      ten = λ g says k. let answer = flat_refused_exactly flat roots w chart₀ l₀ r chart l o g says (refusal LongText k) (λ e. omega arith) in
           let line = refusal_ten g roots w chart₀ k in ((λ e. line.0 (answer.0 e)), (λ h. answer.1 (line.1 h)));
-      twenty = λ g says k. let answer = flat_refused_exactly flat roots w chart₀ l₀ r chart l o g says 20 k (λ e. omega arith) in
+      twenty = λ g says k. let answer = flat_refused_exactly flat roots w chart₀ l₀ r chart l o g says (refusal ShortChart k) (λ e. omega arith) in
           let line = refusal_twenty g roots w chart₀ k in ((λ e. line.0 (answer.0 e)), (λ h. answer.1 (line.1 h)));
       unchanged = flat_unchanged flat roots w chart₀ l₀ r chart l o;
     }
@@ -543,7 +540,7 @@ one_reason b p i q chain₀ =
     record {
       answer = one_answer b p i q chain₀;
       kept = buffer_kept b p i q chain₀;
-      written = λ n chain o. let w = chain_written b p i q chain₀ (ByChain n) chain o n refl in (w.chain, w.shortest, w.is_length, w.is_written);
+      written = λ n chain o. let w = chain_written b p i q chain₀ (Ok (Some (ByChain n))) chain o n refl in (w.chain, w.shortest, w.is_length, w.is_written);
       unfixed = any_shortest b p i q chain₀;
     }
 
@@ -557,10 +554,10 @@ compares b w l m r h =
     let moved : (x : CompareAnswer) → (r ≡ x) ↔ Compared b w l m x =
     λ x. ((λ e. subst (Compared b w l m) e h), (λ k. compared_one b w l m r x h k)) in
     record {
-      ordered = λ o. ((λ e. (ordered_exactly b w l m o).0 ((moved (Ordered o)).0 e)), (λ k. (moved (Ordered o)).1 ((ordered_exactly b w l m o).1 k)));
-      trees = λ bytes o e. says_trees b w l m bytes o ((moved (Ordered o)).0 e);
-      refused = λ n k. ((λ e. (compare_refused b w l m n k).0 ((moved (NotCompared n k)).0 e)), (λ x. (moved (NotCompared n k)).1 ((compare_refused b w l m n k).1 x)));
-      no_other = λ n k e. compared_numbers b w l m n k ((moved (NotCompared n k)).0 e);
+      ordered = λ o. ((λ e. (ordered_exactly b w l m o).0 ((moved (Ok o)).0 e)), (λ k. (moved (Ok o)).1 ((ordered_exactly b w l m o).1 k)));
+      trees = λ bytes o e. says_trees b w l m bytes o ((moved (Ok o)).0 e);
+      refused = λ x. ((λ e. (compare_refused b w l m x).0 ((moved (Err x)).0 e)), (λ h. (moved (Err x)).1 ((compare_refused b w l m x).1 h)));
+      no_other = λ x e. compared_numbers b w l m x ((moved (Err x)).0 e);
       one = λ r' k. compared_one b w l m r r' h k;
     }
 

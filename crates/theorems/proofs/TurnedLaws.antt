@@ -10,21 +10,20 @@ use Rattle.flatten.proofs.TurnedLaws.{turned_flat, turned_root, turned_reading}
 use Rattle.grammar.proofs.SameFrontLaws.{same_productions, same_count}
 use Rattle.grammar.proofs.TurnedLaws.{turned_front, turned_back}
 use Rattle.grammar.specs.Turned.{TurnedRound}
-use Rattle.refusal.specs.Verdict.{unless_refused}
-use Rattle.listing.specs.Answer.{judged, listing_answer}
-use Rattle.listing.specs.declared.ListingAnswer.{ListingAnswer}
-use Rattle.listing.specs.declared.ListingAnswer.TheVariants.{Right, Wrong, Refused as NotChecked}
+use Rattle.refusal.specs.Verdict.{refused, unless_refused}
+use Rattle.refusal.specs.declared.Fault.TheVariants.{Absent}
+use Rattle.refusal.specs.declared.Refusal.{Refusal}
+use Rattle.std.specs.Prelude.{Result, Ok, Err}
+use Rattle.listing.specs.Answer.{ListingAnswer, judged, listing_answer}
+use Rattle.listing.specs.declared.Judgement.TheVariants.{Right, Wrong}
 use Rattle.page.specs.Answer.{Listed, page_length, page_if, page_answer, PageAfter, PageOutcome, RowIf, RowUnder, TextUnder}
 use Rattle.priority.proofs.TurnedLaws.{turned_checked, turned_conflicts}
 use Rattle.priority.specs.Check.{checked}
 use Rattle.priority.specs.Conflict.{conflicts}
 use Rattle.question.proofs.AnswerLaws.{there_test, test_there}
-use Rattle.question.specs.Answer.{There, is_there, yes_or_no, conflict_answer}
-use Rattle.question.specs.declared.ConflictAnswer.TheVariants.{Refused as NotAsked}
+use Rattle.question.specs.Answer.{There, is_there, own_answer, conflict_answer}
 use Rattle.rows.specs.declared.Row.{Row}
 use Rattle.theory.specs.Tree.{Tree}
-use Rattle.writing.specs.declared.WriteAnswer.{WriteAnswer}
-use Rattle.writing.specs.declared.WriteAnswer.TheVariants.{Written, Refused}
 
 module _ (b c : List ℕ) (t : TurnedRound b c) where
   -- ---- the conflict question
@@ -37,8 +36,8 @@ module _ (b c : List ℕ) (t : TurnedRound b c) where
         (omega (arith, same_productions b c same), omega (arith, same_count b c same p lp), omega (arith, same_productions b c same))
 
     -- the answer, if nothing is refused
-    own_same : (v : Bool) → (v ≡ true → There b p i q) → cond v (yes_or_no (conflicts c p i q)) (NotAsked 7 0) ≡ cond v (yes_or_no (conflicts b p i q)) (NotAsked 7 0)
-    own_same true h = let (lp, li, lq) = h refl in ap yes_or_no (turned_conflicts b c t p i q lp li lq)
+    own_same : (v : Bool) → (v ≡ true → There b p i q) → cond v (Ok (conflicts c p i q)) (refused Absent 0) ≡ cond v (Ok (conflicts b p i q)) (refused Absent 0)
+    own_same true h = let (lp, li, lq) = h refl in ap Ok (turned_conflicts b c t p i q lp li lq)
     own_same false h = refl
 
   -- ---- checking a listing
@@ -57,19 +56,19 @@ module _ (b c : List ℕ) (t : TurnedRound b c) where
     unfolding page_answer
     turned_page_answer room = ap (λ (a : ListingAnswer). page_if a (page_length l) room) (turned_listing w l)
 
-    turned_after : (page₀ : List ℕ) (r : WriteAnswer) (page : List ℕ) → PageAfter c w l page₀ r page → PageAfter b w l page₀ r page
+    turned_after : (page₀ : List ℕ) (r : Result ℕ Refusal) (page : List ℕ) → PageAfter c w l page₀ r page → PageAfter b w l page₀ r page
     unfolding PageAfter
-    turned_after page₀ (Written n) page (u, h, e) = (u, turned_listed h, e)
-    turned_after page₀ (Refused number place) page h = h
+    turned_after page₀ (Ok n) page (u, h, e) = (u, turned_listed h, e)
+    turned_after page₀ (Err x) page h = h
 
-    pub turned_page : (page₀ : List ℕ) (r : WriteAnswer) (page : List ℕ) → PageOutcome c w l page₀ r page → PageOutcome b w l page₀ r page
+    pub turned_page : (page₀ : List ℕ) (r : Result ℕ Refusal) (page : List ℕ) → PageOutcome c w l page₀ r page → PageOutcome b w l page₀ r page
     turned_page page₀ r page o = record { answer = o.answer ∙ turned_page_answer (length page₀); after = turned_after page₀ r page o.after }
 
     turned_row_if : (a : ListingAnswer) (index : ℕ) (r : Row) → RowIf a c w l index r → RowIf a b w l index r
     unfolding RowIf
-    turned_row_if Right index r (u, h, e) = (u, turned_listed h, e)
-    turned_row_if (Wrong k) index r h = h
-    turned_row_if (NotChecked number place) index r h = h
+    turned_row_if (Ok Right) index r (u, h, e) = (u, turned_listed h, e)
+    turned_row_if (Ok (Wrong k)) index r h = h
+    turned_row_if (Err x) index r h = h
 
     pub turned_row : (index : ℕ) (r : Row) → RowUnder c w l index r → RowUnder b w l index r
     turned_row index r h =
@@ -90,4 +89,4 @@ turned_question b c t p i q =
     same_test (is_there c p i q) (is_there b p i q)
     (λ e. there_test b p i q (turned_there c b (turned_back b c t) p i q (test_there c p i q e)))
     (λ e. there_test c p i q (turned_there b c t p i q (test_there b p i q e))) in
-    rw (turned_checked b c t, there) (ap (unless_refused NotAsked (checked b)) (own_same b c t p i q (is_there b p i q) (test_there b p i q)))
+    rw (turned_checked b c t, there) (ap (unless_refused (checked b)) (own_same b c t p i q (is_there b p i q) (test_there b p i q)))

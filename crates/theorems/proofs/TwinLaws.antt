@@ -21,9 +21,10 @@ use Rattle.grammar.proofs.EqualLaws.{argument_exactly, equal_exactly, equal_sym}
 use Rattle.refusal.proofs.VerdictLaws.{refuse_accepted, refuse_case, and_first, and_second, accepted_last, first_all, first_pass, first_same, first_of, order_append}
 use Rattle.grammar.specs.Check.{short_header, bad_header, short_contents, bad_argument_counts, bad_range_counts, bad_length, bad_productions, bad_declarations, same_production, repeated_production, repeated_productions}
 use Rattle.grammar.specs.Equal.{OneArgument}
-use Rattle.refusal.specs.Verdict.{refuse_if, and_then, in_order}
-use Rattle.refusal.specs.Verdict.{Verdict}
-use Rattle.std.specs.Prelude.{Err}
+use Rattle.refusal.specs.Verdict.{Verdict, refusal, refused, refuse_if, and_then, in_order}
+use Rattle.refusal.specs.declared.Fault.TheVariants.{Repeated}
+use Rattle.refusal.specs.declared.Refusal.{Refusal}
+use Rattle.std.specs.Prelude.{Ok, Err}
 use Rattle.refusal.specs.Verdict.{accepted}
 use Rattle.layout.specs.Layout.{sorts, productions, classes, argument_count, production_at, result_sort, argument}
 use Rattle.layout.specs.Limits.{sort_limit, class_base}
@@ -136,7 +137,7 @@ module _ (b : List ℕ) where
   unfolding repeated_production
   former_passed e =
       first_pass _ (productions b) (λ p l.
-      let never = any_never (same_production b p) p (refuse_accepted _ 8 _ (first_all (repeated_production b) (productions b) e p l)) in
+      let never = any_never (same_production b p) p (refuse_accepted _ Repeated _ (first_all (repeated_production b) (productions b) e p l)) in
       let none : any_below p (former_equal b p) ≡ false =
       ⊎_elim
       (λ t. let (q, m, s) = any_found (former_equal b p) p t in not_both (same_production b p q) (bytes_equal p q s) (never q m))
@@ -144,13 +145,13 @@ module _ (b : List ℕ) where
       (true_or_false (any_below p (former_equal b p))) in
       rw none refl)
 
-  -- 8 is its number
-  eight : {n k : ℕ} → repeated_productions b ≡ Refused n k → n ≡ 8
+  -- that is its fault
+  eight : {r : Refusal} → repeated_productions b ≡ Err r → r ≡ refusal Repeated r.place
   unfolding repeated_production
   eight e =
       let f = first_of (repeated_production b) (productions b) e in
       let p = f.index in
-      refuse_case (λ n k. n ≡ 8) (any_below p (same_production b p)) 8 (production_at b p) f.refused (λ t. refl)
+      refuse_case (λ r. r ≡ refusal Repeated r.place) (any_below p (same_production b p)) Repeated (production_at b p) f.refused (λ t. refl)
 
   -- the lines of the table before 8
   before8 : List Verdict
@@ -171,11 +172,11 @@ module _ (b : List ℕ) where
       let back = and_second (in_order before8) _ whole in
       former_eight_lem ∙ rw (front, former_passed (and_first (repeated_productions b) (circles b) back)) (and_second (repeated_productions b) (circles b) back)
 
-  by_eight : (v : Verdict) → repeated_productions b ≡ v → checked b ≡ v → (checked b ≡ accepted) ⊎ ((place : ℕ) × (checked b ≡ Refused 8 place))
-  by_eight accepted e h = inl h
-  by_eight (Refused n k) e h = inr (k, h ∙ ap (λ (m : ℕ). Refused m k) (eight e))
+  by_eight : (v : Verdict) → repeated_productions b ≡ v → checked b ≡ v → (checked b ≡ accepted) ⊎ ((place : ℕ) × (checked b ≡ refused Repeated place))
+  by_eight (Ok _) e h = inl h
+  by_eight (Err r) e h = inr (r.place, h ∙ ap Err (eight e))
 
-  pub refused_now_lem : former_checked b ≡ accepted → (checked b ≡ accepted) ⊎ ((place : ℕ) × (checked b ≡ Refused 8 place))
+  pub refused_now_lem : former_checked b ≡ accepted → (checked b ≡ accepted) ⊎ ((place : ℕ) × (checked b ≡ refused Repeated place))
   refused_now_lem e =
       let whole = sym former_eight_lem ∙ e in
       let front = and_first (in_order before8) _ whole in
@@ -214,7 +215,7 @@ module _ (b : List ℕ) where
 
     same_eight : repeated_productions b ≡ former_eight b
     unfolding repeated_production
-    same_eight = first_same _ _ (productions b) (λ p l. ap (λ (v : Bool). refuse_if v 8 (production_at b p)) (any_same _ _ p (λ q m. same_bytes p q)))
+    same_eight = first_same _ _ (productions b) (λ p l. ap (λ (v : Bool). refuse_if v Repeated (production_at b p)) (any_same _ _ p (λ q m. same_bytes p q)))
 
     pub judged_as_before : checked b ≡ former_checked b
     judged_as_before = checked_eight ∙ ap (λ (v : Verdict). and_then (in_order before8) (and_then v (circles b))) same_eight ∙ sym former_eight_lem

@@ -26,7 +26,7 @@
 -- (rows/specs/Rows). `uses l`: how often each production's number stands in the listing l (compare/specs/Uses); `Lower b m n`: what has the uses m is below what has the uses n
 -- (order/specs/Order). `LineBy b w chart₀ v chart`: the line w is read, has summary byte v, and leaves the chart so; `InTurn`: lines are read in turn, the chart handed on
 -- (sheet/specs/Outcome). `Only P t`: P holds of t and of nothing else; `Two P`: of two different things; `Counts P v`: of none, one or two, as v is 0, 1 or 2 (theory/specs/Counts).
-use Rattle.std.specs.Prelude.{ℕ, ◌+◌, ◌*◌, ◌/◌, ◌%◌, ◌≤◌, ◌<◌, ◌≡◌, Bool, false, true, ◌&&◌, List, [], ◌∷◌, ◌++◌, map, ◌↔◌, ◌⊎◌, leb, ltb, eqb, pos, neg_ℤ, length, get_or, take, drop}
+use Rattle.std.specs.Prelude.{ℕ, ◌+◌, ◌*◌, ◌/◌, ◌%◌, ◌≤◌, ◌<◌, ◌≡◌, Bool, false, true, ◌&&◌, List, [], ◌∷◌, ◌++◌, map, ◌↔◌, ◌⊎◌, leb, ltb, eqb, pos, neg_ℤ, length, get_or, take, drop, cond, Result, Ok, Err, Option, Some, None as Nothing}
 use Rattle.std.proofs.Math.Seq.{slice}
 use Rattle.ccg.specs.Ccg.{Class, Line, OwnNumbers, Generated}
 use Rattle.flatten.specs.Flat.{flat_class, flat_grammar_in, flat_grammar, plain_class}
@@ -37,42 +37,36 @@ use Rattle.flatten.specs.Tables.{FlatTables}
 use Rattle.flatten.specs.Trees.{Built, ConflictFree, Apart}
 use Rattle.flatten.specs.Visser.{visser_grammar, completed_grammar, SingleHigher}
 use Rattle.ccg.specs.Written.{WrittenForm}
-use Rattle.writing.specs.declared.WriteAnswer.TheVariants.{Written, Refused as NotWritten}
 use Rattle.charset.specs.Set.{characters, has, spans}
 use Rattle.chart.specs.Counted.{entry_of}
 use Rattle.chart.specs.Layout.{text_limit, chart_bytes}
-use Rattle.compare.specs.Answer.{Compared}
+use Rattle.compare.specs.Answer.{CompareAnswer, Compared}
 use Rattle.compare.specs.Refusals.{ComparisonRefused}
 use Rattle.compare.specs.Uses.{uses, tree_uses}
-use Rattle.compare.specs.declared.CompareAnswer.{CompareAnswer}
-use Rattle.compare.specs.declared.CompareAnswer.TheVariants.{Ordered, Refused as NotCompared}
 use Rattle.classes.specs.Classes.{class_has, SomeRangeHas, SetOf, same_class}
 use Rattle.common.specs.Below.{all_below, any_below}
 use Rattle.archive.specs.Outcome.{line_arity, trees_of, FlatOutcome, LowestRoot, AllThere}
 use Rattle.ccg.specs.Tables.{table_grammar}
 use Rattle.common.specs.Lists.{tabulate, All}
-use Rattle.engine.specs.Outcome.{Parsing}
+use Rattle.engine.specs.Outcome.{Answer, Parsing}
 use Rattle.form.specs.Corners.{corner, StopsThere, corners}
 use Rattle.form.specs.Form.{Writable, Says, NotInForm}
 use Rattle.load.specs.Absent.{Names, FirstNamed}
 use Rattle.load.specs.Check.{Checked, Loaded}
-use Rattle.load.specs.declared.FlatAnswer.{FlatAnswer}
-use Rattle.load.specs.declared.FlatAnswer.TheVariants.{Lines, Refused as NotLoaded}
-use Rattle.engine.specs.declared.Answer.{Answer}
-use Rattle.engine.specs.declared.Answer.TheVariants.{None, One, Several, Refused as NotRead}
+use Rattle.engine.specs.declared.Parses.TheVariants.{None, One, Several}
 use Rattle.numbers.specs.Written.{bytes_of}
 use Rattle.grammar.specs.Check.{outside, short_header, bad_header, short_contents, bad_argument_counts, bad_range_counts, bad_length, bad_productions, is_group, bad_declaration, bad_declarations, same_production, repeated_productions}
 use Rattle.grammar.specs.Equal.{OneProduction}
 use Rattle.grammar.specs.Turned.{TurnedRound, RangesRise, risen}
-use Rattle.refusal.specs.Verdict.{refuse_if, first_refusal, in_order}
-use Rattle.refusal.specs.Verdict.{Verdict}
-use Rattle.std.specs.Prelude.{Err}
-use Rattle.refusal.specs.Verdict.{accepted}
+use Rattle.refusal.specs.Fault.{number_of}
+use Rattle.refusal.specs.Verdict.{Verdict, accepted, refusal, refused, RefusedBy, refuse_if, first_refusal, in_order}
+use Rattle.refusal.specs.declared.Fault.TheVariants.{Absent, Repeated, LongText, BadListing, ShortChart, LongFlat, LongListing, WrongListing, LongPage, LongSheet, ShortSummary, Form, NoLine}
+use Rattle.refusal.specs.declared.Refusal.{Refusal}
 use Rattle.layout.specs.Layout.{productions, classes, declarations, start_sort, argument_count, range_count, production_at, result_sort, argument, range_at, low, high, declaration_at, kind, first, second}
 use Rattle.layout.specs.Limits.{production_limit, class_base, pair_kind_limit}
 use Rattle.listing.specs.Answer.{byte_limit, listing_answer}
 use Rattle.numbers.specs.Numbers.{numbers_of}
-use Rattle.listing.specs.declared.ListingAnswer.TheVariants.{Right, Wrong, Refused as NotChecked}
+use Rattle.listing.specs.declared.Judgement.TheVariants.{Right, Wrong}
 use Rattle.marked.specs.Cases.{Promised, table}
 use Rattle.order.specs.Order.{Uses, Lower, EqualCounts, OrderIs, order_number, swapped}
 use Rattle.order.specs.declared.Order.{Order}
@@ -88,10 +82,9 @@ use Rattle.priority.specs.Priorities.{Kind, left, right, nonassoc, kind_number, 
 use Rattle.priority.specs.declared.Declaration.{Declaration}
 use Rattle.priority.specs.Spelled.{IsOfTwo, spelled_out, spelled_grammar}
 use Rattle.priority.specs.Refusals.{Holds, First}
-use Rattle.question.specs.declared.ConflictAnswer.TheVariants.{Yes, No, Refused as NotAsked}
 use Rattle.reason.specs.Reason.{Asked, LowestLine, LowestDeclaration, Reasoned}
-use Rattle.reason.specs.declared.ReasonAnswer.{ReasonAnswer}
-use Rattle.reason.specs.declared.ReasonAnswer.TheVariants.{Free, Higher as ByChain, AtFirst, AtLast, Refused as NotReasoned}
+use Rattle.reason.specs.declared.Cause.{Cause}
+use Rattle.reason.specs.declared.Cause.TheVariants.{Higher as ByChain, AtFirst, AtLast}
 use Rattle.rows.specs.Rows.{no_row, rows}
 use Rattle.rows.specs.Under.{Stands}
 use Rattle.rows.specs.declared.Row.{Row}
@@ -99,16 +92,13 @@ use Rattle.shortest.specs.Chain.{Leads, Shortest}
 use Rattle.shortest.specs.Written.{chain_after}
 use Rattle.split.specs.Joined.{joined_lines, NoFeed, ended}
 use Rattle.split.specs.Lines.{lines, line_at}
-use Rattle.sheet.specs.Outcome.{byte_of, LineBy, InTurn, SheetOutcome, StepOutcome}
+use Rattle.sheet.specs.Outcome.{byte_of, LineBy, InTurn, Step, SheetOutcome, StepOutcome}
 use Rattle.sheet.specs.Walk.{Steps, given}
-use Rattle.sheet.specs.declared.Step.{Step}
-use Rattle.sheet.specs.declared.Step.TheVariants.{End, Line as LineRead, Refused as NotTaken}
 use Rattle.tables.specs.Layout.{slot, takes_char}
 use Rattle.theory.specs.Counts.{Only, Two, Counts}
 use Rattle.writing.specs.Answer.{buffer_after}
 use Rattle.writing.specs.Digits.{Plain, numerals_in}
 use Rattle.writing.specs.Numeral.{digit_zero, numeral, value_of}
-use Rattle.writing.specs.declared.WriteAnswer.{WriteAnswer}
 use Rattle.theory.specs.Tree.{Tree, leaf, node, Forest, production_number, yield, listing, Subtree}
 
 -- The numbers of a list are bytes, as those of a slice are.
@@ -122,33 +112,35 @@ Bytes l = (k : ℕ) → get_or l k 0 < characters
 abbrev pub AcceptedExactly : Type 0
 AcceptedExactly = (b : List ℕ) → (checked b ≡ accepted) ↔ ((stage number place : ℕ) → Holds b stage number place → ⊥)
 
+-- A refusal (refusal/specs/Verdict) is a fault, which has a number (refusal/specs/Fault), and a place. `RefusedBy v number place`: v is a refusal, with this number and place.
+
 -- It is refused exactly by the first line that holds: the paper's order of lines, and in one stage the lowest place.
 abbrev pub RefusedExactly : Type 0
-RefusedExactly = (b : List ℕ) (number place : ℕ) → (checked b ≡ Refused number place) ↔ First b number place
+RefusedExactly = (b : List ℕ) (number place : ℕ) → RefusedBy (checked b) number place ↔ First b number place
 
 -- Does production q conflict as argument i of p? Yes, no, and 7 with place 0 if one of them isn't there, for every b, p, i and q; no refusal comes but this and
 -- the grammar's.
 pub record ConflictExactly (b : List ℕ) (p i q : ℕ) : Type 0 where
-  pub yes : (conflict_answer b p i q ≡ Yes) ↔ ((checked b ≡ accepted) × There b p i q × Conflict b p i q)
-  pub no : (conflict_answer b p i q ≡ No) ↔ ((checked b ≡ accepted) × There b p i q × (Conflict b p i q → ⊥))
-  pub absent : (conflict_answer b p i q ≡ NotAsked 7 0) ↔ ((checked b ≡ accepted) × (There b p i q → ⊥))
-  pub refused : (n k : ℕ) → (conflict_answer b p i q ≡ NotAsked n k) ↔ ((checked b ≡ Refused n k) ⊎ ((checked b ≡ accepted) × (There b p i q → ⊥) × (n ≡ 7) × (k ≡ 0)))
+  pub yes : (conflict_answer b p i q ≡ Ok true) ↔ ((checked b ≡ accepted) × There b p i q × Conflict b p i q)
+  pub no : (conflict_answer b p i q ≡ Ok false) ↔ ((checked b ≡ accepted) × There b p i q × (Conflict b p i q → ⊥))
+  pub absent : (conflict_answer b p i q ≡ refused Absent 0) ↔ ((checked b ≡ accepted) × (There b p i q → ⊥))
+  pub refused : (x : Refusal) → (conflict_answer b p i q ≡ Err x) ↔ ((checked b ≡ Err x) ⊎ ((checked b ≡ accepted) × (There b p i q → ⊥) × (x ≡ refusal Absent 0)))
 
 -- The text of the character class grammar (flat book) is written exactly if it fits the buffer, which held out₀, and else refused with 21 and its length; the buffer
 -- then starts with the text, or is unchanged. For every b and out₀.
 pub record FlatExactly (b out₀ : List ℕ) : Type 0 where
-  pub fits : (n : ℕ) → (flat_answer b (length out₀) ≡ Written n) ↔ ((checked b ≡ accepted) × (n ≡ length (grammar_text (flat_grammar b))) × (n ≤ length out₀))
-  pub too_long : (k : ℕ) → (flat_answer b (length out₀) ≡ NotWritten 21 k) ↔ ((checked b ≡ accepted) × (k ≡ length (grammar_text (flat_grammar b))) × (length out₀ < k))
-  pub grammar : (n k : ℕ) → n ≤ 9 → (flat_answer b (length out₀) ≡ NotWritten n k) ↔ (checked b ≡ Refused n k)
-  pub written : (n : ℕ) (text : List ℕ) → buffer_after (Written n) text out₀ ≡ text ++ drop (length text) out₀
-  pub unwritten : (n k : ℕ) (text : List ℕ) → buffer_after (NotWritten n k) text out₀ ≡ out₀
+  pub fits : (n : ℕ) → (flat_answer b (length out₀) ≡ Ok n) ↔ ((checked b ≡ accepted) × (n ≡ length (grammar_text (flat_grammar b))) × (n ≤ length out₀))
+  pub too_long : (k : ℕ) → (flat_answer b (length out₀) ≡ refused LongFlat k) ↔ ((checked b ≡ accepted) × (k ≡ length (grammar_text (flat_grammar b))) × (length out₀ < k))
+  pub grammar : (x : Refusal) → number_of x.fault ≤ 9 → (flat_answer b (length out₀) ≡ Err x) ↔ (checked b ≡ Err x)
+  pub written : (n : ℕ) (text : List ℕ) → buffer_after (Ok n) text out₀ ≡ text ++ drop (length text) out₀
+  pub unwritten : (x : Refusal) (text : List ℕ) → buffer_after (Err x) text out₀ ≡ out₀
 
 -- Reading a text is refused with 1 to 9, 10 and 20 exactly so, and by these refusals nothing is changed.
 pub record ReadingRefused (b w chart₀ l₀ : List ℕ) (r : Answer) (chart l : List ℕ) : Type 0 where
-  pub grammar : (n k : ℕ) → n ≤ 9 → (r ≡ NotRead n k) ↔ (checked b ≡ Refused n k)
-  pub ten : (k : ℕ) → (r ≡ NotRead 10 k) ↔ ((checked b ≡ accepted) × (text_limit < length w) × (k ≡ length w))
-  pub twenty : (k : ℕ) → (r ≡ NotRead 20 k) ↔ ((checked b ≡ accepted) × (length w ≤ text_limit) × (k ≡ needed b (length w)) × (length chart₀ < k))
-  pub unchanged : (n k : ℕ) → (n ≡ 22 → ⊥) → r ≡ NotRead n k → (chart ≡ chart₀) × (l ≡ l₀)
+  pub grammar : (x : Refusal) → number_of x.fault ≤ 9 → (r ≡ Err x) ↔ (checked b ≡ Err x)
+  pub ten : (k : ℕ) → (r ≡ refused LongText k) ↔ ((checked b ≡ accepted) × (text_limit < length w) × (k ≡ length w))
+  pub twenty : (k : ℕ) → (r ≡ refused ShortChart k) ↔ ((checked b ≡ accepted) × (length w ≤ text_limit) × (k ≡ needed b (length w)) × (length chart₀ < k))
+  pub unchanged : (x : Refusal) → (number_of x.fault ≡ 22 → ⊥) → r ≡ Err x → (chart ≡ chart₀) × (l ≡ l₀)
 
 abbrev pub Refuses : Type 0
 Refuses = (b w chart₀ l₀ : List ℕ) (r : Answer) (chart l : List ℕ) → Outcome b w chart₀ l₀ r chart l → ReadingRefused b w chart₀ l₀ r chart l
@@ -161,16 +153,16 @@ OneOutcome =
 
 -- A listing is found right exactly if it is that of a reading and nothing is refused; the refusals come exactly so. For every w and l, and every b of bytes.
 pub record ListingExactly (b w l : List ℕ) : Type 0 where
-  pub right : (listing_answer b w l ≡ Right) ↔ ((checked b ≡ accepted) × (length w ≤ text_limit) × (length l % 2 ≡ 0) × (length l ≤ byte_limit) × ((t : Tree) × Reading b w t × (listing t ≡ numbers_of l)))
-  pub grammar : (n k : ℕ) → n ≤ 9 → (listing_answer b w l ≡ NotChecked n k) ↔ (checked b ≡ Refused n k)
-  pub ten : (k : ℕ) → (listing_answer b w l ≡ NotChecked 10 k) ↔ ((checked b ≡ accepted) × (text_limit < length w) × (k ≡ length w))
-  pub eleven : (k : ℕ) → (listing_answer b w l ≡ NotChecked 11 k) ↔ ((checked b ≡ accepted) × (length w ≤ text_limit) × ((length l % 2 ≡ 1) ⊎ (byte_limit < length l)) × (k ≡ length l))
+  pub right : (listing_answer b w l ≡ Ok Right) ↔ ((checked b ≡ accepted) × (length w ≤ text_limit) × (length l % 2 ≡ 0) × (length l ≤ byte_limit) × ((t : Tree) × Reading b w t × (listing t ≡ numbers_of l)))
+  pub grammar : (x : Refusal) → number_of x.fault ≤ 9 → (listing_answer b w l ≡ Err x) ↔ (checked b ≡ Err x)
+  pub ten : (k : ℕ) → (listing_answer b w l ≡ refused LongText k) ↔ ((checked b ≡ accepted) × (text_limit < length w) × (k ≡ length w))
+  pub eleven : (k : ℕ) → (listing_answer b w l ≡ refused BadListing k) ↔ ((checked b ≡ accepted) × (length w ≤ text_limit) × ((length l % 2 ≡ 1) ⊎ (byte_limit < length l)) × (k ≡ length l))
 
 -- What reading answered with one is found right, if it isn't too long to be checked.
 abbrev pub OneIsRight : Type 0
 OneIsRight =
     (b : List ℕ) → Bytes b → (w chart₀ l₀ : List ℕ) (n : ℕ) (chart l : List ℕ)
-    → Outcome b w chart₀ l₀ (One n) chart l → 2 * n ≤ byte_limit → listing_answer b w (take (2 * n) l) ≡ Right
+    → Outcome b w chart₀ l₀ (Ok (One n)) chart l → 2 * n ≤ byte_limit → listing_answer b w (take (2 * n) l) ≡ Ok Right
 
 -- ---- 2. "The flat book is the one that Visser's 'From Context-free Grammars with Priorities to Character Class Grammars' defines from the book. Each tree of the
 -- book without a clash is a tree of the flat book under the same rules, and each tree of the flat book is such a tree of the book."
@@ -212,11 +204,11 @@ ReadingsAreFlat =
 -- A `Parsing` (engine/specs/Outcome) says which trees are the readings of a text of `size` characters, and which lists of trees each entry of the chart counts, for `count`
 -- productions with so many arguments each: for a grammar `reading_by b w`, with `Reading b w` and `EntryList b w`; for a flat text `trees_of` (request 7).
 pub record ReadExactly (s : Parsing) (chart₀ l₀ : List ℕ) (r : Answer) (chart l : List ℕ) : Type 0 where
-  pub none : (r ≡ None) ↔ ((t : Tree) → s.parse t → ⊥)
-  pub several : (r ≡ Several) ↔ Two s.parse
-  pub one : (n : ℕ) → (r ≡ One n) ↔ ((t : Tree) × Only s.parse t × (n ≡ length (listing t)) × (2 * n ≤ length l₀))
-  pub too_long : (k : ℕ) → (r ≡ NotRead 22 k) ↔ ((t : Tree) × Only s.parse t × (length l₀ < 2 * length (listing t)) × (k ≡ length l₀ / 2))
-  pub no_other : (n k : ℕ) → r ≡ NotRead n k → n ≡ 22
+  pub none : (r ≡ Ok None) ↔ ((t : Tree) → s.parse t → ⊥)
+  pub several : (r ≡ Ok Several) ↔ Two s.parse
+  pub one : (n : ℕ) → (r ≡ Ok (One n)) ↔ ((t : Tree) × Only s.parse t × (n ≡ length (listing t)) × (2 * n ≤ length l₀))
+  pub too_long : (k : ℕ) → (r ≡ refused LongListing k) ↔ ((t : Tree) × Only s.parse t × (length l₀ < 2 * length (listing t)) × (k ≡ length l₀ / 2))
+  pub no_other : (x : Refusal) → r ≡ Err x → x.fault ≡ LongListing
   pub unwritten : ((t : Tree) → s.parse t → ⊥) ⊎ Two s.parse → l ≡ l₀
   pub whole : (t : Tree) → Only s.parse t → 2 * length (listing t) ≤ length l₀ → l ≡ bytes_of (listing t) ++ drop (length (bytes_of (listing t))) l₀
   pub front : (t : Tree) → Only s.parse t → length l₀ < 2 * length (listing t)
@@ -256,21 +248,21 @@ ListingDetermines =
 
 -- So a listing that is right is that of one reading.
 abbrev pub OneListed : Type 0
-OneListed = (b : List ℕ) → Bytes b → (w l : List ℕ) → listing_answer b w l ≡ Right → (t u : Tree) → Listed b w l t → Listed b w l u → t ≡ u
+OneListed = (b : List ℕ) → Bytes b → (w l : List ℕ) → listing_answer b w l ≡ Ok Right → (t u : Tree) → Listed b w l t → Listed b w l u → t ≡ u
 
 -- The page is written exactly if the listing is right and 73 bytes a number fit; else 24 and these bytes, 23 and the index, or what checking the listing refuses.
 pub record PageExactly (b w l : List ℕ) (room : ℕ) : Type 0 where
-  pub written : (n : ℕ) → (page_answer b w l room ≡ Written n) ↔ ((listing_answer b w l ≡ Right) × (n ≡ 73 * length (numbers_of l)) × (n ≤ room))
-  pub too_long : (k : ℕ) → (page_answer b w l room ≡ NotWritten 24 k) ↔ ((listing_answer b w l ≡ Right) × (k ≡ 73 * length (numbers_of l)) × (room < k))
-  pub wrong : (k : ℕ) → (page_answer b w l room ≡ NotWritten 23 k) ↔ (listing_answer b w l ≡ Wrong k)
-  pub refused : (n k : ℕ) → n ≤ 11 → (page_answer b w l room ≡ NotWritten n k) ↔ (listing_answer b w l ≡ NotChecked n k)
-  pub no_other : (n k : ℕ) → page_answer b w l room ≡ NotWritten n k → (n ≤ 11) ⊎ ((n ≡ 23) ⊎ (n ≡ 24))
+  pub written : (n : ℕ) → (page_answer b w l room ≡ Ok n) ↔ ((listing_answer b w l ≡ Ok Right) × (n ≡ 73 * length (numbers_of l)) × (n ≤ room))
+  pub too_long : (k : ℕ) → (page_answer b w l room ≡ refused LongPage k) ↔ ((listing_answer b w l ≡ Ok Right) × (k ≡ 73 * length (numbers_of l)) × (room < k))
+  pub wrong : (k : ℕ) → (page_answer b w l room ≡ refused WrongListing k) ↔ (listing_answer b w l ≡ Ok (Wrong k))
+  pub refused : (x : Refusal) → number_of x.fault ≤ 11 → (page_answer b w l room ≡ Err x) ↔ (listing_answer b w l ≡ Err x)
+  pub no_other : (x : Refusal) → page_answer b w l room ≡ Err x → (number_of x.fault ≤ 11) ⊎ ((number_of x.fault ≡ 23) ⊎ (number_of x.fault ≡ 24))
 
 -- What was lent determines the answer and every byte of the buffer; by a refusal none is changed.
-pub record OnePage (b w l page₀ : List ℕ) (r : WriteAnswer) (page : List ℕ) : Type 0 where
+pub record OnePage (b w l page₀ : List ℕ) (r : Result ℕ Refusal) (page : List ℕ) : Type 0 where
   pub answer : r ≡ page_answer b w l (length page₀)
-  pub one : (r' : WriteAnswer) (page' : List ℕ) → PageOutcome b w l page₀ r' page' → (r ≡ r') × (page ≡ page')
-  pub unchanged : (n k : ℕ) → r ≡ NotWritten n k → page ≡ page₀
+  pub one : (r' : Result ℕ Refusal) (page' : List ℕ) → PageOutcome b w l page₀ r' page' → (r ≡ r') × (page ≡ page')
+  pub unchanged : (x : Refusal) → r ≡ Err x → page ≡ page₀
 
 -- A page that was written is that of the reading listed: each line can be read back (depth, number, start and end are the values of their columns), and where its row
 -- says that the text stands, a subtree does whose listing begins at that number. Beyond the page the buffer is what it was.
@@ -284,8 +276,8 @@ pub record PageSays (b w l page₀ page : List ℕ) : Type 0 where
 
 abbrev pub Pages : Type 0
 Pages =
-    (b : List ℕ) → Bytes b → (w l page₀ : List ℕ) (r : WriteAnswer) (page : List ℕ) → PageOutcome b w l page₀ r page
-    → OnePage b w l page₀ r page × ((n : ℕ) → r ≡ Written n → PageSays b w l page₀ page)
+    (b : List ℕ) → Bytes b → (w l page₀ : List ℕ) (r : Result ℕ Refusal) (page : List ℕ) → PageOutcome b w l page₀ r page
+    → OnePage b w l page₀ r page × ((n : ℕ) → r ≡ Ok n → PageSays b w l page₀ page)
 
 -- The part handed back is what the subtree spells whose listing begins at that number, in the reading listed; if the listing isn't right or has no such number, it is
 -- the empty one at the text's start. Where it starts and ends is determined, and so are its bytes.
@@ -293,9 +285,9 @@ pub record PartSays (b w l : List ℕ) (index : ℕ) (part : List ℕ) : Type 0 
   pub one : (part' : List ℕ) → TextUnder b w l index part' → part ≡ part'
   pub place : (r : Row) → RowUnder b w l index r → part ≡ slice r.start r.end w
   pub one_place : (r r' : Row) → RowUnder b w l index r → RowUnder b w l index r' → r ≡ r'
-  pub spells : listing_answer b w l ≡ Right → (t : Tree) → Listed b w l t → index < length (numbers_of l)
+  pub spells : listing_answer b w l ≡ Ok Right → (t : Tree) → Listed b w l t → index < length (numbers_of l)
       → (s : Tree) × Subtree s t × ((others : List ℕ) × (drop index (numbers_of l) ≡ listing s ++ others)) × (part ≡ yield s)
-  pub none : (listing_answer b w l ≡ Right → length (numbers_of l) ≤ index) → (r : Row) → RowUnder b w l index r → (r.start ≡ 0) × (r.end ≡ 0)
+  pub none : (listing_answer b w l ≡ Ok Right → length (numbers_of l) ≤ index) → (r : Row) → RowUnder b w l index r → (r.start ≡ 0) × (r.end ≡ 0)
 
 abbrev pub Parts : Type 0
 Parts = (b : List ℕ) → Bytes b → (w l : List ℕ) (index : ℕ) (part : List ℕ) → TextUnder b w l index part → PartSays b w l index part
@@ -354,9 +346,9 @@ pub record AsBefore (b : List ℕ) (d : ℕ) : Type 0 where
       → (covers (declaration_of b d) k x y ≡ true)
       ↔ ((kind b d ≡ kind_number k) × (((first b d ≡ x) × (second b d ≡ y)) ⊎ ((either_way k ≡ true) × (first b d ≡ y) × (second b d ≡ x))))
   pub seven : bad_declaration b d ≡ in_order
-      (refuse_if (outside 1 pair_kind_limit (kind b d)) 7 (declaration_at b d)
-      ∷ refuse_if (leb (productions b) (first b d)) 7 (declaration_at b d + 1)
-      ∷ refuse_if (leb (productions b) (second b d)) 7 (declaration_at b d + 2)
+      (refuse_if (outside 1 pair_kind_limit (kind b d)) Absent (declaration_at b d)
+      ∷ refuse_if (leb (productions b) (first b d)) Absent (declaration_at b d + 1)
+      ∷ refuse_if (leb (productions b) (second b d)) Absent (declaration_at b d + 2)
       ∷ [])
 
 abbrev pub PairsAsBefore : Type 0
@@ -383,10 +375,10 @@ pub record TurnedSame (b c : List ℕ) : Type 0 where
   pub outcome : (w chart₀ l₀ : List ℕ) (r : Answer) (chart l : List ℕ) → Outcome c w chart₀ l₀ r chart l ↔ Outcome b w chart₀ l₀ r chart l
   pub listing : (w l : List ℕ) → listing_answer c w l ≡ listing_answer b w l
   pub compare : (w l m : List ℕ) (r : CompareAnswer) → Compared c w l m r ↔ Compared b w l m r
-  pub page : (w l page₀ : List ℕ) (r : WriteAnswer) (page : List ℕ) → PageOutcome c w l page₀ r page ↔ PageOutcome b w l page₀ r page
+  pub page : (w l page₀ : List ℕ) (r : Result ℕ Refusal) (page : List ℕ) → PageOutcome c w l page₀ r page ↔ PageOutcome b w l page₀ r page
   pub row : (w l : List ℕ) (index : ℕ) (r : Row) → RowUnder c w l index r ↔ RowUnder b w l index r
   pub part : (w l : List ℕ) (index : ℕ) (part : List ℕ) → TextUnder c w l index part ↔ TextUnder b w l index part
-  pub sheet : (s chart₀ m₀ : List ℕ) (r : WriteAnswer) (chart m : List ℕ) → SheetOutcome c s chart₀ m₀ r chart m ↔ SheetOutcome b s chart₀ m₀ r chart m
+  pub sheet : (s chart₀ m₀ : List ℕ) (r : Result ℕ Refusal) (chart m : List ℕ) → SheetOutcome c s chart₀ m₀ r chart m ↔ SheetOutcome b s chart₀ m₀ r chart m
   pub step : (s : List ℕ) (start : ℕ) (chart₀ : List ℕ) (r : Step) (next : ℕ) (chart : List ℕ) → StepOutcome c s start chart₀ r next chart ↔ StepOutcome b s start chart₀ r next chart
 
 abbrev pub TurnedRangesSame : Type 0
@@ -403,13 +395,13 @@ abbrev pub RangesCanRise : Type 0
 RangesCanRise = (b : List ℕ) → checked b ≡ accepted → Rises b
 
 -- Of a grammar whose ranges rise nothing has changed by this request: a class has the characters that it had, and the grammar is judged as it was while 6 stood between 5
--- and 7.
-abbrev pub former_six : List ℕ → Verdict
-former_six b = first_refusal (classes b) (λ k. first_refusal (range_count b k) (λ r. refuse_if (ltb (high b k r) (low b k r)) 6 (range_at b k r)))
+-- and 7. There is no fault with number 6 now; `six` stands for what refusal 6 was, whatever that is.
+abbrev pub former_six : (six : ℕ → Refusal) → List ℕ → Verdict
+former_six six b = first_refusal (classes b) (λ k. first_refusal (range_count b k) (λ r. cond (ltb (high b k r) (low b k r)) (Err (six (range_at b k r))) accepted))
 
 pub record RisingAsBefore (b : List ℕ) : Type 0 where
   pub class : (k c : ℕ) → k < classes b → (class_has b k c ≡ true) ↔ ((r : ℕ) × (r < range_count b k) × (low b k r ≤ c) × (c ≤ high b k r))
-  pub judged : checked b ≡ in_order
+  pub judged : (six : ℕ → Refusal) → checked b ≡ in_order
       (short_header b
       ∷ bad_header b
       ∷ short_contents b
@@ -417,7 +409,7 @@ pub record RisingAsBefore (b : List ℕ) : Type 0 where
       ∷ bad_range_counts b
       ∷ bad_length b
       ∷ bad_productions b
-      ∷ former_six b
+      ∷ former_six six b
       ∷ bad_declarations b
       ∷ repeated_productions b
       ∷ circles b
@@ -428,15 +420,15 @@ RisingRangesAsBefore = (b : List ℕ) → RangesRise b → RisingAsBefore b
 
 -- No operation answers with 6.
 pub record NeverSix (b : List ℕ) (k : ℕ) : Type 0 where
-  pub check : checked b ≡ Refused 6 k → ⊥
-  pub question : (p i q : ℕ) → conflict_answer b p i q ≡ NotAsked 6 k → ⊥
-  pub flat : (room : ℕ) → flat_answer b room ≡ NotWritten 6 k → ⊥
-  pub reading : (w chart₀ l₀ : List ℕ) (r : Answer) (chart l : List ℕ) → Outcome b w chart₀ l₀ r chart l → r ≡ NotRead 6 k → ⊥
-  pub listing : (w l : List ℕ) → listing_answer b w l ≡ NotChecked 6 k → ⊥
-  pub compare : (w l m : List ℕ) (r : CompareAnswer) → Compared b w l m r → r ≡ NotCompared 6 k → ⊥
-  pub page : (w l : List ℕ) (room : ℕ) → page_answer b w l room ≡ NotWritten 6 k → ⊥
-  pub sheet : (s chart₀ m₀ : List ℕ) (r : WriteAnswer) (chart m : List ℕ) → SheetOutcome b s chart₀ m₀ r chart m → r ≡ NotWritten 6 k → ⊥
-  pub step : (s : List ℕ) (start : ℕ) (chart₀ : List ℕ) (r : Step) (next : ℕ) (chart : List ℕ) → StepOutcome b s start chart₀ r next chart → r ≡ NotTaken 6 k → ⊥
+  pub check : RefusedBy (checked b) 6 k → ⊥
+  pub question : (p i q : ℕ) → RefusedBy (conflict_answer b p i q) 6 k → ⊥
+  pub flat : (room : ℕ) → RefusedBy (flat_answer b room) 6 k → ⊥
+  pub reading : (w chart₀ l₀ : List ℕ) (r : Answer) (chart l : List ℕ) → Outcome b w chart₀ l₀ r chart l → RefusedBy r 6 k → ⊥
+  pub listing : (w l : List ℕ) → RefusedBy (listing_answer b w l) 6 k → ⊥
+  pub compare : (w l m : List ℕ) (r : CompareAnswer) → Compared b w l m r → RefusedBy r 6 k → ⊥
+  pub page : (w l : List ℕ) (room : ℕ) → RefusedBy (page_answer b w l room) 6 k → ⊥
+  pub sheet : (s chart₀ m₀ : List ℕ) (r : Result ℕ Refusal) (chart m : List ℕ) → SheetOutcome b s chart₀ m₀ r chart m → RefusedBy r 6 k → ⊥
+  pub step : (s : List ℕ) (start : ℕ) (chart₀ : List ℕ) (r : Step) (next : ℕ) (chart : List ℕ) → StepOutcome b s start chart₀ r next chart → RefusedBy r 6 k → ⊥
 
 -- ---- Request 4. "A sheet is lines ended by byte 10, which is no part of them; what follows the last one is a line too if it isn't empty. Each line is read from its own
 -- part of the sheet." "The count of lines comes back." "The chart ends as it would if each line had been read alone in turn, a refused line leaving it unchanged; summary
@@ -449,28 +441,32 @@ pub record LinesSay (s : List ℕ) : Type 0 where
   pub no_feed : All NoFeed (lines s)
   pub only : (ws : List (List ℕ)) → All NoFeed ws → joined_lines ws ≡ ended s → ws ≡ lines s
 
+-- What reads a sheet refuses more than 65,535 bytes, with 25 and how many there are.
+abbrev pub TooLong : {A : Type 0} → (b s : List ℕ) → Result A Refusal → Type 0
+TooLong b s r = (k : ℕ) → (r ≡ refused LongSheet k) ↔ ((checked b ≡ accepted) × (65535 < length s) × (k ≡ length s))
+
 -- A sheet is refused with 1 to 9, 25 and 26 exactly so, with no other number, and then nothing is changed. Otherwise the count of lines comes back. What was lent
 -- determines the answer and every byte of the chart and the summary.
-pub record SheetExactly (b s chart₀ m₀ : List ℕ) (r : WriteAnswer) (chart m : List ℕ) : Type 0 where
-  pub grammar : (n k : ℕ) → n ≤ 9 → (r ≡ NotWritten n k) ↔ (checked b ≡ Refused n k)
-  pub too_long : (k : ℕ) → (r ≡ NotWritten 25 k) ↔ ((checked b ≡ accepted) × (65535 < length s) × (k ≡ length s))
-  pub too_short : (k : ℕ) → (r ≡ NotWritten 26 k) ↔ (((checked b ≡ accepted) × (length s ≤ 65535)) × (length m₀ < length (lines s)) × (k ≡ length (lines s)))
-  pub no_other : (n k : ℕ) → r ≡ NotWritten n k → (n ≤ 9) ⊎ ((n ≡ 25) ⊎ (n ≡ 26))
-  pub unchanged : (n k : ℕ) → r ≡ NotWritten n k → (chart ≡ chart₀) × (m ≡ m₀)
-  pub count : (n : ℕ) → r ≡ Written n → n ≡ length (lines s)
-  pub in_turn : (n : ℕ) → r ≡ Written n → InTurn (LineBy b) (lines s) chart₀ (take n m) chart
-  pub beyond : (n : ℕ) → r ≡ Written n → drop n m ≡ drop n m₀
-  pub one : (r' : WriteAnswer) (chart' m' : List ℕ) → SheetOutcome b s chart₀ m₀ r' chart' m' → (r ≡ r') × (chart ≡ chart') × (m ≡ m')
+pub record SheetExactly (b s chart₀ m₀ : List ℕ) (r : Result ℕ Refusal) (chart m : List ℕ) : Type 0 where
+  pub grammar : (x : Refusal) → number_of x.fault ≤ 9 → (r ≡ Err x) ↔ (checked b ≡ Err x)
+  pub too_long : TooLong b s r
+  pub too_short : (k : ℕ) → (r ≡ refused ShortSummary k) ↔ (((checked b ≡ accepted) × (length s ≤ 65535)) × (length m₀ < length (lines s)) × (k ≡ length (lines s)))
+  pub no_other : (x : Refusal) → r ≡ Err x → (number_of x.fault ≤ 9) ⊎ ((number_of x.fault ≡ 25) ⊎ (number_of x.fault ≡ 26))
+  pub unchanged : (x : Refusal) → r ≡ Err x → (chart ≡ chart₀) × (m ≡ m₀)
+  pub count : (n : ℕ) → r ≡ Ok n → n ≡ length (lines s)
+  pub in_turn : (n : ℕ) → r ≡ Ok n → InTurn (LineBy b) (lines s) chart₀ (take n m) chart
+  pub beyond : (n : ℕ) → r ≡ Ok n → drop n m ≡ drop n m₀
+  pub one : (r' : Result ℕ Refusal) (chart' m' : List ℕ) → SheetOutcome b s chart₀ m₀ r' chart' m' → (r ≡ r') × (chart ≡ chart') × (m ≡ m')
 
 abbrev pub Sheets : Type 0
-Sheets = (b s chart₀ m₀ : List ℕ) (r : WriteAnswer) (chart m : List ℕ) → SheetOutcome b s chart₀ m₀ r chart m → SheetExactly b s chart₀ m₀ r chart m
+Sheets = (b s chart₀ m₀ : List ℕ) (r : Result ℕ Refusal) (chart m : List ℕ) → SheetOutcome b s chart₀ m₀ r chart m → SheetExactly b s chart₀ m₀ r chart m
 
 -- "0 none, 1 one, 2 several, 3 refused. Only refusals 10 and 20 can fall on a line": a line's byte is that of the answer of reading it alone, whatever buffer is lent for
 -- a listing (`byte_of`, sheet/specs/Outcome; one whose listing doesn't fit there, 22, is one), and its chart is that reading's.
 pub record LineAlone (v : ℕ) (chart : List ℕ) (r : Answer) (chart' : List ℕ) : Type 0 where
   pub byte : v ≡ byte_of r
   pub chart_same : chart ≡ chart'
-  pub numbers : (n k : ℕ) → r ≡ NotRead n k → (n ≡ 10) ⊎ ((n ≡ 20) ⊎ (n ≡ 22))
+  pub numbers : (x : Refusal) → r ≡ Err x → (number_of x.fault ≡ 10) ⊎ ((number_of x.fault ≡ 20) ⊎ (number_of x.fault ≡ 22))
 
 abbrev pub LinesAlone : Type 0
 LinesAlone =
@@ -481,13 +477,13 @@ LinesAlone =
 -- A step is refused, or gives no line, exactly so, and then the walker stays where it is and the chart as it was. Otherwise the line from the start on is read, and the
 -- others start behind it. What was lent determines all of it.
 pub record StepExactly (b s : List ℕ) (start : ℕ) (chart₀ : List ℕ) (r : Step) (next : ℕ) (chart : List ℕ) : Type 0 where
-  pub grammar : (n k : ℕ) → n ≤ 9 → (r ≡ NotTaken n k) ↔ (checked b ≡ Refused n k)
-  pub too_long : (k : ℕ) → (r ≡ NotTaken 25 k) ↔ ((checked b ≡ accepted) × (65535 < length s) × (k ≡ length s))
-  pub no_other : (n k : ℕ) → r ≡ NotTaken n k → (n ≤ 9) ⊎ (n ≡ 25)
-  pub end : (r ≡ End) ↔ (((checked b ≡ accepted) × (length s ≤ 65535)) × (length s ≤ start))
-  pub stays : ((v : ℕ) → r ≡ LineRead v → ⊥) → (next ≡ start) × (chart ≡ chart₀)
-  pub line : (v : ℕ) → r ≡ LineRead v → LineBy b (line_at s start) chart₀ v chart
-  pub others : (v : ℕ) → r ≡ LineRead v → (lines (drop start s) ≡ line_at s start ∷ lines (drop next s)) × (start < next) × (next ≤ length s)
+  pub grammar : (x : Refusal) → number_of x.fault ≤ 9 → (r ≡ Err x) ↔ (checked b ≡ Err x)
+  pub too_long : TooLong b s r
+  pub no_other : (x : Refusal) → r ≡ Err x → (number_of x.fault ≤ 9) ⊎ (number_of x.fault ≡ 25)
+  pub end : (r ≡ Ok Nothing) ↔ (((checked b ≡ accepted) × (length s ≤ 65535)) × (length s ≤ start))
+  pub stays : ((v : ℕ) → r ≡ Ok (Some v) → ⊥) → (next ≡ start) × (chart ≡ chart₀)
+  pub line : (v : ℕ) → r ≡ Ok (Some v) → LineBy b (line_at s start) chart₀ v chart
+  pub others : (v : ℕ) → r ≡ Ok (Some v) → (lines (drop start s) ≡ line_at s start ∷ lines (drop next s)) × (start < next) × (next ≤ length s)
   pub one : (r' : Step) (next' : ℕ) (chart' : List ℕ) → StepOutcome b s start chart₀ r' next' chart' → (r ≡ r') × (next ≡ next') × (chart ≡ chart')
 
 abbrev pub EachStep : Type 0
@@ -503,7 +499,7 @@ pub record WalksDown (b s chart₀ summary chart : List ℕ) (rs : List Step) (c
 
 abbrev pub WalkersGoDown : Type 0
 WalkersGoDown =
-    (b s chart₀ m₀ : List ℕ) (n : ℕ) (chart m : List ℕ) → SheetOutcome b s chart₀ m₀ (Written n) chart m
+    (b s chart₀ m₀ : List ℕ) (n : ℕ) (chart m : List ℕ) → SheetOutcome b s chart₀ m₀ (Ok n) chart m
     → (rs : List Step) (next : ℕ) (chart' : List ℕ) → Steps b s 0 chart₀ rs next chart' → WalksDown b s chart₀ (take n m) chart rs chart'
 
 -- ---- Request 5. "In the source a grammar is a set of rules, so two rules are equal when results are equal and each argument is the same sort or the same set of
@@ -532,7 +528,7 @@ ReadingsPart = (b : List ℕ) → checked b ≡ accepted → (w : List ℕ) (t u
 -- So whoever gets "several" has two readings whose listings part so.
 abbrev pub SeveralPart : Type 0
 SeveralPart =
-    (b w chart₀ l₀ : List ℕ) (r : Answer) (chart l : List ℕ) → Outcome b w chart₀ l₀ r chart l → r ≡ Several
+    (b w chart₀ l₀ : List ℕ) (r : Answer) (chart l : List ℕ) → Outcome b w chart₀ l₀ r chart l → r ≡ Ok Several
     → (t : Tree) × (u : Tree) × Reading b w t × Reading b w u × Part b (listing t) (listing u)
 
 -- Refusal 8 names a production p with an earlier one q that takes a line in no other way: over the same arguments f there is a tree with p exactly if there is one with q.
@@ -546,14 +542,14 @@ pub record TwinsAt (b : List ℕ) (place p q : ℕ) : Type 0 where
   pub conflict_free : ((i r : ℕ) → Conflict b p i r ↔ Conflict b q i r) → (f : Forest) → ConflictFree b (node p f) ↔ ConflictFree b (node q f)
 
 abbrev pub TwinsRefused : Type 0
-TwinsRefused = (b : List ℕ) → Bytes b → (place : ℕ) → checked b ≡ Refused 8 place → (p : ℕ) × (q : ℕ) × TwinsAt b place p q
+TwinsRefused = (b : List ℕ) → Bytes b → (place : ℕ) → checked b ≡ refused Repeated place → (p : ℕ) × (q : ℕ) × TwinsAt b place p q
 
 -- The former refusal 8, by which productions were equal if their bytes were; and the check with it in its place.
 abbrev pub former_equal : List ℕ → ℕ → ℕ → Bool
 former_equal b p q = eqb (result_sort b p) (result_sort b q) && eqb (argument_count b p) (argument_count b q) && all_below (argument_count b p) (λ i. eqb (argument b p i) (argument b q i))
 
 abbrev pub former_eight : List ℕ → Verdict
-former_eight b = first_refusal (productions b) (λ p. refuse_if (any_below p (former_equal b p)) 8 (production_at b p))
+former_eight b = first_refusal (productions b) (λ p. refuse_if (any_below p (former_equal b p)) Repeated (production_at b p))
 
 abbrev pub former_checked : List ℕ → Verdict
 former_checked b =
@@ -574,7 +570,7 @@ former_checked b =
 -- what it gave. (No other definition has changed.)
 pub record EqualAsBefore (b : List ℕ) : Type 0 where
   pub still_refused : checked b ≡ accepted → former_checked b ≡ accepted
-  pub refused_now : former_checked b ≡ accepted → (checked b ≡ accepted) ⊎ ((place : ℕ) × (checked b ≡ Refused 8 place))
+  pub refused_now : former_checked b ≡ accepted → (checked b ≡ accepted) ⊎ ((place : ℕ) × (checked b ≡ refused Repeated place))
   pub judged : ((j k : ℕ) → j < k → k < classes b → same_class b j k ≡ false) → checked b ≡ former_checked b
 
 -- ---- Request 6. "Show that each numeral, read in base ten, gives its number and begins with 0 only for 0, and that a byte passes a class exactly if some range of it,
@@ -596,7 +592,7 @@ FlatNumerals = (g : List Line) → numerals_in (grammar_text g) ≡ map numeral 
 -- Those of a page, before the text of each line, are the numerals of the depth, the number, the start and the end of its row in the reading listed.
 abbrev pub PageNumerals : Type 0
 PageNumerals =
-    (b : List ℕ) → Bytes b → (w l page₀ : List ℕ) (n : ℕ) (page : List ℕ) → PageOutcome b w l page₀ (Written n) page
+    (b : List ℕ) → Bytes b → (w l page₀ : List ℕ) (n : ℕ) (page : List ℕ) → PageOutcome b w l page₀ (Ok n) page
     → (t : Tree) × Listed b w l t × ((k : ℕ) → k < length (numbers_of l)
     → let r = get_or (rows 0 0 t) k no_row in numerals_in (take 18 (slice (73 * k) (73 * (k + 1)) page)) ≡ map numeral (r.depth ∷ r.number ∷ r.start ∷ r.end ∷ []))
 
@@ -628,28 +624,28 @@ pub record RoundTrips : Type 0 where
   pub written : (text : List ℕ) (g : List Line) → Says text g → grammar_text g ≡ text
   pub read : (g h : List Line) → Writable g → Says (grammar_text g) h → h ≡ g
   -- the tables that `load::load` fills from a text in the form are those of the grammar that it says, so `ccg::put_grammar` writes its bytes from them
-  pub tables : (text : List ℕ) (r : FlatAnswer) (t : List ℕ) → Loaded text r t → (g : List Line) → Says text g → table_grammar t ≡ g
+  pub tables : (text : List ℕ) (r : Result ℕ Refusal) (t : List ℕ) → Loaded text r t → (g : List Line) → Says text g → table_grammar t ≡ g
 
 -- "27 not the written form, in which a class may name any rule number a line could have, place the first byte at which no such text goes on so, or the length": `NotInForm` says
 -- that the text is not in the form, and that the place is the length of the longest beginning that some text in the form has too. "28 a class … naming an absent line, place that number, the first such in the flat book." Each exactly so, and else the lines
 -- are counted.
-pub record CheckedExactly (text : List ℕ) (r : FlatAnswer) : Type 0 where
-  pub lines : (n : ℕ) → (r ≡ Lines n) ↔ ((g : List Line) × Says text g × ((p i q : ℕ) → Names g p i q → ⊥) × (n ≡ length g))
-  pub not_in_form : (k : ℕ) → (r ≡ NotLoaded 27 k) ↔ NotInForm text k
-  pub absent : (k : ℕ) → (r ≡ NotLoaded 28 k) ↔ ((g : List Line) × Says text g × FirstNamed g k)
-  pub no_other : (n k : ℕ) → r ≡ NotLoaded n k → (n ≡ 27) ⊎ (n ≡ 28)
+pub record CheckedExactly (text : List ℕ) (r : Result ℕ Refusal) : Type 0 where
+  pub lines : (n : ℕ) → (r ≡ Ok n) ↔ ((g : List Line) × Says text g × ((p i q : ℕ) → Names g p i q → ⊥) × (n ≡ length g))
+  pub not_in_form : (k : ℕ) → (r ≡ refused Form k) ↔ NotInForm text k
+  pub absent : (k : ℕ) → (r ≡ refused NoLine k) ↔ ((g : List Line) × Says text g × FirstNamed g k)
+  pub no_other : (x : Refusal) → r ≡ Err x → (x.fault ≡ Form) ⊎ (x.fault ≡ NoLine)
 
 abbrev pub ChecksFlat : Type 0
-ChecksFlat = (text : List ℕ) (r : FlatAnswer) → Checked text r → CheckedExactly text r
+ChecksFlat = (text : List ℕ) (r : Result ℕ Refusal) → Checked text r → CheckedExactly text r
 
 -- So are the refusals of reading, in order; "or the root …, else the lowest at the root". By none of them is anything changed.
 pub record FlatRefused (flat : List ℕ) (roots : List Bool) (w chart₀ l₀ : List ℕ) (r : Answer) (chart l : List ℕ) : Type 0 where
-  pub not_in_form : (k : ℕ) → (r ≡ NotRead 27 k) ↔ NotInForm flat k
-  pub absent : (g : List Line) → Says flat g → (k : ℕ) → (r ≡ NotRead 28 k) ↔ (FirstNamed g k ⊎ (((p i q : ℕ) → Names g p i q → ⊥) × LowestRoot g roots k))
-  pub ten : (g : List Line) → Says flat g → (k : ℕ) → (r ≡ NotRead 10 k) ↔ (AllThere g roots × (text_limit < length w) × (k ≡ length w))
+  pub not_in_form : (k : ℕ) → (r ≡ refused Form k) ↔ NotInForm flat k
+  pub absent : (g : List Line) → Says flat g → (k : ℕ) → (r ≡ refused NoLine k) ↔ (FirstNamed g k ⊎ (((p i q : ℕ) → Names g p i q → ⊥) × LowestRoot g roots k))
+  pub ten : (g : List Line) → Says flat g → (k : ℕ) → (r ≡ refused LongText k) ↔ (AllThere g roots × (text_limit < length w) × (k ≡ length w))
   pub twenty : (g : List Line) → Says flat g → (k : ℕ)
-      → (r ≡ NotRead 20 k) ↔ (AllThere g roots × (length w ≤ text_limit) × (k ≡ chart_bytes (line_arity g) (length g) (length w)) × (length chart₀ < k))
-  pub unchanged : (n k : ℕ) → (n ≡ 22 → ⊥) → r ≡ NotRead n k → (chart ≡ chart₀) × (l ≡ l₀)
+      → (r ≡ refused ShortChart k) ↔ (AllThere g roots × (length w ≤ text_limit) × (k ≡ chart_bytes (line_arity g) (length g) (length w)) × (length chart₀ < k))
+  pub unchanged : (x : Refusal) → (number_of x.fault ≡ 22 → ⊥) → r ≡ Err x → (chart ≡ chart₀) × (l ≡ l₀)
 
 abbrev pub RefusesFlat : Type 0
 RefusesFlat = (flat : List ℕ) (roots : List Bool) (w chart₀ l₀ : List ℕ) (r : Answer) (chart l : List ℕ) → FlatOutcome flat roots w chart₀ l₀ r chart l → FlatRefused flat roots w chart₀ l₀ r chart l
@@ -675,7 +671,7 @@ start_entries b = tabulate production_limit (λ q. ltb q (productions b) && eqb 
 -- lodged to the reading, nothing else is kept. The text is what `flatten::write_flat` left in a buffer that held out₀; for every text w of bytes, chart and listing buffer.
 abbrev pub LodgedAndRead : Type 0
 LodgedAndRead =
-    (b : List ℕ) → Bytes b → (out₀ : List ℕ) (n : ℕ) → flat_answer b (length out₀) ≡ Written n
+    (b : List ℕ) → Bytes b → (out₀ : List ℕ) (n : ℕ) → flat_answer b (length out₀) ≡ Ok n
     → let lodged = take n (buffer_after (flat_answer b (length out₀)) (grammar_text (flat_grammar b)) out₀) in
     (w chart₀ l₀ : List ℕ) (r r' : Answer) (chart chart' l l' : List ℕ)
     → Outcome b w chart₀ l₀ r chart l → FlatOutcome lodged (start_entries b) w chart₀ l₀ r' chart' l' → (r ≡ r') × (chart ≡ chart') × (l ≡ l')
@@ -697,24 +693,24 @@ pub record Chains (b : List ℕ) (x y : ℕ) : Type 0 where
 -- "Yes and no come exactly as in the plain question"; so do the refusals. Each line comes exactly if it is the lowest that holds (`LowestLine`, reason/specs/Reason: over all that a conflict may
 -- be by), and then "a chain of declarations of kind 1 from p to q …, as short as any" (`Shortest`), or "the lowest declaration, single or group, of a kind that the line names,
 -- that covers the pair" (`LowestDeclaration`).
-pub record ReasonedExactly (b : List ℕ) (p i q : ℕ) (r : ReasonAnswer) : Type 0 where
-  pub free : (r ≡ Free) ↔ (conflict_answer b p i q ≡ No)
-  pub refused : (number place : ℕ) → (r ≡ NotReasoned number place) ↔ (conflict_answer b p i q ≡ NotAsked number place)
-  pub higher : (n : ℕ) → (r ≡ ByChain n) ↔ (Asked b p i q × LowestLine b p i q 1 × ((chain : List ℕ) × Shortest b p q chain × (n ≡ length chain)))
-  pub first : (d : ℕ) → (r ≡ AtFirst d) ↔ (Asked b p i q × LowestLine b p i q 2 × LowestDeclaration b right p q d)
-  pub last : (d : ℕ) → (r ≡ AtLast d) ↔ (Asked b p i q × LowestLine b p i q 3 × LowestDeclaration b left p q d)
+pub record ReasonedExactly (b : List ℕ) (p i q : ℕ) (r : Result (Option Cause) Refusal) : Type 0 where
+  pub free : (r ≡ Ok Nothing) ↔ (conflict_answer b p i q ≡ Ok false)
+  pub refused : (x : Refusal) → (r ≡ Err x) ↔ (conflict_answer b p i q ≡ Err x)
+  pub higher : (n : ℕ) → (r ≡ Ok (Some (ByChain n))) ↔ (Asked b p i q × LowestLine b p i q 1 × ((chain : List ℕ) × Shortest b p q chain × (n ≡ length chain)))
+  pub first : (d : ℕ) → (r ≡ Ok (Some (AtFirst d))) ↔ (Asked b p i q × LowestLine b p i q 2 × LowestDeclaration b right p q d)
+  pub last : (d : ℕ) → (r ≡ Ok (Some (AtLast d))) ↔ (Asked b p i q × LowestLine b p i q 3 × LowestDeclaration b left p q d)
 
 abbrev pub Reasons : Type 0
-Reasons = (b : List ℕ) (p i q : ℕ) (chain₀ : List ℕ) (r : ReasonAnswer) (chain : List ℕ) → Reasoned b p i q chain₀ r chain → ReasonedExactly b p i q r
+Reasons = (b : List ℕ) (p i q : ℕ) (chain₀ : List ℕ) (r : Result (Option Cause) Refusal) (chain : List ℕ) → Reasoned b p i q chain₀ r chain → ReasonedExactly b p i q r
 
 -- What was lent determines the answer, and the buffer afterwards but for line 1. "Another chain of that length is equally good, so which of them it is stays unfixed": there the buffer starts with one
 -- of the shortest chains, as much of it as fits, and beyond that it is as it was (`chain_after`); and with any other in its place the promise would be kept as well. Nothing else is open.
 pub record OneReason (b : List ℕ) (p i q : ℕ) (chain₀ : List ℕ) : Type 0 where
-  pub answer : (r r' : ReasonAnswer) (chain chain' : List ℕ) → Reasoned b p i q chain₀ r chain → Reasoned b p i q chain₀ r' chain' → r ≡ r'
-  pub kept : (r : ReasonAnswer) (chain : List ℕ) → Reasoned b p i q chain₀ r chain → ((n : ℕ) → r ≡ ByChain n → ⊥) → chain ≡ chain₀
-  pub written : (n : ℕ) (chain : List ℕ) → Reasoned b p i q chain₀ (ByChain n) chain
+  pub answer : (r r' : Result (Option Cause) Refusal) (chain chain' : List ℕ) → Reasoned b p i q chain₀ r chain → Reasoned b p i q chain₀ r' chain' → r ≡ r'
+  pub kept : (r : Result (Option Cause) Refusal) (chain : List ℕ) → Reasoned b p i q chain₀ r chain → ((n : ℕ) → r ≡ Ok (Some (ByChain n)) → ⊥) → chain ≡ chain₀
+  pub written : (n : ℕ) (chain : List ℕ) → Reasoned b p i q chain₀ (Ok (Some (ByChain n))) chain
       → (own : List ℕ) × Shortest b p q own × (n ≡ length own) × (chain ≡ chain_after own chain₀)
-  pub unfixed : (n : ℕ) (chain : List ℕ) → Reasoned b p i q chain₀ (ByChain n) chain → (other : List ℕ) → Shortest b p q other → Reasoned b p i q chain₀ (ByChain n) (chain_after other chain₀)
+  pub unfixed : (n : ℕ) (chain : List ℕ) → Reasoned b p i q chain₀ (Ok (Some (ByChain n))) chain → (other : List ℕ) → Shortest b p q other → Reasoned b p i q chain₀ (Ok (Some (ByChain n))) (chain_after other chain₀)
 
 -- ---- Request 9. "When a text has several readings, the bench compares two by the multi-set order of source document 002, section 7. Count each rule in each listing. The first is
 -- below the second if the counts differ and, for each rule it uses more often, some rule higher than that one is used less often. … The answer is −1 below, 1 above, 0 equal
@@ -728,10 +724,10 @@ UsesOfTrees = (b : List ℕ) → Bytes b → (w l : List ℕ) (t : Tree) → Lis
 -- Each order is answered exactly if both listings are right and it is what the uses say (`OrderIs`, order/specs/Order), and that is what they say of the trees. Each refusal is given
 -- exactly under its condition (`ComparisonRefused`, compare/specs/Refusals, a constructor to a line): "11 and 29 each take the first before the second". What was lent determines the answer.
 pub record ComparedExactly (b w l m : List ℕ) (r : CompareAnswer) : Type 0 where
-  pub ordered : (o : Order) → (r ≡ Ordered o) ↔ ((listing_answer b w l ≡ Right) × (listing_answer b w m ≡ Right) × OrderIs b (uses l) (uses m) o)
-  pub trees : Bytes b → (o : Order) → r ≡ Ordered o → (t u : Tree) → Listed b w l t → Listed b w m u → OrderIs b (tree_uses t) (tree_uses u) o
-  pub refused : (n k : ℕ) → (r ≡ NotCompared n k) ↔ ComparisonRefused (listing_answer b w l) (listing_answer b w m) n k
-  pub no_other : (n k : ℕ) → r ≡ NotCompared n k → (n ≤ 11) ⊎ (n ≡ 29)
+  pub ordered : (o : Order) → (r ≡ Ok o) ↔ ((listing_answer b w l ≡ Ok Right) × (listing_answer b w m ≡ Ok Right) × OrderIs b (uses l) (uses m) o)
+  pub trees : Bytes b → (o : Order) → r ≡ Ok o → (t u : Tree) → Listed b w l t → Listed b w m u → OrderIs b (tree_uses t) (tree_uses u) o
+  pub refused : (x : Refusal) → (r ≡ Err x) ↔ ComparisonRefused (listing_answer b w l) (listing_answer b w m) x
+  pub no_other : (x : Refusal) → r ≡ Err x → (number_of x.fault ≤ 11) ⊎ (number_of x.fault ≡ 29)
   pub one : (r' : CompareAnswer) → Compared b w l m r' → r ≡ r'
 
 abbrev pub Compares : Type 0
@@ -741,7 +737,7 @@ Compares = (b w l m : List ℕ) (r : CompareAnswer) → Compared b w l m r → C
 pub record Swaps (o : Order) : Type 0 where
   pub negates : (order_number o ≡ pos 2 → ⊥) → order_number (swapped o) ≡ neg_ℤ (order_number o)
   pub keeps : order_number o ≡ pos 2 → order_number (swapped o) ≡ pos 2
-  pub answer : (b w l m : List ℕ) → Compared b w l m (Ordered o) → Compared b w m l (Ordered (swapped o))
+  pub answer : (b w l m : List ℕ) → Compared b w l m (Ok o) → Compared b w m l (Ok (swapped o))
 
 -- "Below is shown to be transitive for a fixed book", whatever the counts; nothing is below itself, and no two are below each other. Equal counts are an equivalence, and what has
 -- equal counts is below the same.
@@ -759,9 +755,9 @@ Orders = (b : List ℕ) → checked b ≡ accepted → OrderOf b
 
 -- So are the answers, for the readings of a text.
 pub record AnswersInOrder (b w l m n : List ℕ) : Type 0 where
-  pub transitive : Compared b w l m (Ordered Below) → Compared b w m n (Ordered Below) → Compared b w l n (Ordered Below)
-  pub onward : Compared b w l m (Ordered Equal) → Compared b w m n (Ordered Equal) → Compared b w l n (Ordered Equal)
-  pub itself : (r : CompareAnswer) → Compared b w l l r → listing_answer b w l ≡ Right → r ≡ Ordered Equal
+  pub transitive : Compared b w l m (Ok Below) → Compared b w m n (Ok Below) → Compared b w l n (Ok Below)
+  pub onward : Compared b w l m (Ok Equal) → Compared b w m n (Ok Equal) → Compared b w l n (Ok Equal)
+  pub itself : (r : CompareAnswer) → Compared b w l l r → listing_answer b w l ≡ Ok Right → r ≡ Ok Equal
 
 -- ---- The paper's marked cases: any outcome of reading each of them, whatever chart and buffer held, is the one marked.
 abbrev pub MarkedCases : Type 0
