@@ -5,8 +5,9 @@
 ghost use Rattle.std.specs.Prelude.{◌≤◌, length, IfOk};
 
 use common::wide;
-use question::{ConflictAnswer, conflict};
+use question::conflict;
 use records::field_at;
+use refusal::Refusal;
 use report::{print_refusal, read_input};
 use std::io;
 use std::io::Write;
@@ -50,10 +51,10 @@ fn ask<W: Write>(out: &mut W, input: &[u8], start: usize, end: usize) -> io::Res
     Ok(to)
 }
 
-fn print<W: Write>(out: &mut W, answer: ConflictAnswer) -> io::Result<()> {
+fn print<W: Write>(out: &mut W, answer: Result<bool, Refusal>) -> io::Result<()> {
     match answer {
-        ConflictAnswer::Yes => out.write_all(b"yes\n"),
-        ConflictAnswer::No => out.write_all(b"no\n"),
-        ConflictAnswer::Refused(number, place) => print_refusal(out, number, place),
+        Ok(true) => out.write_all(b"yes\n"),
+        Ok(false) => out.write_all(b"no\n"),
+        Err(refusal) => print_refusal(out, refusal),
     }
 }

@@ -4,14 +4,13 @@
 use flatten::write_flat;
 use report::{large_buffer, print_refusal, print_start, read_input};
 use std::io;
-use writing::WriteAnswer;
 
 fn main(rt: HostRuntime) -> io::Result<()> {
     let input = read_input(rt.alloc(), rt.stdin())?;
     let mut out = large_buffer(rt.alloc())?;
     let mut printer = rt.stdout();
     match write_flat(&input, &mut out) {
-        WriteAnswer::Written(length) => print_start(&mut printer, &out, length),
-        WriteAnswer::Refused(number, place) => print_refusal(&mut printer, number, place),
+        Ok(length) => print_start(&mut printer, &out, length),
+        Err(refusal) => print_refusal(&mut printer, refusal),
     }
 }

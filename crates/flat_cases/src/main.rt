@@ -7,11 +7,11 @@ ghost use Rattle.std.specs.Prelude.{◌≤◌, length, IfOk};
 use common::two_bytes;
 use flatten::write_flat;
 use records::field_at;
+use refusal::Refusal;
 use report::{large_buffer, print_refusal, print_start, read_input};
 use std::alloc::Global;
 use std::io;
 use std::io::Write;
-use writing::WriteAnswer;
 
 fn main(rt: HostRuntime) -> io::Result<()> {
     let input = read_input(rt.alloc(), rt.stdin())?;
@@ -60,15 +60,13 @@ fn print_flat<W: Write>(
 ) -> io::Result<()> {
     let mut out = large_buffer(alloc)?;
     match write_within(book, &mut out, room) {
-        WriteAnswer::Written(length) => print_start(printer, &out, length),
-        WriteAnswer::Refused(number, place) => print_refusal(printer, number, place),
+        Ok(length) => print_start(printer, &out, length),
+        Err(refusal) => print_refusal(printer, refusal),
     }
 }
 
 // Uses only the first `room` bytes of the buffer, or all of it.
-fn write_within(book: &[u8], out: &mut [u8], room: usize) -> WriteAnswer {
-    if room < out.len() {
-        return write_flat(book, &mut out[..room]);
-    }
-    write_flat(book, out)
+fn write_within(book: &[u8], out: &mut [u8], room: usize) -> Result<usize, Refusal> {
+    let used = room.min(out.len());
+    write_flat(book, &mut out[..used])
 }

@@ -1,8 +1,8 @@
 // Checks each grammar of its input and prints the verdicts, a line each.
 #![tactic(auto)]
 
-use grammar::Verdict;
 use priority::check_grammar;
+use refusal::Refusal;
 use report::{print_refusal, read_input};
 use std::io;
 use std::io::Write;
@@ -24,9 +24,9 @@ fn check_all<W: Write>(out: &mut W, input: &[u8]) -> io::Result<()> {
     Ok(())
 }
 
-fn print<W: Write>(out: &mut W, verdict: Verdict) -> io::Result<()> {
+fn print<W: Write>(out: &mut W, verdict: Result<(), Refusal>) -> io::Result<()> {
     match verdict {
-        Verdict::Accepted => out.write_all(b"accepted\n"),
-        Verdict::Refused(number, place) => print_refusal(out, number, place),
+        Ok(()) => out.write_all(b"accepted\n"),
+        Err(refusal) => print_refusal(out, refusal),
     }
 }

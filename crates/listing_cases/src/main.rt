@@ -4,8 +4,9 @@
 
 ghost use Rattle.std.specs.Prelude.{◌≤◌, length, IfOk};
 
-use listing::{ListingAnswer, check_listing};
+use listing::{Judgement, check_listing};
 use records::field_at;
+use refusal::Refusal;
 use report::{print_refusal, read_input};
 use std::io;
 use std::io::Write;
@@ -65,11 +66,13 @@ fn check_case<W: Write>(
     Ok(last)
 }
 
-fn print<W: Write>(out: &mut W, answer: ListingAnswer) -> io::Result<()> {
+fn print<W: Write>(out: &mut W, answer: Result<Judgement, Refusal>) -> io::Result<()> {
     match answer {
-        ListingAnswer::Right => out.write_all(b"right\n"),
-        ListingAnswer::Wrong(index) => print_index(out, index),
-        ListingAnswer::Refused(number, place) => print_refusal(out, number, place),
+        Ok(judgement) => match judgement {
+            Judgement::Right => out.write_all(b"right\n"),
+            Judgement::Wrong(index) => print_index(out, index),
+        },
+        Err(refusal) => print_refusal(out, refusal),
     }
 }
 

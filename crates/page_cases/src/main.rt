@@ -12,7 +12,6 @@ use records::{bytes_of, field_at, field_from, number_of};
 use report::{print_line, print_quoted, print_refusal, print_start, read_input};
 use std::io;
 use std::io::Write;
-use writing::WriteAnswer;
 
 // Enough for the longest page, of 4,096 lines.
 const LARGEST_BUFFER: usize = 300000;
@@ -94,10 +93,8 @@ fn print_page_in<W: Write>(
     buffer: &mut [u8],
     room: usize,
 ) -> io::Result<()> {
-    if room < buffer.len() {
-        return print_answer(out, book, text, listing, &mut buffer[..room]);
-    }
-    print_answer(out, book, text, listing, buffer)
+    let used = room.min(buffer.len());
+    print_answer(out, book, text, listing, &mut buffer[..used])
 }
 
 fn print_answer<W: Write>(
@@ -108,9 +105,9 @@ fn print_answer<W: Write>(
     page: &mut [u8],
 ) -> io::Result<()> {
     match write_page(book, text, listing, page) {
-        WriteAnswer::Written(length) => print_written(out, page, length),
-        WriteAnswer::Refused(number, place) => {
-            print_refusal(out, number, place)?;
+        Ok(length) => print_written(out, page, length),
+        Err(refusal) => {
+            print_refusal(out, refusal)?;
             print_line(out, page)
         }
     }

@@ -4,8 +4,10 @@
 
 ghost use Rattle.std.specs.Prelude.{◌≡◌, ◌++◌, ◌≤◌, ◌<◌, length, take, replicate, codes, decimal, IfOk, OnOk, IfSome, vec_len};
 ghost use Rattle.std.specs.Io.KnownBytes.{Appends, Keeps};
+ghost use Rattle.refusal.specs.Fault.{number_of};
 ghost use Rattle.report.specs.Lines.{refusal_line, quoted_byte, quoted_line};
 
+use refusal::Refusal;
 use std::alloc::{AllocError, Global};
 use std::io;
 use std::io::{Read, Write};
@@ -48,9 +50,11 @@ pub fn print_start<W: Write>(out: &mut W, buffer: &[u8], count: usize) -> io::Re
 }
 
 // 01's line for a refusal.
-pub fn print_refusal<W: Write>(out: &mut W, number: usize, place: usize) -> io::Result<()>
-    ensures { OnOk result (Appends (W.contents out.old) (W.contents out.new) (refusal_line number place)) }
+pub fn print_refusal<W: Write>(out: &mut W, refusal: Refusal) -> io::Result<()>
+    ensures { OnOk result (Appends (W.contents out.old) (W.contents out.new) (refusal_line (number_of refusal.fault) refusal.place)) }
 {
+    let number = refusal.fault.number();
+    let place = refusal.place;
     writeln!(out, "refused {number} {place}")
 }
 
@@ -76,10 +80,7 @@ pub fn print_quoted<W: Write>(out: &mut W, bytes: &[u8]) -> io::Result<()>
 fn print_byte<W: Write>(out: &mut W, byte: u8) -> io::Result<()>
     ensures { OnOk result (Appends (W.contents out.old) (W.contents out.new) (quoted_byte byte)) }
 {
-    if byte < b' ' {
-        return print_number(out, byte);
-    }
-    if b'~' < byte {
+    if byte < b' ' || b'~' < byte {
         return print_number(out, byte);
     }
     out.write_all(&[byte])

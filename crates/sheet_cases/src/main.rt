@@ -7,10 +7,10 @@ ghost use Rattle.std.specs.Prelude.{◌<◌, ◌≤◌, length, IfOk};
 
 use records::{bytes_of, field_at, field_from, number_of};
 use report::{print_quoted, print_refusal, read_input};
-use sheet::{Step, read_sheet, walk_once};
+use refusal::Refusal;
+use sheet::{read_sheet, walk_once};
 use std::io;
 use std::io::Write;
-use writing::WriteAnswer;
 
 // Enough for a line of 200 characters by a grammar of ten rows, and for the summary of the longest sheet.
 const LARGEST_BUFFER: usize = 210000;
@@ -101,8 +101,8 @@ fn print_sheet_in<W: Write>(
     chart_room: usize,
     summary_room: usize,
 ) -> io::Result<()> {
-    let chart_length = lesser(chart_room, chart.len());
-    let summary_length = lesser(summary_room, summary.len());
+    let chart_length = chart_room.min(chart.len());
+    let summary_length = summary_room.min(summary.len());
     print_answer(
         out,
         book,
@@ -114,15 +114,6 @@ fn print_sheet_in<W: Write>(
     print_shown(out, chart)
 }
 
-fn lesser(m: usize, n: usize) -> usize
-    ensures { result ≤ n }
-{
-    if m < n {
-        return m;
-    }
-    n
-}
-
 fn print_answer<W: Write>(
     out: &mut W,
     book: &[u8],
@@ -131,8 +122,8 @@ fn print_answer<W: Write>(
     summary: &mut [u8],
 ) -> io::Result<()> {
     match read_sheet(book, sheet, chart, summary) {
-        WriteAnswer::Written(count) => print_number(out, b"lines ", count),
-        WriteAnswer::Refused(number, place) => print_refusal(out, number, place),
+        Ok(count) => print_number(out, b"lines ", count),
+        Err(refusal) => print_refusal(out, refusal),
     }
 }
 
@@ -157,7 +148,7 @@ fn print_step_in<W: Write>(
     chart: &mut [u8],
     room: usize,
 ) -> io::Result<()> {
-    let length = lesser(room, chart.len());
+    let length = room.min(chart.len());
     let stepped = walk_once(book, sheet, start, &mut chart[..length]);
     let step = stepped.step;
     let next = stepped.next;
@@ -166,11 +157,13 @@ fn print_step_in<W: Write>(
     print_shown(out, chart)
 }
 
-fn print_came<W: Write>(out: &mut W, step: Step) -> io::Result<()> {
+fn print_came<W: Write>(out: &mut W, step: Result<Option<u8>, Refusal>) -> io::Result<()> {
     match step {
-        Step::End => out.write_all(b"end\n"),
-        Step::Line(byte) => print_number(out, b"line ", byte as usize),
-        Step::Refused(number, place) => print_refusal(out, number, place),
+        Ok(line) => match line {
+            None => out.write_all(b"end\n"),
+            Some(byte) => print_number(out, b"line ", usize::from(byte)),
+        },
+        Err(refusal) => print_refusal(out, refusal),
     }
 }
 
