@@ -14,24 +14,19 @@ use Rattle.ccg.specs.Ccg.{Line}
 use Rattle.chart.specs.Layout.{text_limit, chart_bytes}
 use Rattle.engine.proofs.AnswerLaws.{refused_is_long}
 use Rattle.engine.proofs.RefusalsLaws.{long_text, short_text, text_short, text_long, short_chart, long_chart, chart_short}
-use Rattle.engine.specs.Outcome.{Parsing, Parsed, UnlessRefused}
+use Rattle.engine.specs.Outcome.{Parsing, Parsed, UnlessRefused, Answer}
 use Rattle.engine.specs.Refusals.{too_long, chart_too_short}
 use Rattle.form.proofs.FormLaws.{longest_unique, says_unique}
 use Rattle.form.specs.Form.{Says, NotInForm}
-use Rattle.refusal.proofs.VerdictLaws.{refuse_case, refuse_accepted, first_of, FirstIn, here, there, order_first}
-use Rattle.refusal.specs.Verdict.{Verdict}
+use Rattle.refusal.proofs.VerdictLaws.{refuse_case, refuse_accepted, first_of, FirstIn, here, there, order_first, same_refusal}
+use Rattle.refusal.specs.Verdict.{Verdict, accepted, refusal, refused}
 use Rattle.layout.specs.Limits.{production_limit}
 use Rattle.load.proofs.AbsentLaws.{class_number, names_number}
 use Rattle.load.proofs.NamesLaws.{class_names, class_accepted, names_first, names_accepted}
 use Rattle.load.specs.Absent.{absent_at, absent_in, absent_names, FirstNamed}
 use Rattle.theory.specs.Tree.{production_number}
-use Rattle.engine.specs.declared.Parses.TheVariants.{None, One, Several}
-use Rattle.refusal.specs.Verdict.{accepted}
-use Rattle.engine.specs.Outcome.{Answer}
 use Rattle.std.specs.Prelude.{Ok, Err}
-use Rattle.refusal.proofs.VerdictLaws.{same_refusal}
 use Rattle.refusal.specs.Fault.{number_of}
-use Rattle.refusal.specs.Verdict.{refusal, refused}
 use Rattle.refusal.specs.declared.Fault.{Fault}
 use Rattle.engine.specs.declared.Parses.{Parses}
 use Rattle.refusal.specs.declared.Fault.TheVariants.{LongText, ShortChart, Form, NoLine}

@@ -15,25 +15,19 @@ use Rattle.ccg.specs.Tables.{table_class, table_grammar}
 use Rattle.charset.specs.Set.{characters}
 use Rattle.chart.specs.Layout.{chart_need, chart_bytes}
 use Rattle.engine.proofs.SameParsingLaws.{chart_bytes_same, unless_same}
-use Rattle.engine.specs.Outcome.{UnlessRefused}
+use Rattle.engine.specs.Outcome.{UnlessRefused, Answer}
 use Rattle.engine.specs.Refusals.{text_refusal}
 use Rattle.engine.specs.Roots.{parsing_by, TablesOutcome}
 use Rattle.form.specs.Form.{Says}
-use Rattle.refusal.proofs.VerdictLaws.{first_same}
-use Rattle.refusal.specs.Verdict.{refuse_if, unless_refused}
-use Rattle.refusal.specs.Verdict.{Verdict}
+use Rattle.refusal.proofs.VerdictLaws.{first_same, same_refusal as equal_refusal}
+use Rattle.refusal.specs.Verdict.{refuse_if, unless_refused, Verdict, accepted}
 use Rattle.layout.specs.Limits.{production_limit}
 use Rattle.load.specs.Absent.{absent_at, absent_in, absent_names}
 use Rattle.load.specs.Check.{lines_answer, Loaded}
 use Rattle.tables.specs.Layout.{root_slot, counts_of, arity_in, takes_production, ParserTables}
 use Rattle.tables.specs.Put.{ClassPut}
 use Rattle.theory.specs.Tree.{production_number}
-use Rattle.engine.specs.declared.Parses.TheVariants.{None, One, Several}
-use Rattle.refusal.specs.Verdict.{accepted}
-use Rattle.engine.specs.Outcome.{Answer}
-use Rattle.std.specs.Prelude.{Result}
-use Rattle.std.specs.Prelude.{Ok, Err}
-use Rattle.refusal.proofs.VerdictLaws.{same_refusal as equal_refusal}
+use Rattle.std.specs.Prelude.{Result, Ok, Err}
 use Rattle.refusal.specs.declared.Refusal.{Refusal}
 use Rattle.refusal.specs.declared.Fault.TheVariants.{NoLine}
 

@@ -3,14 +3,13 @@ use Prim.Native.Nat.{ℕ}
 use mathlib.Core.Bool.{Bool}
 use mathlib.Core.List.{List, [], ◌∷◌}
 use mathlib.Core.Logic.{◌⊎◌, inl, inr}
-use mathlib.Core.Path.{◌≡◌, refl}
-use lib.Dec.{ltb}
+use mathlib.Core.Path.{◌≡◌, ap}
 use lib.ListN.{length}
 use Rattle.archive.specs.Outcome.{root_class, line_arity, flat_refusal}
 use Rattle.ccg.specs.Ccg.{Line}
-use Rattle.chart.specs.Layout.{text_limit, chart_bytes}
+use Rattle.chart.specs.Layout.{chart_bytes}
 use Rattle.engine.specs.Refusals.{too_long, chart_too_short}
-use Rattle.refusal.proofs.VerdictLaws.{refuse_case, FirstIn, here, there, order_first}
+use Rattle.refusal.proofs.VerdictLaws.{FirstIn, here, there, order_first}
 use Rattle.refusal.specs.Verdict.{Verdict}
 use Rattle.std.specs.Prelude.{Err}
 use Rattle.load.proofs.AbsentLaws.{class_number, names_number}
@@ -18,7 +17,6 @@ use Rattle.load.specs.Absent.{absent_in, absent_names}
 use Rattle.refusal.specs.declared.Refusal.{Refusal}
 use Rattle.engine.proofs.RefusalsLaws.{text_long, chart_short}
 use Rattle.refusal.specs.Fault.{number_of}
-use mathlib.Core.Path.{ap}
 
 -- one of the three
 abbrev pub Numbers : ℕ → Type 0

@@ -9,11 +9,9 @@ use Rattle.ccg.specs.Ccg.{Line}
 use Rattle.engine.proofs.OutcomeLaws.{unless_unique}
 use Rattle.form.proofs.FormLaws.{longest_unique, says_unique}
 use Rattle.form.specs.Form.{Says, NotInForm}
-use Rattle.engine.specs.declared.Parses.TheVariants.{None, One, Several}
 use Rattle.engine.specs.Outcome.{Answer}
 use Rattle.refusal.specs.Verdict.{refused}
 use Rattle.refusal.specs.declared.Fault.TheVariants.{Form}
-use Rattle.refusal.specs.declared.Refusal.{Refusal}
 
 module _ (flat : List ℕ) (roots : List Bool) (w c₀ l₀ : List ℕ) (r r' : Answer) (c c' l l' : List ℕ) where
   -- not in the form

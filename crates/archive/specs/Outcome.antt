@@ -3,19 +3,14 @@ use Rattle.std.specs.Prelude.{ℕ, ◌-◌, ◌≤◌, ◌<◌, ◌≡◌, Bool,
 use Rattle.std.proofs.Math.Seq.{slice}
 use Rattle.ccg.specs.Ccg.{Class, Line, no_line, Generated, Each}
 use Rattle.chart.specs.Layout.{chart_bytes}
-use Rattle.engine.specs.Outcome.{Parsing, UnlessRefused}
+use Rattle.engine.specs.Outcome.{Parsing, UnlessRefused, Answer}
 use Rattle.engine.specs.Refusals.{too_long, chart_too_short}
 use Rattle.form.specs.Form.{Says, NotInForm}
-use Rattle.refusal.specs.Verdict.{in_order}
-use Rattle.refusal.specs.Verdict.{Verdict}
+use Rattle.refusal.specs.Verdict.{in_order, Verdict, refused}
 use Rattle.layout.specs.Limits.{production_limit}
 use Rattle.load.specs.Absent.{absent_in, absent_names, Names}
 use Rattle.theory.specs.Tree.{Tree, Forest, production_number, yield, yields}
-use Rattle.engine.specs.declared.Parses.TheVariants.{None, One, Several}
-use Rattle.engine.specs.Outcome.{Answer}
-use Rattle.refusal.specs.Verdict.{refused}
 use Rattle.refusal.specs.declared.Fault.TheVariants.{Form}
-use Rattle.refusal.specs.declared.Refusal.{Refusal}
 
 -- The numbers of the lines that are allowed at the root: an entry for each line that there could be.
 unfoldable pub root_class : List Bool → Class

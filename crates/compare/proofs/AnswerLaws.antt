@@ -7,12 +7,11 @@ use Rattle.compare.specs.Answer.{found_right, not_right, compare_lines, Compared
 use Rattle.compare.specs.Uses.{uses}
 use Rattle.engine.specs.Refusals.{too_long}
 use Rattle.refusal.proofs.VerdictLaws.{and_first, and_assoc}
-use Rattle.refusal.specs.Verdict.{refuse_if, and_then, in_order}
+use Rattle.refusal.specs.Verdict.{refuse_if, and_then, in_order, accepted, refused}
 use Rattle.listing.specs.Answer.{bad_listing, judged}
 use Rattle.order.specs.Order.{OrderIs}
 use Rattle.order.specs.declared.Order.{Order}
 use Rattle.priority.specs.Check.{checked}
-use Rattle.refusal.specs.Verdict.{accepted, refused}
 use Rattle.refusal.specs.declared.Fault.TheVariants.{WrongPair}
 use Rattle.refusal.specs.declared.Refusal.{Refusal}
 use Rattle.std.specs.Prelude.{Ok, Err}

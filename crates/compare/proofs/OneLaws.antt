@@ -1,27 +1,24 @@
 -- What a comparison answers, exactly: each answer under its condition, and no other.
 use Prim.Native.Nat.{ℕ, ◌≤◌}
 use mathlib.Core.List.{List}
-use mathlib.Core.Logic.{◌↔◌, ◌⊎◌, inl, inr, ⊎_elim}
+use mathlib.Core.Logic.{◌↔◌, ◌⊎◌, inl, inr}
 use mathlib.Core.Path.{◌≡◌, refl, sym, ◌∙◌, ap, subst}
 use native.Mathlib.Omega.{arith}
 use Rattle.compare.proofs.AnswerLaws.{lines_checked, compared_refused, compared_ordered}
 use Rattle.compare.proofs.RefusalLaws.{refused_exactly, accepted_exactly}
-use Rattle.compare.specs.Answer.{compare_lines, ComparedIf, Compared}
+use Rattle.compare.specs.Answer.{compare_lines, ComparedIf, Compared, CompareAnswer}
 use Rattle.compare.specs.Refusals.{ComparisonRefused, first, second, first_wrong, second_wrong}
 use Rattle.compare.specs.Uses.{uses}
-use Rattle.refusal.specs.Verdict.{in_order}
-use Rattle.refusal.specs.Verdict.{Verdict}
+use Rattle.refusal.specs.Verdict.{in_order, Verdict, accepted}
 use Rattle.listing.proofs.RefusedLaws.{refused_small}
 use Rattle.listing.specs.Answer.{listing_answer}
 use Rattle.order.proofs.OrderLaws.{says_one}
 use Rattle.order.specs.Order.{Uses, OrderIs}
 use Rattle.order.specs.declared.Order.{Order}
 use Rattle.priority.specs.Check.{checked}
-use Rattle.compare.specs.Answer.{CompareAnswer}
 use Rattle.listing.specs.declared.Judgement.TheVariants.{Right}
 use Rattle.refusal.proofs.VerdictLaws.{same_refusal}
 use Rattle.refusal.specs.Fault.{number_of}
-use Rattle.refusal.specs.Verdict.{accepted}
 use Rattle.refusal.specs.declared.Refusal.{Refusal}
 use Rattle.std.specs.Prelude.{Ok, Err}
 

@@ -8,16 +8,12 @@ use native.Mathlib.Omega.{arith}
 use Rattle.compare.specs.Answer.{found_right, not_right, compare_lines}
 use Rattle.compare.specs.Refusals.{Answered, ComparisonRefused, first, second, first_wrong, second_wrong}
 use Rattle.engine.specs.Refusals.{too_long}
-use Rattle.refusal.proofs.VerdictLaws.{refused_not_accepted, and_assoc}
-use Rattle.refusal.specs.Verdict.{refuse_if, and_then, in_order, unless_refused}
-use Rattle.refusal.specs.Verdict.{Verdict}
-use Rattle.listing.specs.Answer.{bad_listing, judged, listing_answer}
+use Rattle.refusal.proofs.VerdictLaws.{refused_not_accepted, and_assoc, same_refusal}
+use Rattle.refusal.specs.Verdict.{refuse_if, and_then, in_order, unless_refused, Verdict, accepted, refused}
+use Rattle.listing.specs.Answer.{bad_listing, judged, listing_answer, ListingAnswer}
 use Rattle.priority.specs.Check.{checked}
-use Rattle.listing.specs.Answer.{ListingAnswer}
 use Rattle.listing.specs.declared.Judgement.{Judgement}
 use Rattle.listing.specs.declared.Judgement.TheVariants.{Right, Wrong}
-use Rattle.refusal.proofs.VerdictLaws.{same_refusal}
-use Rattle.refusal.specs.Verdict.{accepted, refused}
 use Rattle.refusal.specs.declared.Fault.TheVariants.{WrongPair}
 use Rattle.refusal.specs.declared.Refusal.{Refusal}
 use Rattle.std.specs.Prelude.{Ok, Err, ⊤}

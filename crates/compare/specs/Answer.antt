@@ -1,9 +1,8 @@
 -- The promise of the operation "which of two readings is lower" (02, [9]), stated once, for every grammar, text and pair of listings.
-use Rattle.std.specs.Prelude.{ℕ, Bool, false, true, not, List, [], ◌∷◌, ◌≡◌}
+use Rattle.std.specs.Prelude.{ℕ, Bool, false, true, not, List, [], ◌∷◌, ◌≡◌, Result, Ok, Err}
 use Rattle.compare.specs.Uses.{uses}
 use Rattle.engine.specs.Refusals.{too_long}
-use Rattle.refusal.specs.Verdict.{refuse_if, in_order}
-use Rattle.refusal.specs.Verdict.{Verdict}
+use Rattle.refusal.specs.Verdict.{refuse_if, in_order, Verdict}
 use Rattle.listing.specs.Answer.{bad_listing, judged}
 use Rattle.order.specs.Order.{Uses, OrderIs}
 use Rattle.order.specs.declared.Order.{Order}
@@ -12,7 +11,6 @@ use Rattle.listing.specs.declared.Judgement.{Judgement}
 use Rattle.listing.specs.declared.Judgement.TheVariants.{Right, Wrong}
 use Rattle.refusal.specs.declared.Fault.TheVariants.{WrongPair}
 use Rattle.refusal.specs.declared.Refusal.{Refusal}
-use Rattle.std.specs.Prelude.{Result, Ok, Err}
 
 -- going through a listing found it right
 unfoldable pub found_right : Judgement → Bool

@@ -1,11 +1,10 @@
 -- When a comparison is refused (02, [9]), as conditions: by what checking each of the two listings answers.
-use Rattle.std.specs.Prelude.{ℕ, ◌≡◌}
+use Rattle.std.specs.Prelude.{ℕ, ◌≡◌, Ok, Err}
 use Rattle.listing.specs.Answer.{ListingAnswer}
 use Rattle.listing.specs.declared.Judgement.TheVariants.{Right, Wrong}
 use Rattle.refusal.specs.Verdict.{refusal}
 use Rattle.refusal.specs.declared.Fault.TheVariants.{WrongPair}
 use Rattle.refusal.specs.declared.Refusal.{Refusal}
-use Rattle.std.specs.Prelude.{Ok, Err}
 
 -- The check of a listing answered; it was not refused.
 abbrev pub Answered : ListingAnswer → Type 0

@@ -7,12 +7,11 @@ use native.Mathlib.Omega.{arith}
 use lib.ListN.{length, take}
 use Rattle.common.specs.Lists.{overwritten}
 use Rattle.engine.proofs.UniqueLaws.{answer_unique}
-use Rattle.engine.specs.Outcome.{Answered}
+use Rattle.engine.specs.Outcome.{Answered, Answer}
 use Rattle.numbers.specs.Written.{bytes_of, room}
 use Rattle.theory.specs.Counts.{Only, Two}
 use Rattle.theory.specs.Tree.{Tree, listing}
 use Rattle.engine.specs.declared.Parses.TheVariants.{None, One, Several}
-use Rattle.engine.specs.Outcome.{Answer}
 use Rattle.std.specs.Prelude.{Ok, Err}
 use Rattle.refusal.specs.Verdict.{refused}
 use Rattle.refusal.specs.declared.Fault.TheVariants.{LongListing}

@@ -33,7 +33,6 @@ use Rattle.engine.specs.declared.Parses.TheVariants.{None, One, Several}
 use Rattle.std.specs.Prelude.{Ok}
 use Rattle.refusal.specs.Verdict.{refused}
 use Rattle.refusal.specs.declared.Fault.TheVariants.{LongListing}
-use Rattle.refusal.specs.declared.Refusal.{Refusal}
 
 -- ---- what is lent
 

@@ -3,11 +3,8 @@ use Prim.Native.Nat.{ℕ}
 use mathlib.Core.Path.{◌≡◌, refl, sym, ◌∙◌}
 use mathlib.Core.List.{List}
 use Rattle.engine.proofs.UniqueLaws.{parsed_unique}
-use Rattle.engine.specs.Outcome.{Parsing, Parsed, UnlessRefused}
-use Rattle.refusal.specs.Verdict.{Verdict}
-use Rattle.engine.specs.declared.Parses.TheVariants.{None, One, Several}
-use Rattle.refusal.specs.Verdict.{accepted}
-use Rattle.engine.specs.Outcome.{Answer}
+use Rattle.engine.specs.Outcome.{Parsing, Parsed, UnlessRefused, Answer}
+use Rattle.refusal.specs.Verdict.{Verdict, accepted}
 use Rattle.std.specs.Prelude.{Ok, Err}
 use Rattle.refusal.specs.declared.Refusal.{Refusal}
 

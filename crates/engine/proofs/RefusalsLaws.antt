@@ -9,13 +9,10 @@ use borrow.Author.Tests.{ltb-true, ltb-false, lt-ltb, le-ltb}
 use Rattle.chart.specs.Layout.{text_limit, chart_need, ChartFits}
 use Rattle.engine.specs.Refusals.{too_long, chart_too_short, text_refusal}
 use Rattle.refusal.proofs.VerdictLaws.{refuse_accepted, refuse_case}
-use Rattle.refusal.specs.Verdict.{and_then}
-use Rattle.refusal.specs.Verdict.{Verdict}
+use Rattle.refusal.specs.Verdict.{and_then, Verdict, accepted, refused}
 use Rattle.std.specs.Prelude.{Ok, Err}
-use Rattle.refusal.specs.Verdict.{accepted}
 use Rattle.tables.specs.Layout.{ParserTables}
 use Rattle.refusal.specs.declared.Fault.TheVariants.{LongText, ShortChart}
-use Rattle.refusal.specs.Verdict.{refused}
 use Rattle.refusal.specs.Fault.{number_of}
 use Rattle.refusal.specs.declared.Refusal.{Refusal}
 

@@ -8,17 +8,14 @@ use native.Mathlib.Omega.{arith}
 use Rattle.chart.specs.Counted.{entry_of}
 use Rattle.chart.specs.Layout.{row_of, span_count, cell_at, chart_bytes, entry_at}
 use Rattle.common.proofs.BelowLaws.{sum_same}
-use Rattle.engine.specs.Outcome.{Parsing, Answered, ChartAfter, Parsed, UnlessRefused}
+use Rattle.engine.specs.Outcome.{Parsing, Answered, ChartAfter, Parsed, UnlessRefused, Answer}
 use Rattle.refusal.specs.Verdict.{Verdict}
 use Rattle.tables.specs.Layout.{row_count}
 use Rattle.theory.proofs.CountLaws.{counts_same}
 use Rattle.theory.specs.Counts.{Only, Counts}
 use Rattle.theory.specs.Tree.{Tree, Forest}
 use Rattle.engine.specs.declared.Parses.TheVariants.{None, One, Several}
-use Rattle.refusal.specs.Verdict.{accepted}
-use Rattle.engine.specs.Outcome.{Answer}
 use Rattle.std.specs.Prelude.{Ok, Err}
-use Rattle.refusal.specs.declared.Refusal.{Refusal}
 
 -- The same parses, and the same lists of trees to count for each entry in range.
 pub record SameParsing (s u : Parsing) : Type 0 where

@@ -6,16 +6,14 @@ use native.Mathlib.Omega.{arith}
 use lib.ListN.{length, take}
 use Rattle.chart.proofs.CountedLaws.{counted_unique}
 use Rattle.common.specs.Lists.{overwritten}
-use Rattle.engine.specs.Outcome.{Parsing, Answered, ChartAfter, Parsed}
+use Rattle.engine.specs.Outcome.{Parsing, Answered, ChartAfter, Parsed, Answer}
 use Rattle.numbers.specs.Written.{bytes_of}
 use Rattle.theory.specs.Counts.{Only, Two}
 use Rattle.theory.specs.Tree.{Tree, listing}
 use Rattle.engine.specs.declared.Parses.TheVariants.{None, One, Several}
-use Rattle.engine.specs.Outcome.{Answer}
 use Rattle.std.specs.Prelude.{Ok, Err}
 use Rattle.refusal.specs.Verdict.{refused}
 use Rattle.refusal.specs.declared.Fault.{Fault}
-use Rattle.refusal.specs.declared.Refusal.{Refusal}
 
 -- ---- the chart
 

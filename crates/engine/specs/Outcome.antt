@@ -1,5 +1,5 @@
 -- What parsing a text promises, of its answer and of every lent byte afterwards (01, "Readings, listings and the chart"; demand 3).
-use Rattle.std.specs.Prelude.{ℕ, ◌*◌, ◌≤◌, ◌<◌, ◌≡◌, List, length, take}
+use Rattle.std.specs.Prelude.{ℕ, ◌*◌, ◌≤◌, ◌<◌, ◌≡◌, List, length, take, Result, Ok, Err}
 use Rattle.chart.specs.Counted.{Counted}
 use Rattle.chart.specs.Layout.{chart_bytes}
 use Rattle.common.specs.Lists.{overwritten}
@@ -9,7 +9,6 @@ use Rattle.theory.specs.Counts.{Only, Two}
 use Rattle.theory.specs.Steps.{everything}
 use Rattle.theory.specs.Tree.{Tree, Forest, listing}
 use Rattle.engine.specs.declared.Parses.TheVariants.{None, One, Several}
-use Rattle.std.specs.Prelude.{Result, Ok, Err}
 use Rattle.engine.specs.declared.Parses.{Parses}
 use Rattle.refusal.specs.declared.Fault.TheVariants.{LongListing}
 use Rattle.refusal.specs.declared.Refusal.{Refusal}

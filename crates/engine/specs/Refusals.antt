@@ -1,8 +1,7 @@
 -- The refusals of a text and of a chart (01, "Refused because of the input").
 use Rattle.std.specs.Prelude.{ℕ, List, [], ◌∷◌, ltb, length}
 use Rattle.chart.specs.Layout.{text_limit, chart_need}
-use Rattle.refusal.specs.Verdict.{refuse_if, in_order}
-use Rattle.refusal.specs.Verdict.{Verdict}
+use Rattle.refusal.specs.Verdict.{refuse_if, in_order, Verdict}
 use Rattle.refusal.specs.declared.Fault.TheVariants.{LongText, ShortChart}
 
 -- 10: the text is over its limit; the place is its length

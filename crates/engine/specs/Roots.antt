@@ -1,15 +1,13 @@
 -- Parsing by flat tables: the productions allowed at the root, and a chart that is filled for them.
 use Rattle.std.specs.Prelude.{ℕ, ◌*◌, ◌<◌, ◌≡◌, true, List, length}
 use Rattle.common.specs.Below.{bit_of}
-use Rattle.engine.specs.Outcome.{Parsing, UnlessRefused}
+use Rattle.engine.specs.Outcome.{Parsing, UnlessRefused, Answer}
 use Rattle.engine.specs.Refusals.{text_refusal}
 use Rattle.extract.specs.Places.{Walkable, cell_of}
 use Rattle.tables.specs.Layout.{root_slot, counts_of, arity_in, takes_production}
 use Rattle.tables.specs.Theory.{theory_of}
 use Rattle.theory.specs.Grammar.{Spells, Parse}
 use Rattle.theory.specs.Tree.{Tree, Forest}
-use Rattle.engine.specs.Outcome.{Answer}
-use Rattle.refusal.specs.declared.Refusal.{Refusal}
 
 -- A parse of the text w: a tree of the tables' grammar, with a production at its root that the root's class has, that spells w.
 abbrev pub ParseBy : (tables w : List ℕ) → Tree → Type 0

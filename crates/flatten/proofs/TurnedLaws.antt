@@ -14,8 +14,7 @@ use Rattle.flatten.specs.Reading.{ReadingIn, EntryListIn, Reading, EntryList}
 use Rattle.grammar.proofs.SameFrontLaws.{SameFront, front_back, same_productions, same_start, same_count}
 use Rattle.grammar.proofs.TurnedLaws.{turned_front}
 use Rattle.grammar.specs.Turned.{TurnedRound}
-use Rattle.refusal.specs.Verdict.{unless_refused}
-use Rattle.refusal.specs.Verdict.{Verdict}
+use Rattle.refusal.specs.Verdict.{unless_refused, Verdict}
 use Rattle.layout.specs.Layout.{productions, start_sort, argument_count}
 use Rattle.priority.proofs.TurnedLaws.{turned_list, turned_checked}
 use Rattle.priority.specs.Priorities.{declarations_of}

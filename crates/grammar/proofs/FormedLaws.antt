@@ -14,9 +14,7 @@ use Rattle.common.proofs.BoolLaws.{or_first_false, or_second_false}
 use Rattle.refusal.proofs.VerdictLaws.{refuse_accepted, accepted_last, and_first, and_second, first_all}
 use Rattle.grammar.specs.Check.{outside, short_header, header_lines, header_bytes, bad_header, short_contents, bad_argument_count, bad_range_count, bad_length, names_argument, bad_argument, bad_arguments, bad_production, is_group, declaration_lines, declaration_bytes, bad_declaration, same_production, repeated_production, frame_lines, frame_check, bodies_lines, bodies_check}
 use Rattle.grammar.specs.Formed.{WellFormed}
-use Rattle.refusal.specs.Verdict.{refuse_if, and_then, in_order}
-use Rattle.refusal.specs.Verdict.{Verdict}
-use Rattle.refusal.specs.Verdict.{accepted}
+use Rattle.refusal.specs.Verdict.{refuse_if, and_then, in_order, Verdict, accepted}
 use Rattle.layout.specs.Framed.{Framed}
 use Rattle.layout.specs.Layout.{byte_at, sorts, productions, classes, declarations, start_sort, argument_count, range_count, production_at, result_sort, argument, declaration_at, kind, first, second, needed_length}
 use Rattle.layout.specs.Limits.{sort_limit, production_limit, class_limit, argument_limit, range_limit, kind_limit, pair_kind_limit, header_length}

@@ -2,8 +2,7 @@
 use Rattle.std.specs.Prelude.{ℕ, ◌+◌, min, Bool, not, ◌&&◌, ◌||◌, List, [], ◌∷◌, leb, ltb, eqb, length}
 use Rattle.classes.specs.Classes.{is_class, same_argument}
 use Rattle.common.specs.Below.{all_below, any_below}
-use Rattle.refusal.specs.Verdict.{refuse_if, and_then, first_refusal, in_order}
-use Rattle.refusal.specs.Verdict.{Verdict}
+use Rattle.refusal.specs.Verdict.{refuse_if, and_then, first_refusal, in_order, Verdict}
 use Rattle.refusal.specs.declared.Fault.TheVariants.{Short, Header, Count, Length, Name, Absent, Repeated}
 use Rattle.layout.specs.Layout.{byte_at, sorts, productions, classes, declarations, start_sort, argument_count_at, range_count_at, argument_count, range_count, bodies_at, production_at, argument_at, result_sort, argument, declaration_at, kind, first, second, needed_length}
 use Rattle.layout.specs.Limits.{sort_limit, production_limit, class_limit, argument_limit, range_limit, kind_limit, pair_kind_limit, header_length}

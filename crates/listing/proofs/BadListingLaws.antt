@@ -11,9 +11,8 @@ use borrow.Author.Tests.{ltb-true, eqb-true, ltb-false, eqb-false, lt-ltb, le-lt
 use Rattle.common.proofs.BoolLaws.{or_cases, or_first_false, or_second_false}
 use Rattle.refusal.proofs.VerdictLaws.{refuse_case, refuse_accepted}
 use Rattle.std.specs.Prelude.{Err}
-use Rattle.refusal.specs.Verdict.{accepted}
+use Rattle.refusal.specs.Verdict.{accepted, refused}
 use Rattle.listing.specs.Answer.{byte_limit, bad_listing}
-use Rattle.refusal.specs.Verdict.{refused}
 use Rattle.refusal.specs.declared.Fault.TheVariants.{BadListing}
 use Rattle.refusal.specs.declared.Refusal.{Refusal}
 use Rattle.refusal.specs.Fault.{number_of}

@@ -15,9 +15,7 @@ use Rattle.flatten.specs.Flat.{flat_grammar, plain_class}
 use Rattle.flatten.specs.Reading.{Reading}
 use Rattle.refusal.proofs.VerdictLaws.{and_first, unless_answer}
 use Rattle.grammar.specs.Formed.{WellFormed}
-use Rattle.refusal.specs.Verdict.{and_then, in_order}
-use Rattle.refusal.specs.Verdict.{Verdict}
-use Rattle.refusal.specs.Verdict.{accepted}
+use Rattle.refusal.specs.Verdict.{and_then, in_order, Verdict, accepted}
 use Rattle.layout.specs.Layout.{start_sort}
 use Rattle.listing.proofs.BadListingLaws.{listing_accepted}
 use Rattle.listing.proofs.TreeLaws.{judge_right}

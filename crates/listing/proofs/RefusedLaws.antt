@@ -1,21 +1,15 @@
 -- The answers of checking a listing, each exactly under its condition: 10, 11, and right.
-use Prim.Native.Nat.{ℕ, ◌+◌, ◌%◌, ◌≤◌, ◌<◌}
+use Prim.Native.Nat.{ℕ, ◌%◌, ◌≤◌, ◌<◌}
 use mathlib.Core.Path.{◌≡◌, refl, sym, ◌∙◌, ap}
-use mathlib.Core.List.{List, [], ◌∷◌, ◌++◌}
+use mathlib.Core.List.{List, [], ◌∷◌}
 use mathlib.Core.Logic.{◌↔◌, ◌⊎◌, ⊎_elim}
 use native.Mathlib.Omega.{arith}
 use lib.ListN.{length, get_or}
-use Rattle.ccg.specs.Ccg.{Class, Line}
-use Rattle.flatten.specs.Flat.{flat_grammar, plain_class}
 use Rattle.charset.specs.Set.{characters}
 use Rattle.chart.specs.Layout.{text_limit}
-use Rattle.common.proofs.BoolLaws.{true_or_false}
 use Rattle.refusal.proofs.VerdictLaws.{and_first, and_second, FirstIn, here, there, order_first, unless_refused_lem}
-use Rattle.refusal.specs.Verdict.{and_then, in_order}
-use Rattle.refusal.specs.Verdict.{Verdict}
-use Rattle.layout.specs.Layout.{start_sort}
+use Rattle.refusal.specs.Verdict.{and_then, in_order, Verdict, accepted, refused, refusal}
 use Rattle.listing.specs.Answer.{ListingAnswer, byte_limit, bad_listing, judged, listing_answer}
-use Rattle.listing.specs.Judge.{is_right, due_after, text_after, judge}
 use Rattle.numbers.specs.Numbers.{numbers_of}
 use Rattle.engine.specs.Refusals.{too_long}
 use Rattle.flatten.specs.Reading.{Reading}
@@ -25,15 +19,11 @@ use Rattle.priority.specs.Check.{checked}
 use Rattle.theory.specs.Tree.{Tree, listing}
 use Rattle.listing.proofs.BadListingLaws.{odd_listing, long_listing, listing_accepted, listing_refused, listing_good}
 use Rattle.listing.proofs.ReadingLaws.{refusals, listing_right}
-use Rattle.refusal.specs.Verdict.{accepted}
-use Rattle.listing.specs.declared.Judgement.TheVariants.{Right, Wrong}
+use Rattle.listing.specs.declared.Judgement.TheVariants.{Right}
 use Rattle.std.specs.Prelude.{Ok, Err}
-use Rattle.refusal.specs.Verdict.{refused}
 use Rattle.refusal.specs.declared.Fault.TheVariants.{LongText, BadListing}
 use Rattle.refusal.specs.declared.Refusal.{Refusal}
 use Rattle.refusal.specs.Fault.{number_of}
-use Rattle.refusal.specs.Verdict.{refusal}
-use Rattle.listing.specs.declared.Judgement.TheVariants.{Right}
 
 -- ---- where a refusal comes from
 

@@ -1,8 +1,7 @@
 -- The promise of the operation "checking a listing" (01), stated once, for every grammar, text and listing.
-use Rattle.std.specs.Prelude.{ℕ, ◌*◌, ◌%◌, ◌||◌, List, [], ◌∷◌, ltb, eqb, length}
+use Rattle.std.specs.Prelude.{ℕ, ◌*◌, ◌%◌, ◌||◌, List, [], ◌∷◌, ltb, eqb, length, Result, Ok}
 use Rattle.flatten.specs.Flat.{flat_grammar, plain_class}
-use Rattle.refusal.specs.Verdict.{refuse_if, in_order, unless_refused}
-use Rattle.refusal.specs.Verdict.{Verdict}
+use Rattle.refusal.specs.Verdict.{refuse_if, in_order, unless_refused, Verdict}
 use Rattle.layout.specs.Layout.{start_sort}
 use Rattle.listing.specs.Judge.{judge}
 use Rattle.numbers.specs.Numbers.{listing_limit, numbers_of}
@@ -10,7 +9,6 @@ use Rattle.engine.specs.Refusals.{too_long}
 use Rattle.priority.specs.Check.{checked}
 use Rattle.listing.specs.declared.Judgement.{Judgement}
 use Rattle.refusal.specs.declared.Refusal.{Refusal}
-use Rattle.std.specs.Prelude.{Result, Ok}
 use Rattle.refusal.specs.declared.Fault.TheVariants.{BadListing}
 
 -- most bytes of a listing that is checked

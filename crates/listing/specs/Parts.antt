@@ -1,5 +1,5 @@
 -- Going through a listing by the tables of a grammar, and what the walk over a part of it gives: a tree, or the trees of some arguments.
-use Rattle.std.specs.Prelude.{ℕ, ◌+◌, ◌≤◌, ◌≡◌, List, [], ◌∷◌, ◌++◌, length, drop}
+use Rattle.std.specs.Prelude.{ℕ, ◌+◌, ◌≤◌, ◌≡◌, List, [], ◌∷◌, ◌++◌, length, drop, Result, Ok, Err}
 use Rattle.ccg.specs.Ccg.{Class, Line}
 use Rattle.ccg.specs.Tables.{table_class, table_line, table_grammar}
 use Rattle.listing.specs.Judge.{judge}
@@ -8,7 +8,6 @@ use Rattle.listing.specs.declared.Judgement.TheVariants.{Wrong}
 use Rattle.numbers.specs.Numbers.{numbers_of}
 use Rattle.tables.specs.Layout.{root_slot}
 use Rattle.listing.specs.declared.Next.{Next}
-use Rattle.std.specs.Prelude.{Result, Ok, Err}
 
 -- At the root a production that the tables allow there is due.
 unfoldable pub judged_by : (t w l : List ℕ) → Judgement

@@ -20,7 +20,6 @@ use Rattle.form.specs.Form.{Writable, Says}
 use Rattle.form.specs.Read.{Memory}
 use Rattle.refusal.specs.Verdict.{accepted, refusal}
 use Rattle.refusal.specs.declared.Fault.{Fault}
-use Rattle.refusal.specs.declared.Fault.TheVariants.{Form}
 use Rattle.std.specs.Prelude.{Result, Ok, Err}
 use Rattle.refusal.specs.declared.Refusal.{Refusal}
 use Rattle.layout.specs.Limits.{production_limit}

@@ -9,9 +9,8 @@ use native.Mathlib.Omega.{arith}
 use lib.ListN.{length, get_or}
 use Rattle.ccg.specs.Ccg.{Class, Line, no_line, no_class}
 use Rattle.refusal.proofs.VerdictLaws.{refuse_case, refuse_accepted, FirstOf, first_of, first_all, first_pass}
-use Rattle.refusal.specs.Verdict.{Verdict}
+use Rattle.refusal.specs.Verdict.{Verdict, accepted, refusal, refused}
 use Rattle.std.specs.Prelude.{Ok, Err}
-use Rattle.refusal.specs.Verdict.{accepted, refusal, refused}
 use Rattle.refusal.specs.declared.Fault.{Fault}
 use Rattle.refusal.specs.declared.Fault.TheVariants.{NoLine}
 use Rattle.refusal.specs.declared.Refusal.{Refusal}

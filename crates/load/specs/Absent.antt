@@ -1,8 +1,7 @@
 -- Refusal 28: numbers of lines that are not there (02, [7]).
 use Rattle.std.specs.Prelude.{ℕ, ◌+◌, ◌-◌, ◌≤◌, ◌<◌, true, ◌≡◌, List, length, get_or}
 use Rattle.ccg.specs.Ccg.{Class, Line, no_line, no_class}
-use Rattle.refusal.specs.Verdict.{refuse_if, first_refusal}
-use Rattle.refusal.specs.Verdict.{Verdict}
+use Rattle.refusal.specs.Verdict.{refuse_if, first_refusal, Verdict}
 use Rattle.refusal.specs.declared.Fault.TheVariants.{NoLine}
 use Rattle.layout.specs.Limits.{production_limit}
 use Rattle.theory.specs.Tree.{production_number}

@@ -18,11 +18,9 @@ use Rattle.engine.specs.Refusals.{too_long}
 use Rattle.flatten.proofs.TestsLaws.{TestsAre, tests_parses}
 use Rattle.flatten.specs.Reading.{Reading}
 use Rattle.refusal.proofs.VerdictLaws.{and_first}
-use Rattle.refusal.specs.Verdict.{in_order}
+use Rattle.refusal.specs.Verdict.{in_order, Verdict, RefusedBy, accepted}
 use Rattle.refusal.specs.Fault.{number_of}
-use Rattle.refusal.specs.Verdict.{Verdict, RefusedBy}
 use Rattle.std.specs.Prelude.{Ok, Err}
-use Rattle.refusal.specs.Verdict.{accepted}
 use Rattle.layout.specs.Layout.{productions}
 use Rattle.marked.proofs.CaseTests.{same, all_bytes, starts, grammar_of, derives, derives_at, parses, Spans, chart_of, empty_test, step_test, parse_sum, accepts, refuses, Given, tests, every, Shown, case_of, case_test, table_test}
 use Rattle.marked.specs.Cases.{Expected, no_reading, one_reading, several_readings, bad_grammar, refused, Says, Statement}

@@ -4,7 +4,7 @@ use mathlib.Core.List.{List}
 use mathlib.Core.Path.{◌≡◌, sym, ◌∙◌, ap}
 use native.Mathlib.Omega.{arith}
 use Rattle.compare.proofs.OneLaws.{compared_one}
-use Rattle.compare.specs.Answer.{Compared}
+use Rattle.compare.specs.Answer.{Compared, CompareAnswer}
 use Rattle.meadowsink.specs.Compare.{CompareCall}
 use Rattle.order.specs.Order.{order_number}
 use Rattle.order.specs.declared.Order.{Order}
@@ -13,9 +13,7 @@ use Rattle.reply.proofs.ReplyLaws.{answered_fits, refused_fits}
 use Rattle.reply.specs.Answers.{order_value, compare_reply}
 use Rattle.reply.specs.Reply.{Fits}
 use Rattle.reply.specs.declared.Reply.{Reply}
-use Rattle.compare.specs.Answer.{CompareAnswer}
 use Rattle.std.specs.Prelude.{Ok, Err}
-use Rattle.refusal.specs.declared.Refusal.{Refusal}
 
 order_fits : (o : Order) → Fits (compare_reply (Ok o))
 unfolding compare_reply order_value order_number

@@ -16,7 +16,7 @@ use Rattle.grammar.specs.Formed.{WellFormed}
 use Rattle.refusal.specs.Verdict.{Verdict, accepted, refusal, and_then, in_order, unless_refused}
 use Rattle.layout.specs.Layout.{productions, start_sort, argument_count}
 use Rattle.listing.proofs.BadListingLaws.{listing_good}
-use Rattle.listing.specs.Answer.{byte_limit, bad_listing, judged, listing_answer}
+use Rattle.listing.specs.Answer.{byte_limit, bad_listing, judged, listing_answer, ListingAnswer}
 use Rattle.numbers.proofs.NumbersLaws.{numbers_length}
 use Rattle.numbers.specs.Numbers.{numbers_of}
 use Rattle.page.proofs.RightLaws.{right_few}
@@ -31,7 +31,6 @@ use Rattle.reply.specs.Answers.{check_reply, conflict_reply, count_reply, listin
 use Rattle.reply.specs.Reply.{refused, value_limit, Fits}
 use Rattle.reply.specs.declared.Reply.{Reply}
 use Rattle.listing.specs.declared.Judgement.TheVariants.{Right, Wrong}
-use Rattle.listing.specs.Answer.{ListingAnswer}
 use Rattle.std.specs.Prelude.{Result, Ok, Err}
 use Rattle.refusal.specs.declared.Fault.TheVariants.{LongFlat, WrongListing, LongPage}
 use Rattle.refusal.specs.declared.Refusal.{Refusal}

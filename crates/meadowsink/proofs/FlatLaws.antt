@@ -3,7 +3,7 @@ use Prim.Native.Nat.{ℕ, ◌+◌, ◌≤◌, ◌<◌}
 use mathlib.Core.Bool.{Bool, false, not}
 use mathlib.Core.List.{List}
 use mathlib.Core.Logic.{⊎_elim}
-use mathlib.Core.Path.{◌≡◌, refl, sym, ◌∙◌, subst⁻¹, ap}
+use mathlib.Core.Path.{◌≡◌, sym, ◌∙◌, subst⁻¹, ap}
 use native.Mathlib.Decide.{ℕ_discrete}
 use native.Mathlib.Omega.{arith}
 use lib.Dec.{eqb}
@@ -27,8 +27,7 @@ use Rattle.reply.specs.Answers.{read_reply, count_reply}
 use Rattle.reply.specs.Reply.{Fits}
 use Rattle.reply.specs.declared.Reply.{Reply}
 use Rattle.engine.specs.Outcome.{Answer}
-use Rattle.std.specs.Prelude.{Result}
-use Rattle.std.specs.Prelude.{Ok, Err}
+use Rattle.std.specs.Prelude.{Result, Ok, Err}
 use Rattle.refusal.specs.declared.Fault.TheVariants.{Form}
 use Rattle.refusal.specs.declared.Refusal.{Refusal}
 

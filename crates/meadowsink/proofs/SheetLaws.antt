@@ -14,10 +14,9 @@ use Rattle.split.proofs.LinesLaws.{lines_few, next_within}
 use Rattle.sheet.proofs.OutcomeLaws.{sheet_unique, step_unique}
 use Rattle.sheet.proofs.RefusalLaws.{refusal_none, sheet_room}
 use Rattle.split.specs.Lines.{line_at}
-use Rattle.sheet.specs.Outcome.{SheetOutcome, StepOutcome}
+use Rattle.sheet.specs.Outcome.{SheetOutcome, StepOutcome, Step}
 use Rattle.meadowsink.specs.Sheet.{SheetCall, StepCall}
 use Rattle.std.specs.Prelude.{Result, Ok, Err, Some, None}
-use Rattle.sheet.specs.Outcome.{Step}
 use Rattle.refusal.specs.declared.Refusal.{Refusal}
 
 -- ---- the sheet

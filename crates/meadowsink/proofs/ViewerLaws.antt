@@ -1,13 +1,13 @@
 -- Laws of the calls that read a text: the reply fits, and the promise determines the outcome.
-use Prim.Native.Nat.{ℕ, min, ◌≤◌, ◌<◌}
-use mathlib.Core.Path.{◌≡◌, refl, sym, ◌∙◌, ap, subst, subst⁻¹}
+use Prim.Native.Nat.{ℕ, min, ◌≤◌}
+use mathlib.Core.Path.{◌≡◌, sym, ◌∙◌, ap, subst, subst⁻¹}
 use mathlib.Core.List.{List, ◌++◌}
 use mathlib.Core.Logic.{by_cases}
 use native.Mathlib.Omega.{arith}
 use native.Mathlib.Decide.{dec_lt}
 use lib.ListN.{length, take, drop, length-take, drop_of_length-le}
 use lib.Seq.{take_all}
-use Rattle.engine.specs.Outcome.{Parsing, UnlessRefused}
+use Rattle.engine.specs.Outcome.{Parsing, UnlessRefused, Answer}
 use Rattle.refusal.specs.Verdict.{Verdict}
 use Rattle.meadowsink.specs.Viewer.{used_limit, Promise, UsedOutcome, CallOutcome}
 use Rattle.parse.proofs.OutcomeLaws.{outcome_unique}
@@ -17,9 +17,7 @@ use Rattle.reply.proofs.ReplyLaws.{refused_fits}
 use Rattle.reply.specs.Answers.{read_reply}
 use Rattle.reply.specs.Reply.{Fits}
 use Rattle.reply.specs.declared.Reply.{Reply}
-use Rattle.engine.specs.Outcome.{Answer}
 use Rattle.std.specs.Prelude.{Ok, Err}
-use Rattle.refusal.specs.declared.Refusal.{Refusal}
 
 pub after_fits : (s : Parsing) (c₀ l₀ : List ℕ) (r : Answer) (c l : List ℕ) (v : Verdict) → length l₀ ≤ used_limit → UnlessRefused v s c₀ l₀ r c l → Fits (read_reply r)
 unfolding UnlessRefused read_reply

@@ -1,10 +1,8 @@
 -- The calls for comparing two parses (02, [9]).
 use Rattle.std.specs.Prelude.{ℕ, ◌≡◌, List}
-use Rattle.compare.specs.Answer.{Compared}
+use Rattle.compare.specs.Answer.{Compared, CompareAnswer}
 use Rattle.reply.specs.Answers.{compare_reply}
 use Rattle.reply.specs.declared.Reply.{Reply}
-use Rattle.compare.specs.Answer.{CompareAnswer}
-use Rattle.refusal.specs.declared.Refusal.{Refusal}
 
 -- What a call gives that makes a number of the reply: number_of, or place_of.
 pub record CompareCall (number : Reply → ℕ) (b w first second : List ℕ) (r : ℕ) : Type 0 where

@@ -1,5 +1,5 @@
 -- The calls for a flat text (02, [7]): reading by it, and checking it.
-use Rattle.std.specs.Prelude.{ℕ, ◌≡◌, Bool, not, List, eqb, get_or}
+use Rattle.std.specs.Prelude.{ℕ, ◌≡◌, Bool, not, List, eqb, get_or, Result}
 use Rattle.archive.specs.Outcome.{FlatOutcome}
 use Rattle.common.specs.Lists.{tabulate}
 use Rattle.layout.specs.Limits.{production_limit}
@@ -7,7 +7,6 @@ use Rattle.load.specs.Check.{Checked}
 use Rattle.meadowsink.specs.Viewer.{CallOutcome}
 use Rattle.reply.specs.Answers.{count_reply}
 use Rattle.reply.specs.declared.Reply.{Reply}
-use Rattle.std.specs.Prelude.{Result}
 use Rattle.refusal.specs.declared.Refusal.{Refusal}
 
 -- The entries for the root: one for each line that there could be; it is yes if its byte is there and is not 0.

@@ -1,9 +1,8 @@
 -- The calls for the page of a reading (02, [1]).
-use Rattle.std.specs.Prelude.{ℕ, ◌≡◌, List}
+use Rattle.std.specs.Prelude.{ℕ, ◌≡◌, List, Result}
 use Rattle.page.specs.Answer.{PageOutcome}
 use Rattle.reply.specs.Answers.{count_reply}
 use Rattle.reply.specs.declared.Reply.{Reply}
-use Rattle.std.specs.Prelude.{Result}
 use Rattle.refusal.specs.declared.Refusal.{Refusal}
 
 -- What a call gives that makes a number of the reply for the page's answer: number_of, or place_of.

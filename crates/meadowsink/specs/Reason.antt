@@ -1,10 +1,9 @@
 -- The calls for the reason of a conflict (02, [8]).
-use Rattle.std.specs.Prelude.{ℕ, ◌≡◌, List}
+use Rattle.std.specs.Prelude.{ℕ, ◌≡◌, List, Result, Option}
 use Rattle.reason.specs.Reason.{Reasoned}
 use Rattle.reply.specs.Answers.{reason_reply}
 use Rattle.reply.specs.declared.Reply.{Reply}
 use Rattle.reason.specs.declared.Cause.{Cause}
-use Rattle.std.specs.Prelude.{Result, Option}
 use Rattle.refusal.specs.declared.Refusal.{Refusal}
 
 -- What a call gives that makes a number of the reply: number_of, or place_of.

@@ -1,10 +1,8 @@
 -- The calls for a sheet and for a step down it (02, [4]).
-use Rattle.std.specs.Prelude.{ℕ, ◌≡◌, List}
+use Rattle.std.specs.Prelude.{ℕ, ◌≡◌, List, Result}
 use Rattle.reply.specs.Answers.{count_reply, step_reply}
 use Rattle.reply.specs.declared.Reply.{Reply}
-use Rattle.sheet.specs.Outcome.{SheetOutcome, StepOutcome}
-use Rattle.sheet.specs.Outcome.{Step}
-use Rattle.std.specs.Prelude.{Result}
+use Rattle.sheet.specs.Outcome.{SheetOutcome, StepOutcome, Step}
 use Rattle.refusal.specs.declared.Refusal.{Refusal}
 
 -- What a call gives that makes a number of the reply for the sheet's answer: number_of, or place_of.

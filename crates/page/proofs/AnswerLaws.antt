@@ -2,23 +2,19 @@
 use Prim.Native.Nat.{ℕ, ◌≤◌, ◌<◌}
 use mathlib.Core.List.{List}
 use mathlib.Core.Logic.{◌↔◌, ◌⊎◌, inl, inr}
-use mathlib.Core.Path.{◌≡◌, refl, sym}
+use mathlib.Core.Path.{◌≡◌, refl, sym, ap}
 use native.Mathlib.Omega.{arith}
 use Rattle.listing.proofs.RefusedLaws.{refused_small}
-use Rattle.listing.specs.Answer.{listing_answer}
+use Rattle.listing.specs.Answer.{listing_answer, ListingAnswer}
 use Rattle.page.specs.Answer.{page_length, page_if, page_answer}
 use Rattle.writing.proofs.AnswerLaws.{refused_written, written_exactly, refused_exactly}
 use Rattle.listing.specs.declared.Judgement.TheVariants.{Right, Wrong}
-use Rattle.listing.specs.Answer.{ListingAnswer}
-use Rattle.std.specs.Prelude.{Ok, Err}
-use Rattle.refusal.specs.Verdict.{refused}
+use Rattle.std.specs.Prelude.{Ok, Err, Result}
+use Rattle.refusal.specs.Verdict.{refused, refusal}
 use Rattle.refusal.specs.declared.Fault.TheVariants.{WrongListing, LongPage}
 use Rattle.refusal.specs.declared.Refusal.{Refusal}
 use Rattle.refusal.proofs.VerdictLaws.{same_refusal}
 use Rattle.refusal.specs.Fault.{number_of}
-use Rattle.refusal.specs.Verdict.{refusal}
-use Rattle.std.specs.Prelude.{Result}
-use mathlib.Core.Path.{ap}
 
 -- ---- by what checking the listing answers
 

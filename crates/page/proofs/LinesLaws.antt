@@ -7,7 +7,7 @@ use lib.ListN.{length, get_or, drop, get_or-eq_default}
 use lib.Seq.{slice, drop_at, take-append-le}
 use Rattle.common.proofs.AllLaws.{all_of_at}
 use Rattle.common.specs.Lists.{All, overwritten}
-use Rattle.listing.specs.Answer.{listing_answer}
+use Rattle.listing.specs.Answer.{listing_answer, ListingAnswer}
 use Rattle.numbers.specs.Numbers.{numbers_of}
 use Rattle.lines.proofs.ReadLaws.{row_read, page_line}
 use Rattle.page.proofs.RightLaws.{RightListing, rows_count, row_fits}
@@ -22,9 +22,7 @@ use Rattle.rows.specs.Rows.{no_row, rows}
 use Rattle.rows.specs.declared.Row.{Row}
 use Rattle.theory.specs.Tree.{Tree, yield, listing, Subtree}
 use Rattle.listing.specs.declared.Judgement.TheVariants.{Right, Wrong}
-use Rattle.listing.specs.Answer.{ListingAnswer}
 use Rattle.std.specs.Prelude.{Ok, Err}
-use Rattle.refusal.specs.declared.Refusal.{Refusal}
 
 module _ {b w l : List ℕ} (given : RightListing b w l) {t : Tree} (lent : Listed b w l t) where
   all_fit : All (RowFits w) (rows 0 0 t)

@@ -7,7 +7,7 @@ use lib.ListN.{length, get_or, get_or-eq_default}
 use Rattle.charset.specs.Set.{characters}
 use Rattle.chart.specs.Layout.{text_limit}
 use Rattle.common.proofs.AllLaws.{all_of_at}
-use Rattle.listing.specs.Answer.{listing_answer}
+use Rattle.listing.specs.Answer.{listing_answer, ListingAnswer}
 use Rattle.numbers.proofs.NumbersLaws.{numbers_length}
 use Rattle.numbers.specs.Numbers.{listing_limit, numbers_of}
 use Rattle.page.proofs.RightLaws.{RightListing, listed_whole, right_short, right_few, right_tree, rows_count, yield_count, row_fits}
@@ -26,12 +26,10 @@ use Rattle.writing.proofs.AnswerLaws.{written_exactly, refused_exactly}
 use Rattle.writing.proofs.PutLaws.{put_same, put_start}
 use Rattle.writing.specs.Put.{Put}
 use Rattle.listing.specs.declared.Judgement.TheVariants.{Right, Wrong}
-use Rattle.listing.specs.Answer.{ListingAnswer}
 use Rattle.std.specs.Prelude.{Ok, Err}
-use Rattle.refusal.specs.Verdict.{refused}
+use Rattle.refusal.specs.Verdict.{refused, refusal}
 use Rattle.refusal.specs.declared.Fault.TheVariants.{WrongListing, LongPage}
 use Rattle.refusal.specs.declared.Refusal.{Refusal}
-use Rattle.refusal.specs.Verdict.{refusal}
 
 -- ---- a listing that is not right
 

@@ -22,9 +22,8 @@ use Rattle.rows.proofs.RowsLaws.{row_number, rows_length, row_within}
 use Rattle.rows.specs.Rows.{no_row, rows}
 use Rattle.rows.specs.Walk.{ListedAt, WalkFrom}
 use Rattle.theory.specs.Tree.{Tree, yield, listing}
-use Rattle.listing.specs.declared.Judgement.TheVariants.{Right, Wrong}
+use Rattle.listing.specs.declared.Judgement.TheVariants.{Right}
 use Rattle.std.specs.Prelude.{Ok}
-use Rattle.refusal.specs.declared.Refusal.{Refusal}
 
 -- The listing l of the text w is right by grammar b, which has bytes.
 pub record RightListing (b w l : List ℕ) : Type 0 where

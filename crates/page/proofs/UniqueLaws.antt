@@ -10,7 +10,7 @@ use Rattle.common.specs.Lists.{overwritten}
 use Rattle.flatten.proofs.FlatLaws.{flat_numbered, flat_trees}
 use Rattle.flatten.specs.Flat.{flat_grammar, plain_class}
 use Rattle.layout.specs.Layout.{start_sort}
-use Rattle.listing.specs.Answer.{listing_answer}
+use Rattle.listing.specs.Answer.{listing_answer, ListingAnswer}
 use Rattle.page.proofs.AnswerLaws.{page_fits}
 use Rattle.page.proofs.RightLaws.{right_formed}
 use Rattle.page.specs.Answer.{Listed, page_answer, PageAfter, PageOutcome, RowIf, RowUnder, TextUnder, PlacesUnder}
@@ -20,9 +20,7 @@ use Rattle.rows.specs.Table.{places}
 use Rattle.rows.specs.declared.Row.{Row}
 use Rattle.theory.specs.Tree.{Tree}
 use Rattle.listing.specs.declared.Judgement.TheVariants.{Right, Wrong}
-use Rattle.listing.specs.Answer.{ListingAnswer}
-use Rattle.std.specs.Prelude.{Result}
-use Rattle.std.specs.Prelude.{Ok, Err}
+use Rattle.std.specs.Prelude.{Result, Ok, Err}
 use Rattle.refusal.specs.declared.Refusal.{Refusal}
 
 module _ (b : List ℕ) (bytes : (k : ℕ) → get_or b k 0 < characters) (w l : List ℕ) where

@@ -1,9 +1,9 @@
 -- The promises of the operations "the page of a reading" and "the text under a number" (02, [1]), stated once, for every grammar, text, listing and buffer.
-use Rattle.std.specs.Prelude.{ℕ, ◌+◌, ◌*◌, ◌≤◌, ◌≡◌, List, length, get_or}
+use Rattle.std.specs.Prelude.{ℕ, ◌+◌, ◌*◌, ◌≤◌, ◌≡◌, List, length, get_or, Result, Ok, Err}
 use Rattle.std.proofs.Math.Seq.{slice}
 use Rattle.common.specs.Lists.{overwritten}
 use Rattle.flatten.specs.Reading.{Reading}
-use Rattle.listing.specs.Answer.{listing_answer}
+use Rattle.listing.specs.Answer.{listing_answer, ListingAnswer}
 use Rattle.numbers.specs.Numbers.{numbers_of}
 use Rattle.lines.specs.Text.{line_length, page_text}
 use Rattle.rows.specs.Rows.{no_row, rows}
@@ -12,9 +12,6 @@ use Rattle.rows.specs.declared.Row.{Row}
 use Rattle.theory.specs.Tree.{Tree, listing}
 use Rattle.writing.specs.Answer.{fitted}
 use Rattle.listing.specs.declared.Judgement.TheVariants.{Right, Wrong}
-use Rattle.listing.specs.Answer.{ListingAnswer}
-use Rattle.std.specs.Prelude.{Result}
-use Rattle.std.specs.Prelude.{Ok, Err}
 use Rattle.refusal.specs.Verdict.{refused}
 use Rattle.refusal.specs.declared.Fault.TheVariants.{WrongListing, LongPage}
 use Rattle.refusal.specs.declared.Refusal.{Refusal}

@@ -7,18 +7,15 @@ use native.Mathlib.Omega.{arith}
 use lib.ListN.{length}
 use Rattle.chart.specs.Layout.{text_limit}
 use Rattle.engine.proofs.AnswerLaws.{one_exactly, refused_is_long}
-use Rattle.engine.specs.Outcome.{Answered, Parsed, UnlessRefused}
-use Rattle.refusal.specs.Verdict.{Verdict}
+use Rattle.engine.specs.Outcome.{Answered, Parsed, UnlessRefused, Answer}
+use Rattle.refusal.specs.Verdict.{Verdict, accepted, refused, refusal as refusal_at}
 use Rattle.parse.proofs.RefusalLaws.{refusal_grammar, refusal_ten, refusal_twenty, refusal_text, Readable, readable_accepted}
 use Rattle.parse.specs.Outcome.{needed, refusal, Outcome, reading_by}
 use Rattle.flatten.specs.Reading.{Reading}
 use Rattle.priority.specs.Check.{checked}
-use Rattle.engine.specs.declared.Parses.TheVariants.{None, One, Several}
-use Rattle.refusal.specs.Verdict.{accepted}
-use Rattle.engine.specs.Outcome.{Answer}
+use Rattle.engine.specs.declared.Parses.TheVariants.{One}
 use Rattle.std.specs.Prelude.{Ok, Err}
 use Rattle.refusal.proofs.VerdictLaws.{same_refusal}
-use Rattle.refusal.specs.Verdict.{refused, refusal as refusal_at}
 use Rattle.engine.specs.declared.Parses.{Parses}
 use Rattle.refusal.specs.declared.Fault.TheVariants.{LongText, ShortChart}
 use Rattle.refusal.specs.declared.Refusal.{Refusal}

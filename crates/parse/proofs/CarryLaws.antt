@@ -8,7 +8,7 @@ use Rattle.flatten.specs.Tables.{FlatTables}
 use Rattle.charset.specs.Set.{characters}
 use Rattle.chart.specs.Layout.{chart_need}
 use Rattle.engine.proofs.SameParsingLaws.{SameParsing, chart_bytes_same, unless_same}
-use Rattle.engine.specs.Outcome.{UnlessRefused}
+use Rattle.engine.specs.Outcome.{UnlessRefused, Answer}
 use Rattle.engine.specs.Refusals.{too_long, chart_too_short, text_refusal}
 use Rattle.engine.specs.Roots.{parsing_by, TablesOutcome}
 use Rattle.grammar.specs.Formed.{WellFormed}
@@ -16,8 +16,6 @@ use Rattle.refusal.specs.Verdict.{in_order}
 use Rattle.layout.specs.Layout.{productions, argument_count}
 use Rattle.parse.specs.Outcome.{needed, reading_by, AcceptedOutcome}
 use Rattle.tables.specs.Layout.{counts_of, arity_in}
-use Rattle.engine.specs.Outcome.{Answer}
-use Rattle.refusal.specs.declared.Refusal.{Refusal}
 
 module _ (b : List ℕ) (formed : WellFormed b) (bytes : (k : ℕ) → get_or b k 0 < characters) (t : List ℕ) (flat : FlatTables b t) where
   pub same_needed : (n : ℕ) → chart_need t n ≡ needed b n

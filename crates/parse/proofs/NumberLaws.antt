@@ -8,7 +8,6 @@ use Rattle.parse.proofs.RefusalLaws.{refusal_number}
 use Rattle.parse.specs.Outcome.{refusal}
 use Rattle.priority.proofs.RefusalLaws.{checked_number}
 use Rattle.priority.specs.Check.{checked}
-use Rattle.refusal.specs.Verdict.{accepted}
 use Rattle.std.specs.Prelude.{Err}
 use Rattle.refusal.specs.declared.Refusal.{Refusal}
 use Rattle.refusal.specs.Fault.{number_of}

@@ -3,15 +3,11 @@ use Prim.Native.Nat.{ℕ}
 use mathlib.Core.Path.{◌≡◌, refl, subst}
 use mathlib.Core.List.{List, [], ◌∷◌}
 use Rattle.engine.proofs.OutcomeLaws.{unless_unique}
-use Rattle.engine.specs.Outcome.{UnlessRefused}
+use Rattle.engine.specs.Outcome.{UnlessRefused, Answer}
 use Rattle.engine.specs.Refusals.{too_long}
-use Rattle.refusal.specs.Verdict.{in_order}
-use Rattle.refusal.specs.Verdict.{Verdict}
+use Rattle.refusal.specs.Verdict.{in_order, Verdict, accepted}
 use Rattle.parse.specs.Outcome.{too_short, reading_by, refusal, Outcome, AcceptedOutcome}
 use Rattle.priority.specs.Check.{checked}
-use Rattle.engine.specs.declared.Parses.TheVariants.{None, One, Several}
-use Rattle.refusal.specs.Verdict.{accepted}
-use Rattle.engine.specs.Outcome.{Answer}
 use Rattle.std.specs.Prelude.{Err}
 use Rattle.refusal.specs.declared.Refusal.{Refusal}
 

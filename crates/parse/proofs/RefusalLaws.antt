@@ -7,16 +7,13 @@ use native.Mathlib.Omega.{arith}
 use lib.ListN.{length}
 use Rattle.chart.specs.Layout.{text_limit}
 use Rattle.refusal.proofs.VerdictLaws.{FirstIn, here, there, refused_not_accepted, order_first}
-use Rattle.refusal.specs.Verdict.{Verdict}
+use Rattle.refusal.specs.Verdict.{Verdict, accepted, refused}
 use Rattle.std.specs.Prelude.{Err}
-use Rattle.refusal.specs.Verdict.{accepted}
 use Rattle.engine.proofs.RefusalsLaws.{long_text, short_text, text_short, text_long, short_chart, long_chart, chart_short}
 use Rattle.engine.specs.Refusals.{too_long}
 use Rattle.parse.specs.Outcome.{needed, too_short, refusal}
 use Rattle.priority.proofs.RefusalLaws.{checked_number}
 use Rattle.priority.specs.Check.{checked}
-use Rattle.refusal.specs.Verdict.{refused}
-use Rattle.std.specs.Prelude.{Err}
 use Rattle.refusal.specs.declared.Fault.TheVariants.{LongText, ShortChart}
 use Rattle.refusal.specs.declared.Refusal.{Refusal}
 use Rattle.refusal.specs.Fault.{number_of}

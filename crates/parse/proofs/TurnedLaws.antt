@@ -4,19 +4,16 @@ use mathlib.Core.Path.{◌≡◌, refl, ap₂, subst}
 use mathlib.Core.List.{List, [], ◌∷◌}
 use lib.ListN.{length}
 use Rattle.engine.proofs.SameParsingLaws.{SameParsing, chart_bytes_same, unless_same}
-use Rattle.engine.specs.Outcome.{UnlessRefused}
+use Rattle.engine.specs.Outcome.{UnlessRefused, Answer}
 use Rattle.engine.specs.Refusals.{too_long, chart_too_short}
 use Rattle.flatten.proofs.TurnedLaws.{turned_reading, turned_entry}
 use Rattle.grammar.proofs.SameFrontLaws.{same_productions, same_count}
 use Rattle.grammar.proofs.TurnedLaws.{turned_front}
 use Rattle.grammar.specs.Turned.{TurnedRound}
-use Rattle.refusal.specs.Verdict.{in_order}
-use Rattle.refusal.specs.Verdict.{Verdict}
+use Rattle.refusal.specs.Verdict.{in_order, Verdict}
 use Rattle.layout.specs.Layout.{productions, argument_count}
 use Rattle.parse.specs.Outcome.{needed, reading_by, refusal, Outcome}
 use Rattle.priority.proofs.TurnedLaws.{turned_checked}
-use Rattle.engine.specs.Outcome.{Answer}
-use Rattle.refusal.specs.declared.Refusal.{Refusal}
 
 module _ (b c : List ℕ) (t : TurnedRound b c) where
   pub turned_chart_bytes : (n : ℕ) → needed c n ≡ needed b n

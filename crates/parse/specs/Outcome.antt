@@ -1,15 +1,12 @@
 -- The promise of the operation "reading a text" (01; demand 3), stated once, for every grammar, text, chart and buffer.
 use Rattle.std.specs.Prelude.{ℕ, List, [], ◌∷◌, length}
 use Rattle.chart.specs.Layout.{chart_bytes}
-use Rattle.engine.specs.Outcome.{Parsing, UnlessRefused}
+use Rattle.engine.specs.Outcome.{Parsing, UnlessRefused, Answer}
 use Rattle.engine.specs.Refusals.{too_long, chart_too_short}
-use Rattle.refusal.specs.Verdict.{in_order}
-use Rattle.refusal.specs.Verdict.{Verdict}
+use Rattle.refusal.specs.Verdict.{in_order, Verdict}
 use Rattle.layout.specs.Layout.{productions, argument_count}
 use Rattle.flatten.specs.Reading.{Reading, EntryList}
 use Rattle.priority.specs.Check.{checked}
-use Rattle.engine.specs.Outcome.{Answer}
-use Rattle.refusal.specs.declared.Refusal.{Refusal}
 
 -- how many bytes the chart of a text of n characters needs: 01's A × (n + 1) × (n + 2) / 2
 unfoldable pub needed : List ℕ → ℕ → ℕ

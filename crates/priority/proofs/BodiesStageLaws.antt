@@ -11,9 +11,8 @@ use Rattle.common.proofs.BoolLaws.{and_first_true, and_second_true, not_both}
 use Rattle.grammar.proofs.FormedLaws.{result_named_lem, argument_named_lem, kind_inside, first_there_lem, second_there_lem, group_rises_lem}
 use Rattle.refusal.proofs.VerdictLaws.{refuse_accepted, first_all, refuse_case, and_refused, and_first, and_second, FirstIn, here, there, order_first, first_of}
 use Rattle.grammar.specs.Check.{outside, names_argument, bad_argument, bad_arguments, bad_production, bad_productions, is_group, declaration_lines, declaration_bytes, bad_declaration, bad_declarations}
-use Rattle.refusal.specs.Verdict.{refuse_if}
+use Rattle.refusal.specs.Verdict.{refuse_if, accepted, by_number}
 use Rattle.std.specs.Prelude.{Err}
-use Rattle.refusal.specs.Verdict.{accepted, by_number}
 use Rattle.refusal.specs.declared.Refusal.{Refusal}
 use Rattle.layout.proofs.LayoutLaws.{production_before, production_within, class_after_productions, declaration_before, declaration_after_classes}
 use Rattle.layout.specs.Layout.{sorts, productions, classes, declarations, argument_count, production_at, argument_at, result_sort, argument, class_at, declaration_at, kind, first, second}

@@ -7,10 +7,8 @@ use Rattle.grammar.proofs.FormedLaws.{well_formed}
 use Rattle.refusal.proofs.VerdictLaws.{refuse_accepted, and_first, and_second, first_all, order_append}
 use Rattle.grammar.specs.Check.{frame_lines, frame_check, bodies_lines, bodies_check}
 use Rattle.grammar.specs.Formed.{WellFormed}
-use Rattle.refusal.specs.Verdict.{and_then}
-use Rattle.refusal.specs.Verdict.{Verdict}
+use Rattle.refusal.specs.Verdict.{and_then, Verdict, accepted}
 use Rattle.std.specs.Prelude.{Err}
-use Rattle.refusal.specs.Verdict.{accepted}
 use Rattle.refusal.specs.declared.Refusal.{Refusal}
 use Rattle.layout.specs.Layout.{productions}
 use Rattle.priority.specs.Check.{circle, circles, checked}

@@ -17,8 +17,7 @@ use Rattle.refusal.specs.Verdict.{refuse_if}
 use Rattle.layout.specs.Layout.{productions, declarations, declaration_at, kind, first, second}
 use Rattle.priority.proofs.ChainLaws.{through_chain, chain_through}
 use Rattle.priority.proofs.CoverLaws.{declared_found}
-use Rattle.priority.specs.Chain.{link, more}
-use Rattle.priority.specs.Chain.{entry}
+use Rattle.priority.specs.Chain.{link, more, entry}
 use Rattle.priority.specs.Check.{circle, on_diagonal}
 use Rattle.priority.specs.Priorities.{Kind, higher, kind_number, said_kind, either_way, names_pair, covers, declaration_of, declarations_of, declared, Higher, is_higher_in, is_higher}
 use Rattle.refusal.specs.declared.Fault.TheVariants.{Circle}

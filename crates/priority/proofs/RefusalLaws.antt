@@ -1,8 +1,8 @@
 -- A grammar is accepted exactly if no condition of the table holds, and refused exactly by the first that does.
 use Prim.Native.Nat.{ℕ, zero, suc, ◌≤◌, ◌<◌}
-use mathlib.Core.Path.{◌≡◌, refl, sym, ◌∙◌, ap, ap₂, subst}
+use mathlib.Core.Path.{◌≡◌, refl, sym, ◌∙◌, ap, subst}
 use mathlib.Core.List.{List}
-use mathlib.Core.Logic.{◌≢◌, ⊎_elim}
+use mathlib.Core.Logic.{⊎_elim}
 use native.Mathlib.Omega.{arith}
 use Rattle.common.proofs.BelowLaws.{any_never, any_found}
 use Rattle.common.proofs.BoolLaws.{not_both}
@@ -11,9 +11,8 @@ use Rattle.grammar.proofs.FormedLaws.{inside, order_accepted, well_formed}
 use Rattle.refusal.proofs.VerdictLaws.{refused_not_accepted, refuse_accepted, first_all, refuse_case, and_first, and_second, first_of}
 use Rattle.grammar.specs.Check.{outside, bad_argument_counts, bad_range_counts, names_argument, bad_productions, bad_declarations, same_production, repeated_production, frame_lines, frame_check, bodies_lines, bodies_check}
 use Rattle.grammar.specs.Formed.{WellFormed}
-use Rattle.refusal.specs.Verdict.{Verdict}
+use Rattle.refusal.specs.Verdict.{Verdict, accepted, refused, by_number, RefusedBy}
 use Rattle.std.specs.Prelude.{Ok, Err}
-use Rattle.refusal.specs.Verdict.{accepted, refused, by_number, RefusedBy}
 use Rattle.refusal.specs.declared.Refusal.{Refusal}
 use Rattle.layout.proofs.FramedLaws.{bodies_in}
 use Rattle.layout.proofs.LayoutLaws.{production_first, production_after, production_before, class_first}

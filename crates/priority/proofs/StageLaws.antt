@@ -13,10 +13,8 @@ use Rattle.common.proofs.BoolLaws.{not_both}
 use Rattle.grammar.proofs.FormedLaws.{each_accepted}
 use Rattle.refusal.proofs.VerdictLaws.{refuse_accepted, and_assoc, first_all, refuse_case, and_refused, and_first, and_second, FirstIn, here, there, order_first, first_of}
 use Rattle.grammar.specs.Check.{outside, short_header, header_lines, header_bytes, bad_header, short_contents, bad_argument_count, bad_range_count, bad_argument_counts, bad_range_counts, bad_length, bad_productions, bad_declarations, repeated_productions}
-use Rattle.refusal.specs.Verdict.{and_then, first_refusal}
-use Rattle.refusal.specs.Verdict.{Verdict}
+use Rattle.refusal.specs.Verdict.{and_then, first_refusal, Verdict, accepted, by_number}
 use Rattle.std.specs.Prelude.{Err}
-use Rattle.refusal.specs.Verdict.{accepted, by_number}
 use Rattle.refusal.specs.declared.Refusal.{Refusal}
 use Rattle.layout.specs.Layout.{byte_at, sorts, productions, classes, start_sort, argument_count_at, range_count_at, argument_count, range_count, bodies_at, production_at, needed_length}
 use Rattle.layout.specs.Limits.{sort_limit, production_limit, class_limit, argument_limit, range_limit, header_length}

@@ -10,9 +10,7 @@ use Rattle.grammar.proofs.SameFrontLaws.{front_back, same_productions, same_coun
 use Rattle.grammar.proofs.TurnedLaws.{turned_front, turned_declarations, turned_kind, turned_first, turned_second, turned_frame, turned_bodies}
 use Rattle.grammar.specs.Check.{short_header, bad_header, short_contents, bad_argument_counts, bad_range_counts, bad_length, bad_productions, bad_declarations, repeated_productions}
 use Rattle.grammar.specs.Turned.{TurnedRound}
-use Rattle.refusal.specs.Verdict.{first_refusal, in_order}
-use Rattle.refusal.specs.Verdict.{Verdict}
-use Rattle.refusal.specs.Verdict.{accepted}
+use Rattle.refusal.specs.Verdict.{first_refusal, in_order, Verdict, accepted}
 use Rattle.layout.specs.Layout.{productions, declarations, argument_count}
 use Rattle.priority.proofs.CheckLaws.{checked_parts}
 use Rattle.priority.proofs.SameFrontLaws.{front_conflict, front_conflicts}

@@ -1,8 +1,7 @@
 -- Checking a grammar (01's first operation): refusals 1 to 9 in the order of 01, "Refused because of the input".
 use Rattle.std.specs.Prelude.{ℕ, Bool, List, [], ◌∷◌}
 use Rattle.grammar.specs.Check.{short_header, bad_header, short_contents, bad_argument_counts, bad_range_counts, bad_length, bad_productions, bad_declarations, repeated_productions}
-use Rattle.refusal.specs.Verdict.{refuse_if, first_refusal, in_order}
-use Rattle.refusal.specs.Verdict.{Verdict}
+use Rattle.refusal.specs.Verdict.{refuse_if, first_refusal, in_order, Verdict}
 use Rattle.layout.specs.Layout.{productions}
 use Rattle.priority.specs.Chain.{entry}
 use Rattle.priority.specs.Priorities.{is_higher_in, declarations_of}

@@ -5,8 +5,7 @@ use Rattle.common.specs.Lists.{tabulate}
 use Rattle.grammar.specs.Check.{is_group}
 use Rattle.layout.specs.Layout.{productions, declarations, kind, first, second}
 use Rattle.layout.specs.Limits.{group_step}
-use Rattle.priority.specs.Chain.{Chain, through}
-use Rattle.priority.specs.Chain.{entry}
+use Rattle.priority.specs.Chain.{Chain, through, entry}
 use Rattle.priority.specs.declared.Declaration.{Declaration}
 
 -- The four kinds; `nonassoc` is 01's "not together".

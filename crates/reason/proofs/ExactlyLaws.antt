@@ -15,7 +15,7 @@ use Rattle.reason.specs.Reason.{Asked, LowestLine, covers_side, LowestDeclaratio
 use Rattle.reason.specs.declared.Cause.{Cause}
 use Rattle.reason.specs.declared.Cause.TheVariants.{Higher, AtFirst, AtLast}
 use Rattle.refusal.specs.declared.Refusal.{Refusal}
-use Rattle.std.specs.Prelude.{Bool, true, false, Option, None, Some, Result, Ok, Err}
+use Rattle.std.specs.Prelude.{true, false, Option, None, Some, Result, Ok, Err}
 use Rattle.shortest.specs.Chain.{Shortest}
 use Rattle.shortest.specs.Written.{chain_after, ShortestWritten}
 

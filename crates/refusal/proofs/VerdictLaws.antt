@@ -9,7 +9,7 @@ use native.Mathlib.Decide.{dec_lt}
 use native.Mathlib.Numerals.{add-one}
 use borrow.Author.Tests.{lt-ltb, le-ltb, le-leb, lt-leb, eq-eqb, ne_eqb}
 use Rattle.std.specs.Prelude.{Result, Ok, Err, ⊤}
-use Rattle.refusal.specs.Verdict.{Verdict, accepted, refused, refuse_if, and_then, first_refusal, in_order, unless_refused}
+use Rattle.refusal.specs.Verdict.{Verdict, accepted, refuse_if, and_then, first_refusal, in_order, unless_refused}
 use Rattle.refusal.specs.declared.Fault.{Fault}
 use Rattle.refusal.specs.declared.Refusal.{Refusal}
 

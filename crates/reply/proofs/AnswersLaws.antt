@@ -8,13 +8,12 @@ use lib.Dec.{leb}
 use lib.ListN.{length}
 use Rattle.ccg.specs.Ccg.{Class, Line}
 use Rattle.writing.specs.Answer.{fitted}
-use Rattle.engine.specs.Outcome.{Parsing, Answered}
+use Rattle.engine.specs.Outcome.{Parsing, Answered, Answer}
 use Rattle.listing.specs.Judge.{is_right, due_after, text_after, judge}
 use Rattle.sheet.specs.Refusals.{sheet_limit}
 use Rattle.reply.proofs.ReplyLaws.{answered_fits, refused_fits}
 use Rattle.reply.specs.Answers.{summary_values, conflict_reply, count_reply, listing_reply, read_reply, step_reply, Near}
 use Rattle.reply.specs.Reply.{value_limit, Fits}
-use Rattle.engine.specs.Outcome.{Answer}
 use Rattle.engine.specs.declared.Parses.TheVariants.{None, One, Several}
 use Rattle.listing.specs.declared.Judgement.TheVariants.{Wrong}
 use Rattle.refusal.specs.Verdict.{refusal, refused as refusal_by}

@@ -9,26 +9,19 @@ use lib.Dec.{ltb}
 use lib.ListN.{length, take, drop}
 use lib.Seq.{take-append_seam, drop-append_seam}
 use borrow.Author.Tests.{ltb-true, ltb-false}
-use Rattle.refusal.specs.Verdict.{Verdict}
+use Rattle.refusal.specs.Verdict.{Verdict, accepted, refused, refusal}
 use Rattle.priority.specs.Check.{checked}
 use Rattle.sheet.proofs.InTurnLaws.{turn_length}
 use Rattle.split.proofs.LinesLaws.{next_later, next_within, lines_at}
 use Rattle.sheet.proofs.RefusalLaws.{refusal_grammar, refusal_long, refusal_number, refusal_none, sheet_refusal_first, sheet_refusal_few, sheet_refusal_number}
 use Rattle.split.specs.Lines.{lines, line_at, next_start}
-use Rattle.sheet.specs.Outcome.{LineBy, InTurn, Summed, SheetIf, SheetOutcome, StepFrom, StepIf, StepOutcome}
+use Rattle.sheet.specs.Outcome.{LineBy, InTurn, Summed, SheetIf, SheetOutcome, StepFrom, StepIf, StepOutcome, Step}
 use Rattle.sheet.specs.Refusals.{sheet_limit, step_refusal, sheet_refusal}
-use Rattle.refusal.specs.Verdict.{accepted}
-use Rattle.std.specs.Prelude.{Some, None}
-use Rattle.sheet.specs.Outcome.{Step}
-use Rattle.std.specs.Prelude.{Result}
-use Rattle.std.specs.Prelude.{Ok, Err}
-use Rattle.refusal.specs.Verdict.{refused}
+use Rattle.std.specs.Prelude.{Some, None, Result, Ok, Err, Option, ⊤}
 use Rattle.refusal.specs.declared.Fault.TheVariants.{LongSheet, ShortSummary}
 use Rattle.refusal.specs.declared.Refusal.{Refusal}
 use Rattle.refusal.specs.Fault.{number_of}
 use Rattle.refusal.proofs.VerdictLaws.{same_refusal}
-use Rattle.refusal.specs.Verdict.{refusal}
-use Rattle.std.specs.Prelude.{Option, ⊤}
 
 -- ---- the sheet
 

@@ -10,13 +10,12 @@ use Rattle.charset.specs.Set.{characters}
 use Rattle.engine.proofs.RefusalsLaws.{text_long, chart_short}
 use Rattle.engine.proofs.SameParsingLaws.{SameParsing, chart_same_lem}
 use Rattle.engine.proofs.UniqueLaws.{chart_unique}
-use Rattle.engine.specs.Outcome.{Parsing, Answered, UnlessRefused}
+use Rattle.engine.specs.Outcome.{Parsing, Answered, UnlessRefused, Answer}
 use Rattle.engine.specs.Refusals.{too_long, chart_too_short, text_refusal}
 use Rattle.engine.specs.Roots.{parsing_by, TablesOutcome}
 use Rattle.flatten.specs.Tables.{FlatTables}
 use Rattle.grammar.specs.Formed.{WellFormed}
-use Rattle.refusal.specs.Verdict.{in_order}
-use Rattle.refusal.specs.Verdict.{Verdict}
+use Rattle.refusal.specs.Verdict.{in_order, Verdict, accepted}
 use Rattle.parse.proofs.CarryLaws.{same_needed, tables_same}
 use Rattle.parse.proofs.OutcomeLaws.{accepted_grammar}
 use Rattle.parse.specs.Outcome.{needed, reading_by, Outcome, AcceptedOutcome}
@@ -26,13 +25,10 @@ use Rattle.theory.proofs.CountLaws.{counts_bounds, counts_unique, counts_same}
 use Rattle.theory.specs.Counts.{Counts}
 use Rattle.theory.specs.Tree.{Tree}
 use Rattle.engine.specs.declared.Parses.TheVariants.{None, One, Several}
-use Rattle.refusal.specs.Verdict.{accepted}
-use Rattle.engine.specs.Outcome.{Answer}
-use Rattle.std.specs.Prelude.{Ok, Err}
+use Rattle.std.specs.Prelude.{Ok, Err, ⊤}
 use Rattle.refusal.specs.declared.Refusal.{Refusal}
 use Rattle.refusal.specs.Fault.{number_of}
 use Rattle.refusal.proofs.VerdictLaws.{same_refusal}
-use Rattle.std.specs.Prelude.{⊤}
 
 -- ---- by the answer
 

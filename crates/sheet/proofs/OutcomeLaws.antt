@@ -6,17 +6,13 @@ use mathlib.Core.List.{List}
 use lib.Dec.{ltb}
 use lib.ListN.{length}
 use borrow.Author.Tests.{lt-ltb, le-ltb}
-use Rattle.refusal.specs.Verdict.{Verdict}
+use Rattle.refusal.specs.Verdict.{Verdict, accepted}
 use Rattle.sheet.proofs.LineLaws.{line_unique}
 use Rattle.sheet.proofs.SummedLaws.{summed_unique}
 use Rattle.split.specs.Lines.{lines, line_at, next_start}
-use Rattle.sheet.specs.Outcome.{LineBy, Summed, SheetIf, SheetOutcome, StepFrom, StepIf, StepOutcome}
+use Rattle.sheet.specs.Outcome.{LineBy, Summed, SheetIf, SheetOutcome, StepFrom, StepIf, StepOutcome, Step}
 use Rattle.sheet.specs.Refusals.{step_refusal, sheet_refusal}
-use Rattle.refusal.specs.Verdict.{accepted}
-use Rattle.std.specs.Prelude.{Some, None}
-use Rattle.sheet.specs.Outcome.{Step}
-use Rattle.std.specs.Prelude.{Result}
-use Rattle.std.specs.Prelude.{Ok, Err}
+use Rattle.std.specs.Prelude.{Some, None, Result, Ok, Err}
 use Rattle.refusal.specs.declared.Refusal.{Refusal}
 
 -- ---- the sheet

@@ -8,15 +8,12 @@ use lib.Dec.{ltb}
 use lib.ListN.{length}
 use borrow.Author.Tests.{ltb-true, ltb-false, lt-ltb, le-ltb}
 use Rattle.refusal.proofs.VerdictLaws.{FirstIn, here, there, and_first, and_second, and_assoc, and_refused, order_first, refuse_accepted, refuse_case}
-use Rattle.refusal.specs.Verdict.{and_then}
-use Rattle.refusal.specs.Verdict.{Verdict}
+use Rattle.refusal.specs.Verdict.{and_then, Verdict, accepted, refused}
 use Rattle.std.specs.Prelude.{Err}
-use Rattle.refusal.specs.Verdict.{accepted}
 use Rattle.priority.proofs.RefusalLaws.{checked_number}
 use Rattle.priority.specs.Check.{checked}
 use Rattle.split.specs.Lines.{lines}
 use Rattle.sheet.specs.Refusals.{sheet_limit, sheet_too_long, summary_too_short, step_refusal, sheet_refusal}
-use Rattle.refusal.specs.Verdict.{refused}
 use Rattle.refusal.specs.declared.Fault.TheVariants.{LongSheet, ShortSummary}
 use Rattle.refusal.specs.declared.Refusal.{Refusal}
 use Rattle.refusal.specs.Fault.{number_of}

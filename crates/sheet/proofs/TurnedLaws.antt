@@ -7,22 +7,17 @@ use lib.Dec.{ltb}
 use lib.ListN.{length}
 use Rattle.engine.specs.Refusals.{too_long, chart_too_short}
 use Rattle.grammar.specs.Turned.{TurnedRound}
-use Rattle.refusal.specs.Verdict.{in_order}
-use Rattle.refusal.specs.Verdict.{Verdict}
+use Rattle.refusal.specs.Verdict.{in_order, Verdict}
 use Rattle.parse.proofs.TurnedLaws.{turned_chart_bytes, turned_parsing}
 use Rattle.parse.specs.Outcome.{reading_by, too_short}
 use Rattle.priority.proofs.TurnedLaws.{turned_checked}
 use Rattle.sheet.proofs.InTurnLaws.{turn_carried}
 use Rattle.sheet.proofs.LineLaws.{line_same}
 use Rattle.split.specs.Lines.{lines, line_at}
-use Rattle.sheet.specs.Outcome.{LineRead, LineBy, Summed, SheetIf, SheetOutcome, StepFrom, StepIf, StepOutcome}
+use Rattle.sheet.specs.Outcome.{LineRead, LineBy, Summed, SheetIf, SheetOutcome, StepFrom, StepIf, StepOutcome, Step}
 use Rattle.sheet.specs.Refusals.{sheet_too_long, summary_too_short, step_refusal, sheet_refusal}
-use Rattle.refusal.specs.Verdict.{accepted}
-use Rattle.sheet.specs.Outcome.{Step}
-use Rattle.std.specs.Prelude.{Result}
-use Rattle.std.specs.Prelude.{Err}
+use Rattle.std.specs.Prelude.{Result, Err, Ok}
 use Rattle.refusal.specs.declared.Refusal.{Refusal}
-use Rattle.std.specs.Prelude.{Ok}
 
 module _ (b d : List ℕ) (t : TurnedRound b d) where
   turned_line : (w c₀ : List ℕ) (v : ℕ) (c : List ℕ) → LineBy d w c₀ v c → LineBy b w c₀ v c

@@ -14,13 +14,10 @@ use Rattle.sheet.proofs.LineLaws.{line_unique}
 use Rattle.split.proofs.LinesLaws.{lines_at, lines_end}
 use Rattle.sheet.proofs.RefusalLaws.{sheet_room}
 use Rattle.split.specs.Lines.{lines, line_at, next_start}
-use Rattle.sheet.specs.Outcome.{LineBy, InTurn, SheetOutcome, StepOutcome}
+use Rattle.sheet.specs.Outcome.{LineBy, InTurn, SheetOutcome, StepOutcome, Step}
 use Rattle.sheet.specs.Refusals.{step_refusal}
 use Rattle.sheet.specs.Walk.{Steps, given}
-use Rattle.std.specs.Prelude.{Some, None}
-use Rattle.sheet.specs.Outcome.{Step}
-use Rattle.std.specs.Prelude.{Ok}
-use Rattle.refusal.specs.declared.Refusal.{Refusal}
+use Rattle.std.specs.Prelude.{Some, None, Ok}
 
 module _ (b s : List ℕ) (allowed : step_refusal b s ≡ accepted) where
   -- What steps give, and what the chart holds then: that of as many lines, read in turn.

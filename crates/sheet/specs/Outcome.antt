@@ -1,24 +1,17 @@
 -- The promises of the operations "a sheet" and "a step down a sheet" (02, [4]), stated once, for every grammar, sheet, chart, summary and start.
-use Rattle.std.specs.Prelude.{ℕ, ◌≡◌, Bool, true, false, cond, List, [], ◌∷◌, eqb, ltb, length}
+use Rattle.std.specs.Prelude.{ℕ, ◌≡◌, Bool, true, false, cond, List, [], ◌∷◌, eqb, ltb, length, Some, None, Result, Ok, Err, Option}
 use Rattle.common.specs.Lists.{overwritten}
-use Rattle.engine.specs.Outcome.{Parsing, ChartAfter}
+use Rattle.engine.specs.Outcome.{Parsing, ChartAfter, Answer}
 use Rattle.engine.specs.Refusals.{too_long, text_refusal}
 use Rattle.engine.specs.Roots.{parsing_by}
-use Rattle.refusal.specs.Verdict.{in_order}
-use Rattle.refusal.specs.Verdict.{Verdict}
+use Rattle.refusal.specs.Verdict.{in_order, Verdict}
 use Rattle.parse.specs.Outcome.{too_short, reading_by}
 use Rattle.split.specs.Lines.{lines, line_at, next_start}
 use Rattle.sheet.specs.Refusals.{step_refusal, sheet_refusal}
 use Rattle.theory.specs.Counts.{Counts}
 use Rattle.engine.specs.declared.Parses.TheVariants.{None, One, Several}
-use Rattle.refusal.specs.Verdict.{accepted}
-use Rattle.std.specs.Prelude.{Some, None}
-use Rattle.engine.specs.Outcome.{Answer}
-use Rattle.std.specs.Prelude.{Result}
-use Rattle.std.specs.Prelude.{Ok, Err}
 use Rattle.refusal.specs.declared.Refusal.{Refusal}
 use Rattle.refusal.specs.Fault.{number_of}
-use Rattle.std.specs.Prelude.{Option}
 use Rattle.refusal.specs.declared.Fault.{Fault}
 
 -- ---- a line

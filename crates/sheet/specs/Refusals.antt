@@ -1,7 +1,6 @@
 -- The refusals of a sheet and of its summary, and their order (02, [4]).
 use Rattle.std.specs.Prelude.{ℕ, List, [], ◌∷◌, ltb, length}
-use Rattle.refusal.specs.Verdict.{refuse_if, in_order}
-use Rattle.refusal.specs.Verdict.{Verdict}
+use Rattle.refusal.specs.Verdict.{refuse_if, in_order, Verdict}
 use Rattle.priority.specs.Check.{checked}
 use Rattle.split.specs.Lines.{lines}
 use Rattle.refusal.specs.declared.Fault.TheVariants.{LongSheet, ShortSummary}

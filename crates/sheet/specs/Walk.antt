@@ -1,10 +1,6 @@
 -- Steps down a sheet, one after the other (02, [4]).
-use Rattle.std.specs.Prelude.{ℕ, zero, suc, ◌≡◌, List, [], ◌∷◌}
-use Rattle.sheet.specs.Outcome.{StepOutcome}
-use Rattle.std.specs.Prelude.{Some, None}
-use Rattle.sheet.specs.Outcome.{Step}
-use Rattle.std.specs.Prelude.{Ok}
-use Rattle.refusal.specs.declared.Refusal.{Refusal}
+use Rattle.std.specs.Prelude.{ℕ, zero, suc, ◌≡◌, List, [], ◌∷◌, Some, None, Ok}
+use Rattle.sheet.specs.Outcome.{StepOutcome, Step}
 
 -- From a start and with a chart that holds c₀ steps are taken that give these in turn; the walker then stands at `next`, and the chart holds c.
 unfoldable pub Steps : (b s : List ℕ) (start : ℕ) (c₀ : List ℕ) → List Step → (next : ℕ) (c : List ℕ) → Type 0

@@ -28,8 +28,7 @@ use Rattle.flatten.specs.Reading.{Reading, EntryList}
 use Rattle.form.specs.Form.{Writable, Says}
 use Rattle.grammar.proofs.ArgumentLaws.{sort_no_class}
 use Rattle.grammar.specs.Formed.{WellFormed}
-use Rattle.refusal.specs.Verdict.{Verdict}
-use Rattle.refusal.specs.Verdict.{accepted}
+use Rattle.refusal.specs.Verdict.{Verdict, accepted}
 use Rattle.layout.specs.Layout.{productions, start_sort, argument_count, result_sort}
 use Rattle.layout.specs.Limits.{production_limit}
 use Rattle.load.proofs.NamesLaws.{names_accepted, class_accepted}

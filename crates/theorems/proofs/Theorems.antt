@@ -52,7 +52,6 @@ use Rattle.refusal.specs.declared.Fault.TheVariants.{LongText, ShortChart, NoLin
 use Rattle.refusal.specs.declared.Refusal.{Refusal}
 use Rattle.std.specs.Prelude.{Result, Ok, Err, Some}
 use Rattle.listing.proofs.RefusedLaws.{grammar_exactly as listing_grammar, ten_exactly as listing_ten, eleven_exactly, right_exactly}
-use Rattle.listing.specs.Answer.{listing_answer}
 use Rattle.marked.proofs.Marked.{marked_outcomes}
 use Rattle.order.proofs.OrderLaws.{lower_transitive, lower_irreflexive, lower_one_way, lower_equal, swapped_negates, swapped_keeps}
 use Rattle.order.specs.declared.Order.{Order}
@@ -76,7 +75,6 @@ use Rattle.grammar.proofs.FormedLaws.{pair_judged}
 use Rattle.grammar.proofs.RisenLaws.{risen_turned, risen_rises, risen_small}
 use Rattle.grammar.proofs.EqualLaws.{equal_exactly}
 use Rattle.grammar.proofs.TurnedLaws.{turned_back, rising_characters, rising_passed}
-use Rattle.priority.specs.Check.{checked}
 use Rattle.priority.specs.Priorities.{Kind, left, right, nonassoc, kind_number, either_way, declaration_of, declarations_of}
 use Rattle.priority.specs.declared.Declaration.{Declaration}
 use Rattle.priority.specs.Spelled.{spelled_out}

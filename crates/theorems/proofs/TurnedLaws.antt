@@ -21,7 +21,7 @@ use Rattle.priority.proofs.TurnedLaws.{turned_checked, turned_conflicts}
 use Rattle.priority.specs.Check.{checked}
 use Rattle.priority.specs.Conflict.{conflicts}
 use Rattle.question.proofs.AnswerLaws.{there_test, test_there}
-use Rattle.question.specs.Answer.{There, is_there, own_answer, conflict_answer}
+use Rattle.question.specs.Answer.{There, is_there, conflict_answer}
 use Rattle.rows.specs.declared.Row.{Row}
 use Rattle.theory.specs.Tree.{Tree}
 

@@ -21,11 +21,10 @@ use Rattle.grammar.proofs.EqualLaws.{argument_exactly, equal_exactly, equal_sym}
 use Rattle.refusal.proofs.VerdictLaws.{refuse_accepted, refuse_case, and_first, and_second, accepted_last, first_all, first_pass, first_same, first_of, order_append}
 use Rattle.grammar.specs.Check.{short_header, bad_header, short_contents, bad_argument_counts, bad_range_counts, bad_length, bad_productions, bad_declarations, same_production, repeated_production, repeated_productions}
 use Rattle.grammar.specs.Equal.{OneArgument}
-use Rattle.refusal.specs.Verdict.{Verdict, refusal, refused, refuse_if, and_then, in_order}
+use Rattle.refusal.specs.Verdict.{Verdict, refusal, refused, refuse_if, and_then, in_order, accepted}
 use Rattle.refusal.specs.declared.Fault.TheVariants.{Repeated}
 use Rattle.refusal.specs.declared.Refusal.{Refusal}
 use Rattle.std.specs.Prelude.{Ok, Err}
-use Rattle.refusal.specs.Verdict.{accepted}
 use Rattle.layout.specs.Layout.{sorts, productions, classes, argument_count, production_at, result_sort, argument}
 use Rattle.layout.specs.Limits.{sort_limit, class_base}
 use Rattle.priority.specs.Check.{circles, checked}

@@ -1,6 +1,6 @@
 -- `count_uses` meets its contract: what was counted, with what is still to come, is all.
 use Prim.Native.Nat.{ℕ, ◌+◌, ◌-◌, ◌≤◌, ◌<◌}
-use mathlib.Core.Bool.{Bool, false, true, ◌&&◌, false≢true}
+use mathlib.Core.Bool.{false, true, ◌&&◌, false≢true}
 use mathlib.Core.List.{List}
 use mathlib.Core.Path.{◌≡◌, sym, ◌∙◌, ap}
 use native.Mathlib.Decide.{ℕ_discrete}

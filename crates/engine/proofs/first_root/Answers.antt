@@ -1,12 +1,8 @@
 -- `first_root` meets its contract: the productions below p have none, so there is one from p on.
-use Prim.Native.Nat.{◌+◌}
 use native.Mathlib.Omega.{arith}
-use lib.ListN.{length}
 use Rattle.common.proofs.BelowLaws.{sum_none}
-use Rattle.engine.proofs.RootLaws.{sum_on, sum_still}
+use Rattle.engine.proofs.RootLaws.{sum_still}
 use Rattle.engine.specs.Roots.{root_term}
-use Rattle.tables.proofs.LayoutLaws.{counts_few}
-use Rattle.tables.specs.Layout.{counts_of}
 use Rattle.engine.proofs.first_root.Goals as goal
 
 pub production_count-p-end-requires : goal.production_count-p-end-requires

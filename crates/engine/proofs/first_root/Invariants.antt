@@ -1,10 +1,7 @@
 -- `first_root` meets its contract: the productions below p have none, so there is one from p on.
-use Prim.Native.Nat.{◌-◌, ◌<◌}
 use mathlib.Core.Path.{◌≡◌}
-use lib.ListN.{length}
 use Rattle.common.specs.Below.{sum_below}
 use Rattle.engine.specs.Roots.{root_term}
-use Rattle.tables.specs.Layout.{counts_of}
 use Rattle.engine.proofs.first_root.Given as goal
 
 abbrev pub invariant-loop-p : goal.invariant-loop-p

@@ -1,5 +1,5 @@
 -- `root_sum` meets its contract: the productions below p are summed up.
-use Prim.Native.Nat.{◌-◌, ◌*◌, ◌≤◌}
+use Prim.Native.Nat.{◌*◌, ◌≤◌}
 use mathlib.Core.Path.{◌≡◌}
 use Rattle.common.specs.Below.{sum_below}
 use Rattle.common.specs.Bytes.{byte_values}

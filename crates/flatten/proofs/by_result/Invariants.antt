@@ -1,5 +1,4 @@
 -- `by_result` meets its contract: the productions passed are in the sets of their results.
-use Prim.Native.Nat.{◌-◌, ◌≤◌}
 use mathlib.Core.Path.{◌≡◌}
 use Rattle.flatten.specs.Tables.{ByResult}
 use Rattle.layout.specs.Layout.{production_at}

@@ -1,5 +1,4 @@
 -- `flatten` meets its contract: the classes of the productions passed are written.
-use Prim.Native.Nat.{◌-◌, ◌≤◌}
 use mathlib.Core.Path.{◌≡◌}
 use Rattle.flatten.specs.Tables.{WrittenBelow}
 use Rattle.layout.specs.Layout.{production_at}

@@ -10,7 +10,7 @@ use Rattle.flatten.proofs.TableTextLaws.{table_grammar_lem}
 use Rattle.flatten.specs.Flat.{flat_grammar}
 use Rattle.ccg.specs.Text.{grammar_text}
 use Rattle.writing.specs.Answer.{fitted}
-use Rattle.std.specs.Prelude.{Ok, Err}
+use Rattle.std.specs.Prelude.{Ok}
 use Rattle.refusal.specs.Verdict.{refused}
 use Rattle.refusal.specs.declared.Fault.TheVariants.{LongFlat}
 use Rattle.charset.specs.Set.{characters}

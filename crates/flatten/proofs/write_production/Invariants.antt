@@ -1,5 +1,4 @@
 -- `write_production` meets its contract: the classes of the arguments passed are written.
-use Prim.Native.Nat.{◌-◌, ◌≤◌}
 use Rattle.flatten.specs.Tables.{WrittenBelow}
 use Rattle.tables.specs.Layout.{slot}
 use Rattle.flatten.proofs.write_production.Given as goal

@@ -1,6 +1,6 @@
 -- `check_accepted` meets its contract: 10, 11, and then the numbers by the tables.
 use Prim.Native.Nat.{ℕ, ◌<◌}
-use mathlib.Core.Path.{refl, ◌∙◌}
+use mathlib.Core.Path.{◌∙◌, ap}
 use native.Mathlib.Omega.{arith}
 use lib.ListN.{get_or}
 use Rattle.charset.specs.Set.{characters}
@@ -8,7 +8,6 @@ use Rattle.listing.proofs.WalkLaws.{tables_judged}
 use Rattle.listing.proofs.check_accepted.Goals as goal
 use Rattle.std.specs.Prelude.{Ok}
 use Rattle.listing.specs.declared.Judgement.{Judgement}
-use mathlib.Core.Path.{ap}
 
 pub returns : goal.returns
 returns c =

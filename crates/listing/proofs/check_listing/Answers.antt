@@ -1,6 +1,5 @@
 -- `check_listing` meets its contract: the grammar's refusals first.
-use mathlib.Core.Path.{refl, sym, ◌∙◌}
-use Rattle.listing.specs.Answer.{listing_answer}
+use mathlib.Core.Path.{sym, ◌∙◌}
 use Rattle.priority.proofs.CheckLaws.{accepted_formed}
 use Rattle.listing.proofs.check_listing.Goals as goal
 

@@ -1,5 +1,5 @@
 -- `add_bits` meets its contract: the bits passed are added.
-use Prim.Native.Nat.{◌+◌, ◌-◌, max, ◌≤◌}
+use Prim.Native.Nat.{◌+◌, max, ◌≤◌}
 use Rattle.load.specs.Held.{BitsAdded}
 use Rattle.load.proofs.add_bits.Given as goal
 

@@ -1,9 +1,7 @@
 -- `check_class` meets its contract: none of the numbers passed is in the class.
-use Prim.Native.Nat.{◌-◌, ◌≤◌}
 use mathlib.Core.Path.{◌≡◌}
 use Rattle.ccg.specs.Tables.{table_class}
-use Rattle.refusal.specs.Verdict.{first_refusal}
-use Rattle.refusal.specs.Verdict.{accepted}
+use Rattle.refusal.specs.Verdict.{first_refusal, accepted}
 use Rattle.load.specs.Absent.{absent_at}
 use Rattle.load.proofs.check_class.Given as goal
 

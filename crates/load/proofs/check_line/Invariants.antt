@@ -1,10 +1,8 @@
 -- `check_line` meets its contract: none of the arguments passed has such a number.
-use Prim.Native.Nat.{◌-◌, ◌≤◌}
 use mathlib.Core.Path.{◌≡◌}
 use lib.ListN.{length}
 use Rattle.ccg.specs.Tables.{table_line}
-use Rattle.refusal.specs.Verdict.{first_refusal}
-use Rattle.refusal.specs.Verdict.{accepted}
+use Rattle.refusal.specs.Verdict.{first_refusal, accepted}
 use Rattle.load.specs.Absent.{absent_in_argument}
 use Rattle.tables.specs.Layout.{counts_of}
 use Rattle.load.proofs.check_line.Given as goal

@@ -9,7 +9,6 @@ use Rattle.std.proofs.lemmas.Result.{err_from_is_err_and}
 use Rattle.refusal.proofs.VerdictLaws.{first_none, first_more, first_found, first_done}
 use Rattle.load.proofs.AbsentLaws.{line_at}
 use Rattle.load.specs.Absent.{absent_in_line_at, absent_names}
-use Rattle.tables.proofs.LayoutLaws.{counts_few}
 use Rattle.tables.specs.Layout.{counts_of}
 use Rattle.load.proofs.check_names.Goals as goal
 

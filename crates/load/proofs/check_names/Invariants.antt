@@ -1,9 +1,7 @@
 -- `check_names` meets its contract: none of the lines passed has such a number.
-use Prim.Native.Nat.{◌-◌, ◌≤◌}
 use mathlib.Core.Path.{◌≡◌}
 use Rattle.ccg.specs.Tables.{table_grammar}
-use Rattle.refusal.specs.Verdict.{first_refusal}
-use Rattle.refusal.specs.Verdict.{accepted}
+use Rattle.refusal.specs.Verdict.{first_refusal, accepted}
 use Rattle.load.specs.Absent.{absent_in_line_at}
 use Rattle.load.proofs.check_names.Given as goal
 

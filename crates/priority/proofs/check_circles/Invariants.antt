@@ -1,8 +1,6 @@
 -- `check_circles` meets its contract: no production passed is higher than itself.
-use Prim.Native.Nat.{◌-◌, ◌≤◌}
 use mathlib.Core.Path.{◌≡◌}
-use Rattle.refusal.specs.Verdict.{first_refusal}
-use Rattle.refusal.specs.Verdict.{accepted}
+use Rattle.refusal.specs.Verdict.{first_refusal, accepted}
 use Rattle.priority.specs.Check.{on_diagonal}
 use Rattle.priority.proofs.check_circles.Given as goal
 

@@ -3,8 +3,7 @@ use Prim.Native.Nat.{ℕ}
 use mathlib.Core.Path.{◌≡◌, refl, sym, ◌∙◌, subst}
 use native.Mathlib.Omega.{arith}
 use Rattle.priority.proofs.ChainLaws.{through_next, through_same, through_chain, chain_through}
-use Rattle.priority.specs.Chain.{through}
-use Rattle.priority.specs.Chain.{entry}
+use Rattle.priority.specs.Chain.{through, entry}
 use Rattle.priority.proofs.closed.Goals as goal
 use Rattle.priority.proofs.closed.Goals.{then-leads_on, else-leads_on}
 

@@ -1,8 +1,7 @@
 -- `closed` meets its contract: after the turn for a middle, entries are chains through all middles so far.
-use Prim.Native.Nat.{ℕ, ◌-◌, ◌≤◌}
+use Prim.Native.Nat.{ℕ}
 use mathlib.Core.Path.{◌≡◌}
-use Rattle.priority.specs.Chain.{through}
-use Rattle.priority.specs.Chain.{entry}
+use Rattle.priority.specs.Chain.{through, entry}
 use Rattle.priority.proofs.closed.Given as goal
 
 abbrev pub invariant-loop-middle : goal.invariant-loop-middle

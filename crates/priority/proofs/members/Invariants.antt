@@ -1,5 +1,5 @@
 -- `members` meets its contract: the places from `first` to y are marked, the rest is as it was.
-use Prim.Native.Nat.{ℕ, ◌+◌, ◌-◌, ◌≤◌}
+use Prim.Native.Nat.{ℕ}
 use mathlib.Core.Bool.{Bool, false}
 use mathlib.Core.Path.{◌≡◌}
 use lib.ListN.{replicate}

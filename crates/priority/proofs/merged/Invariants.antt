@@ -1,11 +1,10 @@
 -- `merged` meets its contract: the places below y are merged, the rest is the row.
-use Prim.Native.Nat.{ℕ, ◌-◌, ◌≤◌}
+use Prim.Native.Nat.{ℕ}
 use mathlib.Core.Path.{◌≡◌}
 use mathlib.Core.Bool.{Bool, false, ◌||◌}
 use mathlib.Core.List.{List}
 use lib.ListN.{get_or}
 use Rattle.common.proofs.FillLaws.{Filled}
-use Rattle.layout.specs.Limits.{production_limit}
 use Rattle.priority.proofs.merged.Given as goal
 
 -- what stands at place k of the merged row

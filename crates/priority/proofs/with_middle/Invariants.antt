@@ -1,11 +1,10 @@
 -- `with_middle` meets its contract: the rows below x may pass through the middle, the rest is as it was.
-use Prim.Native.Nat.{ℕ, ◌-◌, ◌≤◌}
+use Prim.Native.Nat.{ℕ}
 use mathlib.Core.Path.{◌≡◌}
 use mathlib.Core.Bool.{Bool, false, ◌&&◌, ◌||◌}
 use mathlib.Core.List.{List, []}
 use lib.ListN.{get_or}
 use Rattle.common.proofs.FillLaws.{Filled}
-use Rattle.layout.specs.Limits.{production_limit}
 use Rattle.priority.specs.Chain.{entry}
 use Rattle.priority.proofs.with_middle.Given as goal
 

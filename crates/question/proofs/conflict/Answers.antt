@@ -1,7 +1,6 @@
 -- `conflict` meets its contract: the grammar's refusals first.
 use mathlib.Core.Path.{sym, ◌∙◌}
 use Rattle.priority.proofs.CheckLaws.{accepted_formed}
-use Rattle.question.specs.Answer.{conflict_answer}
 use Rattle.question.proofs.conflict.Goals as goal
 
 pub answer-requires : goal.answer-requires

@@ -1,7 +1,7 @@
 -- `reason` meets its contract, by the answer to the plain question.
 use mathlib.Core.Path.{sym, ◌∙◌, ap}
 use Rattle.std.proofs.lemmas.Result.{err_from_is_err_and}
-use Rattle.std.specs.Prelude.{Bool, Ok, Err}
+use Rattle.std.specs.Prelude.{Bool, Ok}
 use Rattle.reason.proofs.ReasonLaws.{reasoned_free, reasoned_refused}
 use Rattle.reason.proofs.reason.Goals as goal
 

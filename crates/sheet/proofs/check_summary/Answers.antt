@@ -1,5 +1,5 @@
 -- `check_summary` meets its contract: what refuses a step first, then the length of the summary.
-use mathlib.Core.Path.{sym, ◌∙◌, ap}
+use mathlib.Core.Path.{sym, ◌∙◌}
 use native.Mathlib.Omega.{arith}
 use Rattle.sheet.proofs.RefusalLaws.{sheet_step, sheet_few, sheet_allowed}
 use Rattle.sheet.proofs.check_summary.Goals as goal

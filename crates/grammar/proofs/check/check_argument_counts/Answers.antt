@@ -1,11 +1,9 @@
 -- `check_argument_counts` meets its contract: no count passed is refused.
-use Prim.Native.Nat.{◌+◌}
 use mathlib.Core.Path.{refl, sym}
 use native.Mathlib.Omega.{arith}
 use borrow.Author.Tests.{lt-ltb, le-ltb}
 use Rattle.refusal.proofs.VerdictLaws.{first_none, first_more, first_found, first_done}
 use Rattle.grammar.specs.Check.{bad_argument_count}
-use Rattle.layout.specs.Limits.{header_length}
 use Rattle.grammar.proofs.check.check_argument_counts.Goals as goal
 
 pub loop-p-init : goal.loop-p-init

@@ -1,9 +1,7 @@
 -- `check_argument_counts` meets its contract: no count passed is refused.
-use Prim.Native.Nat.{◌-◌, ◌≤◌}
 use mathlib.Core.Path.{◌≡◌}
 use Rattle.grammar.specs.Check.{bad_argument_count}
-use Rattle.refusal.specs.Verdict.{first_refusal}
-use Rattle.refusal.specs.Verdict.{accepted}
+use Rattle.refusal.specs.Verdict.{first_refusal, accepted}
 use Rattle.grammar.proofs.check.check_argument_counts.Given as goal
 
 abbrev pub invariant-loop-p : goal.invariant-loop-p

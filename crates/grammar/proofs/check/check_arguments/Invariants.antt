@@ -1,9 +1,7 @@
 -- `check_arguments` meets its contract: no argument passed is refused.
-use Prim.Native.Nat.{◌-◌, ◌≤◌}
 use mathlib.Core.Path.{◌≡◌}
 use Rattle.grammar.specs.Check.{bad_argument}
-use Rattle.refusal.specs.Verdict.{first_refusal}
-use Rattle.refusal.specs.Verdict.{accepted}
+use Rattle.refusal.specs.Verdict.{first_refusal, accepted}
 use Rattle.grammar.proofs.check.check_arguments.Given as goal
 
 abbrev pub invariant-loop-i : goal.invariant-loop-i

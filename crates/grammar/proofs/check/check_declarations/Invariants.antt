@@ -1,9 +1,7 @@
 -- `check_declarations` meets its contract: no declaration passed is refused.
-use Prim.Native.Nat.{◌-◌, ◌≤◌}
 use mathlib.Core.Path.{◌≡◌}
 use Rattle.grammar.specs.Check.{bad_declaration}
-use Rattle.refusal.specs.Verdict.{first_refusal}
-use Rattle.refusal.specs.Verdict.{accepted}
+use Rattle.refusal.specs.Verdict.{first_refusal, accepted}
 use Rattle.layout.specs.Layout.{declaration_at}
 use Rattle.grammar.proofs.check.check_declarations.Given as goal
 

@@ -1,9 +1,7 @@
 -- `check_productions` meets its contract: no production passed is refused.
-use Prim.Native.Nat.{◌-◌, ◌≤◌}
 use mathlib.Core.Path.{◌≡◌}
 use Rattle.grammar.specs.Check.{bad_production}
-use Rattle.refusal.specs.Verdict.{first_refusal}
-use Rattle.refusal.specs.Verdict.{accepted}
+use Rattle.refusal.specs.Verdict.{first_refusal, accepted}
 use Rattle.layout.specs.Layout.{production_at}
 use Rattle.grammar.proofs.check.check_productions.Given as goal
 

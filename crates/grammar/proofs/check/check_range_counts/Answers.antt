@@ -1,12 +1,9 @@
 -- `check_range_counts` meets its contract: no count passed is refused.
-use Prim.Native.Nat.{◌+◌}
 use mathlib.Core.Path.{refl, sym}
 use native.Mathlib.Omega.{arith}
 use borrow.Author.Tests.{lt-ltb, le-ltb}
 use Rattle.refusal.proofs.VerdictLaws.{first_none, first_more, first_found, first_done}
 use Rattle.grammar.specs.Check.{bad_range_count}
-use Rattle.layout.specs.Layout.{productions}
-use Rattle.layout.specs.Limits.{header_length}
 use Rattle.grammar.proofs.check.check_range_counts.Goals as goal
 
 pub loop-k-init : goal.loop-k-init

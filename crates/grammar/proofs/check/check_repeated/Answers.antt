@@ -5,7 +5,6 @@ use Rattle.refusal.proofs.VerdictLaws.{first_none, first_more, first_found, firs
 use Rattle.grammar.specs.Check.{repeated_production}
 use Rattle.layout.proofs.FramedLaws.{production_in, bodies_in}
 use Rattle.layout.proofs.LayoutLaws.{production_first, production_next}
-use Rattle.layout.specs.Layout.{production_at}
 use Rattle.grammar.proofs.check.check_repeated.Goals as goal
 
 pub canonical_arguments-table-requires : goal.canonical_arguments-table-requires

@@ -1,9 +1,7 @@
 -- `check_repeated` meets its contract: no production passed is equal to an earlier one.
-use Prim.Native.Nat.{◌-◌, ◌≤◌}
 use mathlib.Core.Path.{◌≡◌}
 use Rattle.grammar.specs.Check.{repeated_production}
-use Rattle.refusal.specs.Verdict.{first_refusal}
-use Rattle.refusal.specs.Verdict.{accepted}
+use Rattle.refusal.specs.Verdict.{first_refusal, accepted}
 use Rattle.layout.specs.Layout.{production_at}
 use Rattle.grammar.proofs.check.check_repeated.Given as goal
 

@@ -1,6 +1,6 @@
 -- `names_argument` meets its contract: a sort, or a class that is there.
 use mathlib.Core.Path.{refl}
-use borrow.Author.Tests.{lt-ltb, le-ltb, le-leb, lt-leb}
+use borrow.Author.Tests.{le-ltb, le-leb, lt-leb}
 use Rattle.classes.specs.Classes.{is_class}
 use Rattle.grammar.specs.Check.{names_argument}
 use Rattle.grammar.proofs.check.names_argument.Goals as goal

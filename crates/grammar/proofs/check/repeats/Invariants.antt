@@ -1,5 +1,4 @@
 -- `repeats` meets its contract: no earlier production passed is equal.
-use Prim.Native.Nat.{◌-◌, ◌≤◌}
 use mathlib.Core.Path.{◌≡◌}
 use mathlib.Core.Bool.{false}
 use Rattle.common.specs.Below.{any_below}

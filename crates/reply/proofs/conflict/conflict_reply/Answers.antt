@@ -1,6 +1,5 @@
 -- `conflict_reply` meets its contract, answer by answer.
-use mathlib.Core.Path.{refl, ap}
-use mathlib.Core.Bool.{Bool}
+use mathlib.Core.Path.{refl}
 use Rattle.reply.specs.Answers.{conflict_reply}
 use Rattle.reply.proofs.conflict.conflict_reply.Goals as goal
 
