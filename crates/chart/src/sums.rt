@@ -10,33 +10,21 @@ use crate::cells::ROW_LIMIT;
 pub fn capped(n: usize) -> u8
     ensures { result ≡ cap n }
 {
-    if n == 0 {
-        return 0;
-    }
-    if n == 1 {
-        return 1;
-    }
-    2
+    n.min(2) as u8
 }
 
 // The same for a byte; the inner loop does many at a step.
 pub fn capped_byte(x: u8) -> u8
     ensures { result ≡ cap x }
 {
-    if x < 2 {
-        return x;
-    }
-    2
+    x.min(2)
 }
 
 // The larger of two bytes.
 pub fn larger(a: u8, b: u8) -> u8
     ensures { result ≡ max a b }
 {
-    if a < b {
-        return b;
-    }
-    a
+    a.max(b)
 }
 
 // A zero for each row.

@@ -12,7 +12,7 @@ use Rattle.chart.proofs.by_ends.add_row.Goals as goal
 pub loop-k-init : goal.loop-k-init
 loop-k-init c =
     let a = c.args in
-    (region_none (Sum a.chart.now a.sums.now a.n a.row a.m a.argument a.at) 0 a.at a.sums.now, region_none (Live a.chart.now a.sums.now a.live.now a.n a.row a.m a.argument a.at) 0 0 a.live.now, omega arith)
+    (region_none (Sum a.chart.now a.sums.now a.n a.row a.m a.argument a.at) 0 a.at a.sums.now, region_none (Live a.chart.now a.sums.now a.live.now a.n a.row a.m a.argument a.at) 0 0 a.live.now)
 
 pub bounds-sums-at : goal.bounds-sums-at
 bounds-sums-at c = omega (arith, c.loop-k.invariant.0.long)
@@ -57,7 +57,6 @@ loop-k-preserved c =
       region_more (Sum a.chart.now a.sums.now a.n a.row a.m a.argument a.at) 0 a.at a.sums.now c.loop-k.k c.loop-k.sums c.capped_byte-sum.result (omega arith) c.loop-k.invariant.0 made,
       front_more (Live a.chart.now a.sums.now a.live.now a.n a.row a.m a.argument a.at) c.loop-k.k a.live.now c.loop-k.live c.larger.result (omega arith) c.loop-k.invariant.1
           (c.larger.ensures ∙ ap₂ max (c.loop-k.invariant.1.above c.loop-k.k (omega arith)) made),
-      omega arith,
     )
 
 pub shape_of-sums : goal.shape_of-sums
