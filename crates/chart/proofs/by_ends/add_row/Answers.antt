@@ -4,7 +4,7 @@ use mathlib.Core.Path.{◌≡◌, ◌∙◌, ap₂, subst}
 use native.Mathlib.Omega.{arith}
 use lib.ListN.{get_or}
 use Rattle.chart.proofs.ByEndsLaws.{place_in, place_few, place_next, product_small, cell_small, sum_made}
-use Rattle.common.proofs.RegionLaws.{front_more, region_none, region_more}
+use Rattle.common.proofs.RegionLaws.{front_more, region_more}
 use Rattle.common.specs.Region.{Region}
 use Rattle.chart.proofs.by_ends.add_row.Invariants.{Sum, Live}
 use Rattle.chart.proofs.by_ends.add_row.Goals as goal

@@ -1,5 +1,5 @@
 -- `add_row` meets its contract: the sums of the starts below k are new; those of later starts are read as they were at entry.
-use Prim.Native.Nat.{ℕ, ◌+◌, ◌-◌, ◌*◌, max, ◌≤◌}
+use Prim.Native.Nat.{ℕ, ◌+◌, ◌*◌, max}
 use mathlib.Core.Path.{◌≡◌}
 use mathlib.Core.List.{List}
 use lib.ListN.{get_or}

@@ -1,11 +1,6 @@
 -- `turn_row` meets its contract: the cells that start before i are written, from a copy of the row.
-use Prim.Native.Nat.{ℕ, ◌+◌, ◌*◌}
-use mathlib.Core.Path.{◌≡◌, ap, subst, subst₂}
 use native.Mathlib.Omega.{arith}
-use lib.ListN.{get_or}
-use Rattle.chart.proofs.ByEndsLaws.{place_in, place_few}
-use Rattle.chart.proofs.TurnLaws.{row_copied, StartsTurned, starts_none, starts_all, starts_more}
-use Rattle.common.specs.Region.{Region}
+use Rattle.chart.proofs.TurnLaws.{row_copied, starts_more}
 use Rattle.chart.proofs.by_ends.turn_row.Goals as goal
 
 pub loop-i-preserved : goal.loop-i-preserved

@@ -1,5 +1,4 @@
 -- `turn_row` meets its contract: the cells that start before i are written, from a copy of the row.
-use Prim.Native.Nat.{◌+◌, ◌-◌, ◌≤◌}
 use Rattle.chart.proofs.TurnLaws.{StartsTurned}
 use Rattle.chart.proofs.by_ends.turn_row.Given as goal
 

@@ -1,13 +1,11 @@
 -- `turn_rows` meets its contract: the rows below r are turned, and the rest is as it was.
-use Prim.Native.Nat.{ℕ, ◌+◌, ◌*◌, ◌/◌}
-use mathlib.Core.Path.{◌≡◌, sym, ◌∙◌, subst}
+use Prim.Native.Nat.{◌+◌}
+use mathlib.Core.Path.{◌∙◌}
 use native.Mathlib.Omega.{arith}
 use native.Mathlib.Nat.{mul-le-mul_right}
-use lib.ListN.{length-replicate}
 use Rattle.chart.proofs.LayoutLaws.{span_few}
-use Rattle.chart.specs.Layout.{span_count, places}
-use Rattle.chart.proofs.TurnLaws.{turned_none, turned_more}
-use Rattle.chart.specs.ByEnds.{Turned}
+use Rattle.chart.specs.Layout.{span_count}
+use Rattle.chart.proofs.TurnLaws.{turned_more}
 use Rattle.chart.proofs.by_ends.turn_rows.Goals as goal
 
 pub turn_row-requires : goal.turn_row-requires

@@ -1,5 +1,5 @@
 -- `turn_rows` meets its contract: the rows below r are turned, and the rest is as it was.
-use Prim.Native.Nat.{◌+◌, ◌-◌, ◌≤◌, ◌*◌, ◌/◌}
+use Prim.Native.Nat.{◌+◌, ◌*◌, ◌/◌}
 use mathlib.Core.Path.{◌≡◌}
 use lib.ListN.{length}
 use Rattle.chart.specs.Layout.{places}

@@ -1,10 +1,8 @@
 -- `turn_start` meets its contract: the cells that end before j are written.
-use Prim.Native.Nat.{ℕ, ◌+◌}
-use mathlib.Core.Path.{◌≡◌, subst}
 use native.Mathlib.Omega.{arith}
 use Rattle.chart.proofs.LayoutLaws.{span_few}
 use Rattle.chart.proofs.ByEndsLaws.{column_in}
-use Rattle.chart.proofs.TurnLaws.{EndsTurned, ends_none, ends_more}
+use Rattle.chart.proofs.TurnLaws.{ends_more}
 use Rattle.chart.proofs.by_ends.turn_start.Goals as goal
 
 pub overflow_add-column_at : goal.overflow_add-column_at

@@ -1,5 +1,4 @@
 -- `turn_start` meets its contract: the cells that end before j are written.
-use Prim.Native.Nat.{◌+◌, ◌-◌, ◌≤◌}
 use Rattle.chart.proofs.TurnLaws.{EndsTurned}
 use Rattle.chart.proofs.by_ends.turn_start.Given as goal
 
