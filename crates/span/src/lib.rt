@@ -15,7 +15,7 @@ ghost use Rattle.common.specs.Bytes.{byte_values};
 
 use chart::cells::ROW_LIMIT;
 use chart::sums::{capped, larger};
-use common::{either, wide};
+use common::wide;
 use layout::limits::PRODUCTION_LIMIT;
 
 // What the equation of a cell gives: the inner splits, the split at the start, and the split at the end.
@@ -39,8 +39,7 @@ fn advance(
     requires arity_bound { base + arity < row_limit }
     ensures { cells.new ≡ advanced inner.now front.now back.now args.now base arity cells.old }
 {
-    let mut d = 0;
-    while d < arity {
+    for d in 0..arity {
         cells[base + d + 1] = larger(
             cells[base + d + 1],
             step(
@@ -51,7 +50,6 @@ fn advance(
                 back[base + d],
             ),
         );
-        d += 1;
     }
 }
 
@@ -62,10 +60,8 @@ pub fn spread(args: &mut [u8], users: &[u8], rows: usize, by: u8)
     requires by_index { (r : ℕ) → r < row_limit → get_or args.old r 0 + by * get_or users.now r 0 < byte_values }
     ensures { (r : ℕ) → r < row_limit → get_or args.new r 0 ≡ get_or args.old r 0 + by * get_or users.now r 0 }
 {
-    let mut r = 0;
-    while r < rows {
-        args[r] = args[r] + by * users[r];
-        r += 1;
+    for r in 0..rows {
+        args[r] += by * users[r];
     }
 }
 
@@ -74,10 +70,8 @@ fn mark(pending: &mut [u8], uses: &[u8])
     requires { (length pending.old ≡ production_limit) × (length uses.now ≡ production_limit) }
     ensures { (p : ℕ) → p < production_limit → get_or pending.new p 0 ≡ max (get_or pending.old p 0) (get_or uses.now p 0) }
 {
-    let mut p = 0;
-    while p < PRODUCTION_LIMIT {
+    for p in 0..PRODUCTION_LIMIT {
         pending[p] = larger(pending[p], uses[p]);
-        p += 1;
     }
 }
 
@@ -147,14 +141,11 @@ fn round(
 {
     let mut rose = false;
     let mut base = 0;
-    let mut q = 0;
-    while q < counts.len() {
-        let here = visit(
+    for (q, count) in counts.iter().enumerate() {
+        rose |= visit(
             counts, rows, users, uses, inner, front, back, pending, args, cells, q, base,
         );
-        rose = either(rose, here);
-        base += wide(counts[q]) + 1;
-        q += 1;
+        base += wide(*count) + 1;
     }
     rose
 }

@@ -12,7 +12,4 @@ unfoldable pub Marked : (pending uses : List ℕ) → ℕ → ℕ → Type 0
 Marked pending uses k v = v ≡ max (get_or pending k 0) (get_or uses k 0)
 
 abbrev pub invariant-loop-p : goal.invariant-loop-p
-invariant-loop-p l = Filled (Marked l.initial.pending l.uses) 0 l.initial.pending l.p l.pending × (l.p ≤ production_limit)
-
-abbrev pub decreases-loop-p : goal.decreases-loop-p
-decreases-loop-p l = production_limit - l.p
+invariant-loop-p l = Filled (Marked l.initial.pending l.uses) 0 l.initial.pending l.p l.pending

@@ -14,7 +14,3 @@ invariant-loop-q l =
     × (length l.args ≡ length l.initial.args)
     × (length l.cells ≡ length l.initial.cells)
     × (l.base ≡ row_of (arity_in l.counts) l.q 0)
-    × (l.q ≤ length l.counts)
-
-abbrev pub decreases-loop-q : goal.decreases-loop-q
-decreases-loop-q l = length l.counts - l.q

@@ -11,14 +11,6 @@ loop-rose-init c =
     let p = c.requires in
     (λ bare agree. settling_first production_limit c.requires.links.few_productions c.requires.founded.small agree, refl, refl, refl)
 
-pub slice_bounds-round-end : goal.slice_bounds-round-end
-slice_bounds-round-end c = sym c.loop-rose.invariant.1
-
-pub round-rose-requires : goal.round-rose-requires
-round-rose-requires c = let h = c.loop-rose in
-    let p = c.requires in
-    record { links = c.requires.links; loads = loads_kept h.args h.cells c.requires.loads h.invariant.2 h.invariant.3; founded = founded_kept c.requires.founded (λ bare agree. let v = h.invariant.0 bare agree in (v.small, v.agree)); pending_len = (h.invariant.1, c.requires.rows_value) }
-
 pub loop-rose-smaller : goal.loop-rose-smaller
 loop-rose-smaller c =
     let a = c.args in
@@ -32,12 +24,3 @@ unfolding span_of
 loop-rose-preserved c =
     let h = c.loop-rose in
     (λ bare agree. let v = h.invariant.0 bare agree in settling_next v (c.round-rose.ensures bare v.agree), c.pending-in-loop-rose-1.given, c.args-1.given ∙ h.invariant.2, c.cells-1.given ∙ h.invariant.3)
-
-pub shape_of-args : goal.shape_of-args
-shape_of-args c = c.loop-rose.invariant.2
-
-pub shape_of-cells : goal.shape_of-cells
-shape_of-cells c = c.loop-rose.invariant.3
-
-pub returns : goal.returns
-returns c bare agree = settling_last c.loop-rose-test.false (c.loop-rose.invariant.0 bare agree)

@@ -11,7 +11,4 @@ unfoldable pub Risen : List ℕ → List ℕ → ℕ → ℕ → ℕ → Type 0
 Risen args users by k v = v ≡ get_or args k 0 + by * get_or users k 0
 
 abbrev pub invariant-loop-r : goal.invariant-loop-r
-invariant-loop-r l = Filled (Risen l.initial.args l.users l.by) 0 l.initial.args l.r l.args × (l.r ≤ l.rows)
-
-abbrev pub decreases-loop-r : goal.decreases-loop-r
-decreases-loop-r l = l.rows - l.r
+invariant-loop-r l = Filled (Risen l.initial.args l.users l.by) 0 l.initial.args l.r l.args
