@@ -13,7 +13,7 @@ ghost use Rattle.empty.specs.Turns.{Begun, Followed};
 
 use chart::cells::ROW_LIMIT;
 use chart::sums::zero_row;
-use common::{either, wide};
+use common::wide;
 use span::{settle, spread};
 
 // With no argument there is one list of trees, the empty one; a production without arguments has a tree by it.
@@ -23,33 +23,25 @@ fn begin(counts: &[u8], rows: usize, users: &[u8], args: &mut [u8], cells: &mut 
     ensures { Begun counts.now users.now (length counts.now) args.new cells.new }
 {
     let mut base = 0;
-    let mut p = 0;
-    while p < counts.len() {
+    for (p, count) in counts.iter().enumerate() {
         cells[base] = 1;
         spread(
             args,
             &users[p * ROW_LIMIT..(p + 1) * ROW_LIMIT],
             rows,
-            (counts[p] == 0) as u8,
+            (*count == 0) as u8,
         );
-        base += wide(counts[p]) + 1;
-        p += 1;
+        base += wide(*count) + 1;
     }
 }
 
-// Takes up the arguments of the rows: true if they had changed. Beyond the rows they are the same.
-fn follow(back: &mut [u8], args: &[u8], rows: usize) -> bool
-    requires back_len { (length back.old ≡ row_limit) × (length args.now ≡ row_limit) × (rows ≤ row_limit) }
-    requires by_index { (r : ℕ) → rows ≤ r → get_or back.old r 0 ≡ get_or args.now r 0 }
+// Takes up the arguments: true if they had changed.
+fn follow(back: &mut [u8], args: &[u8]) -> bool
+    requires { length back.old ≡ length args.now }
     ensures { Followed back.old args.now back.new result }
 {
-    let mut changed = false;
-    let mut r = 0;
-    while r < rows {
-        changed = either(changed, back[r] != args[r]);
-        back[r] = args[r];
-        r += 1;
-    }
+    let changed = *back != *args;
+    back.copy_from_slice(args);
     changed
 }
 
@@ -69,11 +61,11 @@ pub fn settle_empty(
     let zeros = zero_row();
     let mut back = zero_row();
     begin(counts, rows, users, args, cells);
-    let mut changed = follow(&mut back, args, rows);
+    let mut changed = follow(&mut back, args);
     while changed {
         settle(
             counts, rows, users, uses, &zeros, &zeros, &back, args, cells,
         );
-        changed = follow(&mut back, args, rows);
+        changed = follow(&mut back, args);
     }
 }

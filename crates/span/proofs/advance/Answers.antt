@@ -1,6 +1,6 @@
 -- `advance` meets its contract: the cells are raised for the first d arguments.
 use Prim.Native.Nat.{◌+◌}
-use mathlib.Core.Path.{◌≡◌, refl, ◌∙◌}
+use mathlib.Core.Path.{refl, ◌∙◌}
 use native.Mathlib.Omega.{arith}
 use lib.ListN.{length-set}
 use Rattle.span.proofs.AdvanceLaws.{advanced_next}

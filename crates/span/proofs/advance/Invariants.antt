@@ -1,5 +1,4 @@
 -- `advance` meets its contract: the cells are raised for the first d arguments.
-use Prim.Native.Nat.{◌-◌, ◌≤◌}
 use mathlib.Core.Path.{◌≡◌}
 use lib.ListN.{length}
 use Rattle.chart.specs.Layout.{row_limit}

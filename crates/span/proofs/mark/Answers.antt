@@ -4,7 +4,7 @@ use mathlib.Core.Path.{◌∙◌, ap}
 use native.Mathlib.Omega.{arith}
 use native.Mathlib.Nat.{le_refl}
 use lib.ListN.{get_or}
-use Rattle.common.proofs.FillLaws.{filled_none, filled_more}
+use Rattle.common.proofs.FillLaws.{filled_more}
 use Rattle.span.proofs.mark.Invariants.{Marked}
 use Rattle.span.proofs.mark.Goals as goal
 

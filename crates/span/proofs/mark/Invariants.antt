@@ -1,10 +1,9 @@
 -- `mark` meets its contract: the productions below p are marked, the rest is as it was.
-use Prim.Native.Nat.{ℕ, ◌-◌, max, ◌≤◌}
+use Prim.Native.Nat.{ℕ, max}
 use mathlib.Core.Path.{◌≡◌}
 use mathlib.Core.List.{List}
 use lib.ListN.{get_or}
 use Rattle.common.proofs.FillLaws.{Filled}
-use Rattle.layout.specs.Limits.{production_limit}
 use Rattle.span.proofs.mark.Given as goal
 
 -- the mark of production k

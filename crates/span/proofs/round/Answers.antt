@@ -1,9 +1,8 @@
 -- `round` meets its contract: the productions before q have been looked at, and q's rows begin at `base`.
-use mathlib.Core.Path.{◌≡◌, refl, ◌∙◌}
+use mathlib.Core.Path.{refl, ◌∙◌}
 use native.Mathlib.Omega.{arith}
-use lib.ListN.{length}
 use Rattle.tables.specs.Layout.{arity_in}
-use Rattle.span.proofs.RoundLaws.{visited_join, base_first, base_next, loads_kept, founded_kept}
+use Rattle.span.proofs.RoundLaws.{visited_join, base_first, base_next}
 use Rattle.span.proofs.TableLaws.{table_room}
 use Rattle.span.proofs.VisitLaws.{visited_idle}
 use Rattle.span.proofs.round.Goals as goal

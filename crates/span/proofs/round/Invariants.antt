@@ -1,5 +1,5 @@
 -- `round` meets its contract: the productions before q have been looked at, and q's rows begin at `base`.
-use Prim.Native.Nat.{ℕ, ◌-◌, ◌≤◌}
+use Prim.Native.Nat.{ℕ}
 use mathlib.Core.Path.{◌≡◌}
 use lib.ListN.{length}
 use Rattle.chart.specs.Layout.{row_of}

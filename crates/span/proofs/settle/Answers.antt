@@ -1,7 +1,7 @@
 -- `settle` meets its contract: rounds go on while a count rises, and each such round leaves less to spare.
-use mathlib.Core.Path.{refl, sym, ◌∙◌}
+use mathlib.Core.Path.{refl, ◌∙◌}
 use Rattle.layout.specs.Limits.{production_limit}
-use Rattle.span.proofs.RoundLaws.{loads_kept, founded_kept, settling_first, settling_next, settling_last, settling_less}
+use Rattle.span.proofs.RoundLaws.{settling_first, settling_next, settling_less}
 use Rattle.span.specs.Tables.{span_of}
 use Rattle.span.proofs.settle.Goals as goal
 

@@ -6,7 +6,7 @@ use native.Mathlib.Omega.{arith}
 use native.Mathlib.Decide.{dec_lt}
 use native.Mathlib.Nat.{le_refl}
 use lib.ListN.{get_or}
-use Rattle.common.proofs.FillLaws.{filled_none, filled_more}
+use Rattle.common.proofs.FillLaws.{filled_more}
 use Rattle.span.proofs.spread.Invariants.{Risen}
 use Rattle.span.proofs.spread.Goals as goal
 

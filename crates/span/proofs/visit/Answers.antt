@@ -1,8 +1,6 @@
 -- `visit` meets its contract: each of its three ends is one of the laws of a visit.
 use Prim.Native.Nat.{◌+◌}
-use mathlib.Core.Path.{◌∙◌}
 use native.Mathlib.Omega.{arith}
-use lib.ListN.{length-set}
 use Rattle.span.proofs.TableLaws.{part_outside, table_room, table_within, table_fits, table_idle, table_same, table_rose}
 use Rattle.span.proofs.visit.Goals as goal
 
