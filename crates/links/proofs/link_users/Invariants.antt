@@ -6,7 +6,4 @@ use Rattle.tables.specs.Layout.{octet_bits, production_octets}
 use Rattle.links.proofs.link_users.Given as goal
 
 abbrev pub invariant-loop-k : goal.invariant-loop-k
-invariant-loop-k l = UsersTo l.counts l.tables (min (l.k * octet_bits) (length l.counts)) l.users × (l.k ≤ production_octets)
-
-abbrev pub decreases-loop-k : goal.decreases-loop-k
-decreases-loop-k l = length l.counts - l.k
+invariant-loop-k l = UsersTo l.counts l.tables (min (l.k * octet_bits) (length l.counts)) l.users
