@@ -10,23 +10,12 @@ use Rattle.common.specs.Region.{Region}
 use Rattle.links.proofs.put_bits.Invariants.{Entry}
 use Rattle.links.proofs.put_bits.Goals as goal
 
-pub loop-r-init : goal.loop-r-init
-loop-r-init c =
-    let start = c in
-    region_none (Entry start.args.octets.now start.args.b) 0 start.args.at start.args.out.now
-
-pub bounds-out-at : goal.bounds-out-at
-bounds-out-at c = omega (arith, c.loop-r.invariant.long)
-
 pub loop-r-preserved : goal.loop-r-preserved
 unfolding Entry bit
 loop-r-preserved c =
     let start = c in
     let turn = c.loop-r in
     region_more (Entry start.args.octets.now start.args.b) 0 start.args.at start.args.out.now turn.r turn.out _ (omega arith) turn.invariant (bit_test (get_or start.args.octets.now turn.r 0 / 2 ^ start.args.b % 2) (omega arith))
-
-pub shape_of-out : goal.shape_of-out
-shape_of-out c = c.loop-r.invariant.long
 
 pub returns : goal.returns
 unfolding Entry
