@@ -12,7 +12,4 @@ unfoldable pub Sum : (sums : List ℕ) (i r v : ℕ) → Type 0
 Sum sums i r v = v ≡ get_or sums (r * places + i) 0
 
 abbrev pub invariant-loop-r : goal.invariant-loop-r
-invariant-loop-r l = Filled (Sum l.sums l.i) 0 l.initial.out l.r l.out × (l.r ≤ l.rows)
-
-abbrev pub decreases-loop-r : goal.decreases-loop-r
-decreases-loop-r l = l.rows - l.r
+invariant-loop-r l = Filled (Sum l.sums l.i) 0 l.initial.out l.r l.out
