@@ -1,5 +1,4 @@
 -- `add_splits` meets its contract: the splits of the rows below r are added, and the sums of later rows are as they were.
-use Prim.Native.Nat.{◌-◌, ◌≤◌}
 use Rattle.column.specs.Sums.{SplitsAdded}
 use Rattle.column.proofs.add_splits.Given as goal
 

@@ -1,5 +1,4 @@
 -- `clear_column` meets its contract: the rows below r are cleared.
-use Prim.Native.Nat.{◌-◌, ◌≤◌}
 use Rattle.column.specs.Sums.{ColumnCleared}
 use Rattle.column.proofs.clear_column.Given as goal
 

@@ -1,5 +1,5 @@
 -- `store_cells` meets its contract: the cells of the rows below r are written.
-use Prim.Native.Nat.{ℕ, ◌-◌, ◌≤◌}
+use Prim.Native.Nat.{ℕ}
 use lib.ListN.{get_or}
 use Rattle.chart.specs.ByEnds.{place_at}
 use Rattle.column.specs.Scattered.{Scattered}
