@@ -26,10 +26,7 @@ fn is_dead(live: &[u8], i: usize, j: usize) -> bool
     requires { (i < j) × (j < length live.now) }
     ensures { result ≡ (not (eqb (i + 1) j) && eqb (get_or live.now i 0) 0) }
 {
-    if i + 1 == j {
-        return false;
-    }
-    live[i] == 0
+    i + 1 != j && live[i] == 0
 }
 
 // Settles a span, whose inner splits are summed up, by the prepared links and an empty span's cells and arguments, front and back.
@@ -153,9 +150,7 @@ fn fill_spans(
     ensures small_2 { Small tables.now text.now chart.new sums.new j }
 {
     let mut inner = zero_row();
-    let mut i = j;
-    while 0 < i {
-        i -= 1;
+    for i in (0..j).rev() {
         let span = Span { start: i, end: j };
         fill_span(chart, text, tables, prepared, sums, live, &mut inner, span);
     }
@@ -198,10 +193,8 @@ fn fill_columns(
     ensures onward { Onward tables.now prepared.now text.now chart.old 0 chart.new (length text.now + 1) }
     ensures small_cells { SmallCells (length text.now) (rows_of tables.now) (length text.now + 1) chart.new }
 {
-    let mut j = 0;
-    while j <= text.len() {
+    for j in 0..text.len() + 1 {
         fill_column(chart, text, tables, prepared, sums, live, j);
-        j += 1;
     }
 }
 
