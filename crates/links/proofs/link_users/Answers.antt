@@ -1,12 +1,9 @@
 -- `link_users` meets its contract: the productions of the octets below k are linked.
-use Prim.Native.Nat.{ℕ, ◌+◌, ◌*◌, min, ◌≤◌}
-use mathlib.Core.Path.{◌≡◌, sym, ◌∙◌, subst, subst⁻¹}
-use native.Mathlib.Nat.{mul-le-mul_right}
+use Prim.Native.Nat.{ℕ, ◌+◌, ◌*◌, min}
+use mathlib.Core.Path.{◌≡◌, subst}
 use native.Mathlib.Omega.{arith}
 use lib.ListN.{length}
-use Rattle.chart.specs.Layout.{row_limit}
-use Rattle.layout.specs.Limits.{production_limit}
-use Rattle.links.proofs.LinkedLaws.{users_none, users_more}
+use Rattle.links.proofs.LinkedLaws.{users_more}
 use Rattle.links.specs.Linked.{UsersTo}
 use Rattle.tables.specs.Layout.{octet_bits}
 use Rattle.links.proofs.link_users.Goals as goal

@@ -1,11 +1,9 @@
 -- `link_uses` meets its contract: the productions of the octets below k are linked.
-use Prim.Native.Nat.{ℕ, ◌+◌, ◌*◌, min, ◌≤◌}
-use mathlib.Core.Path.{◌≡◌, sym, ◌∙◌, subst, subst⁻¹}
-use native.Mathlib.Nat.{mul-le-mul_right}
+use Prim.Native.Nat.{ℕ, ◌+◌, ◌*◌, min}
+use mathlib.Core.Path.{◌≡◌, subst}
 use native.Mathlib.Omega.{arith}
 use lib.ListN.{length}
-use Rattle.layout.specs.Limits.{production_limit}
-use Rattle.links.proofs.LinkedLaws.{uses_none, uses_more}
+use Rattle.links.proofs.LinkedLaws.{uses_more}
 use Rattle.links.specs.Linked.{UsesTo}
 use Rattle.tables.specs.Layout.{octet_bits}
 use Rattle.links.proofs.link_uses.Goals as goal

@@ -1,8 +1,8 @@
 -- `link_uses` meets its contract: the productions of the octets below k are linked.
-use Prim.Native.Nat.{◌-◌, ◌*◌, min, ◌≤◌}
+use Prim.Native.Nat.{◌*◌, min}
 use lib.ListN.{length}
 use Rattle.links.specs.Linked.{UsesTo}
-use Rattle.tables.specs.Layout.{octet_bits, production_octets}
+use Rattle.tables.specs.Layout.{octet_bits}
 use Rattle.links.proofs.link_uses.Given as goal
 
 abbrev pub invariant-loop-k : goal.invariant-loop-k

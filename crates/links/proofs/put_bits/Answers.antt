@@ -5,7 +5,7 @@ use native.Mathlib.Omega.{arith}
 use lib.ListN.{length, get_or}
 use Rattle.charset.specs.Set.{bit}
 use Rattle.common.proofs.BelowLaws.{bit_test}
-use Rattle.common.proofs.RegionLaws.{region_none, region_more}
+use Rattle.common.proofs.RegionLaws.{region_more}
 use Rattle.common.specs.Region.{Region}
 use Rattle.links.proofs.put_bits.Invariants.{Entry}
 use Rattle.links.proofs.put_bits.Goals as goal

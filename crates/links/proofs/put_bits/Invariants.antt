@@ -1,8 +1,8 @@
 -- `put_bits` meets its contract: the bits of the octets below r are written.
-use Prim.Native.Nat.{ℕ, ◌-◌, ◌≤◌}
+use Prim.Native.Nat.{ℕ}
 use mathlib.Core.List.{List}
 use mathlib.Core.Path.{◌≡◌}
-use lib.ListN.{length, get_or}
+use lib.ListN.{get_or}
 use Rattle.charset.specs.Set.{bit}
 use Rattle.common.specs.Below.{bit_of}
 use Rattle.common.specs.Region.{Region}

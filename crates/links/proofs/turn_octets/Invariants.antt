@@ -1,5 +1,4 @@
 -- `turn_octets` meets its contract: the rows of the bits below b are written.
-use Prim.Native.Nat.{◌-◌, ◌≤◌}
 use Rattle.links.specs.Linked.{BitsTurned}
 use Rattle.links.proofs.turn_octets.Given as goal
 

@@ -1,9 +1,8 @@
 -- `used_octet` meets its contract: the arguments below d are joined.
 use Prim.Native.Nat.{ℕ, ◌+◌}
-use mathlib.Core.Path.{◌≡◌, sym, ap, subst}
-use native.Mathlib.Omega.{arith}
+use mathlib.Core.Path.{sym, ap, subst}
 use lib.Bits.{bit_or}
-use Rattle.links.proofs.LinkedLaws.{joined_none, joined_more}
+use Rattle.links.proofs.LinkedLaws.{joined_more}
 use Rattle.links.specs.Linked.{Joined}
 use Rattle.tables.specs.Layout.{slot}
 use Rattle.links.proofs.used_octet.Goals as goal

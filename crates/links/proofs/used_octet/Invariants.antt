@@ -1,5 +1,4 @@
 -- `used_octet` meets its contract: the arguments below d are joined.
-use Prim.Native.Nat.{◌-◌, ◌≤◌}
 use Rattle.links.specs.Linked.{Joined}
 use Rattle.links.proofs.used_octet.Given as goal
 

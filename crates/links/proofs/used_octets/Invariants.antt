@@ -1,6 +1,4 @@
 -- `used_octets` meets its contract: the entries of the productions below p are written.
-use Prim.Native.Nat.{◌-◌, ◌≤◌}
-use lib.ListN.{length}
 use Rattle.links.specs.Linked.{UsedOctets}
 use Rattle.links.proofs.used_octets.Given as goal
 
