@@ -7,28 +7,27 @@ ghost use Rattle.common.specs.Zeros.{AllZero};
 ghost use Rattle.chart.specs.Layout.{row_limit};
 ghost use Rattle.tables.specs.Layout.{arity_in, row_count};
 ghost use Rattle.tables.specs.Theory.{grammar_of};
-ghost use Rattle.span.specs.Tables.{Links, UsersAre};
+ghost use Rattle.span.specs.Tables.{UsersAre};
 ghost use Rattle.empty.specs.Empty.{EmptyRight};
 ghost use Rattle.empty.specs.Turns.{Begun, Followed};
 
 use chart::cells::ROW_LIMIT;
 use chart::sums::zero_row;
 use common::wide;
-use span::{settle, spread};
+use span::{LinkTables, settle, spread};
 
 // With no argument there is one list of trees, the empty one; a production without arguments has a tree by it.
-fn begin(counts: &[u8], rows: usize, users: &[u8], args: &mut [u8], cells: &mut [u8])
-    requires by_index { (uses : List ℕ) × Links counts.now users.now uses }
-    requires all_zero { AllZero row_limit args.old × AllZero row_limit cells.old × (rows ≡ row_count (arity_in counts.now) (length counts.now)) }
-    ensures { Begun counts.now users.now (length counts.now) args.new cells.new }
+fn begin(links: &LinkTables, args: &mut [u8], cells: &mut [u8])
+    requires { AllZero row_limit args.old × AllZero row_limit cells.old }
+    ensures { Begun links.now.counts.now links.now.users.now (length links.now.counts.now) args.new cells.new }
 {
     let mut base = 0;
-    for (p, count) in counts.iter().enumerate() {
+    for (p, count) in links.counts.iter().enumerate() {
         cells[base] = 1;
         spread(
             args,
-            &users[p * ROW_LIMIT..(p + 1) * ROW_LIMIT],
-            rows,
+            &links.users[p * ROW_LIMIT..(p + 1) * ROW_LIMIT],
+            links.rows,
             (*count == 0) as u8,
         );
         base += wide(*count) + 1;
@@ -47,24 +46,18 @@ fn follow(back: &mut [u8], args: &[u8]) -> bool
 
 // Settles the empty span. The tables hold zeros before.
 pub fn settle_empty(
-    counts: &[u8],
-    rows: usize,
-    users: &[u8],
-    uses: &[u8],
-    args: &mut [u8],
-    cells: &mut [u8],
+    links: &LinkTables, args: &mut [u8], cells: &mut [u8],
 )
-    requires links { Links counts.now users.now uses.now }
-    requires all_zero { AllZero row_limit args.old × AllZero row_limit cells.old × (rows ≡ row_count (arity_in counts.now) (length counts.now)) }
-    ensures { (chars subs : ℕ → ℕ → ℕ → Bool) → UsersAre counts.now users.now subs → EmptyRight (grammar_of counts.now chars subs) cells.new args.new }
+    requires { AllZero row_limit args.old × AllZero row_limit cells.old }
+    ensures { (chars subs : ℕ → ℕ → ℕ → Bool) → UsersAre links.now.counts.now links.now.users.now subs → EmptyRight (grammar_of links.now.counts.now chars subs) cells.new args.new }
 {
     let zeros = zero_row();
     let mut back = zero_row();
-    begin(counts, rows, users, args, cells);
+    begin(links, args, cells);
     let mut changed = follow(&mut back, args);
     while changed {
         settle(
-            counts, rows, users, uses, &zeros, &zeros, &back, args, cells,
+            links, &zeros, &zeros, &back, args, cells,
         );
         changed = follow(&mut back, args);
     }

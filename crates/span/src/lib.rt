@@ -18,6 +18,18 @@ use chart::sums::{capped, larger};
 use common::wide;
 use layout::limits::PRODUCTION_LIMIT;
 
+// The tables of a grammar: how many arguments each production has, how many rows there are, which rows take a production as their next argument, and
+// which productions have such a row.
+#[derive(Clone, Copy)]
+pub struct LinkTables<'a> {
+    pub counts: &'a [u8],
+    pub rows: usize,
+    pub users: &'a [u8],
+    pub uses: &'a [u8],
+    pub ghost linked: { Links counts.now users.now uses.now },
+    pub ghost all_rows: { rows ≡ row_count (arity_in counts.now) (length counts.now) },
+}
+
 // What the equation of a cell gives: the inner splits, the split at the start, and the split at the end.
 fn step(inner: u8, front: u8, argument: u8, prefix: u8, back: u8) -> u8
     ensures { result ≡ cap (inner + front * argument + prefix * back) }
@@ -77,10 +89,7 @@ fn mark(pending: &mut [u8], uses: &[u8])
 
 // Looks at production q, whose rows begin at `base`, if it is pending: true if its count rose.
 fn visit(
-    counts: &[u8],
-    rows: usize,
-    users: &[u8],
-    uses: &[u8],
+    links: &LinkTables,
     inner: &[u8],
     front: &[u8],
     back: &[u8],
@@ -90,42 +99,38 @@ fn visit(
     q: usize,
     base: usize,
 ) -> bool
-    requires links { Links counts.now users.now uses.now }
     requires loads { Loads inner.now front.now back.now args.old cells.old }
-    requires founded { Founded counts.now users.now inner.now front.now back.now args.old cells.old }
-    requires pending_len { (length pending.old ≡ production_limit) × (rows ≡ row_count (arity_in counts.now) (length counts.now)) }
-    requires q_in_bounds { (q < length counts.now) × (base ≡ row_of (arity_in counts.now) q 0) }
-    ensures { (bare : ℕ → ℕ) → Exact (span_of counts.now users.now inner.now front.now back.now bare) cells.old args.old → Visited (span_of counts.now users.now inner.now front.now back.now bare) q (q + 1) pending.old args.old cells.old pending.new args.new cells.new result }
+    requires founded { Founded links.now.counts.now links.now.users.now inner.now front.now back.now args.old cells.old }
+    requires pending_len { length pending.old ≡ production_limit }
+    requires q_in_bounds { (q < length links.now.counts.now) × (base ≡ row_of (arity_in links.now.counts.now) q 0) }
+    ensures { (bare : ℕ → ℕ) → Exact (span_of links.now.counts.now links.now.users.now inner.now front.now back.now bare) cells.old args.old → Visited (span_of links.now.counts.now links.now.users.now inner.now front.now back.now bare) q (q + 1) pending.old args.old cells.old pending.new args.new cells.new result }
 {
     if pending[q] == 0 {
         return false;
     }
     pending[q] = 0;
-    let whole = base + wide(counts[q]);
+    let whole = base + wide(links.counts[q]);
     let before = cells[whole];
-    advance(inner, front, back, args, cells, base, wide(counts[q]));
+    advance(inner, front, back, args, cells, base, wide(links.counts[q]));
     if cells[whole] == before {
         return false;
     }
     spread(
         args,
-        &users[q * ROW_LIMIT..(q + 1) * ROW_LIMIT],
-        rows,
+        &links.users[q * ROW_LIMIT..(q + 1) * ROW_LIMIT],
+        links.rows,
         cells[whole] - before,
     );
     mark(
         pending,
-        &uses[q * PRODUCTION_LIMIT..(q + 1) * PRODUCTION_LIMIT],
+        &links.uses[q * PRODUCTION_LIMIT..(q + 1) * PRODUCTION_LIMIT],
     );
     true
 }
 
 // Looks at every pending production once: true if a count rose.
 fn round(
-    counts: &[u8],
-    rows: usize,
-    users: &[u8],
-    uses: &[u8],
+    links: &LinkTables,
     inner: &[u8],
     front: &[u8],
     back: &[u8],
@@ -133,17 +138,16 @@ fn round(
     args: &mut [u8],
     cells: &mut [u8],
 ) -> bool
-    requires links { Links counts.now users.now uses.now }
     requires loads { Loads inner.now front.now back.now args.old cells.old }
-    requires founded { Founded counts.now users.now inner.now front.now back.now args.old cells.old }
-    requires pending_len { (length pending.old ≡ production_limit) × (rows ≡ row_count (arity_in counts.now) (length counts.now)) }
-    ensures { (bare : ℕ → ℕ) → Exact (span_of counts.now users.now inner.now front.now back.now bare) cells.old args.old → Visited (span_of counts.now users.now inner.now front.now back.now bare) 0 (length counts.now) pending.old args.old cells.old pending.new args.new cells.new result }
+    requires founded { Founded links.now.counts.now links.now.users.now inner.now front.now back.now args.old cells.old }
+    requires pending_len { length pending.old ≡ production_limit }
+    ensures { (bare : ℕ → ℕ) → Exact (span_of links.now.counts.now links.now.users.now inner.now front.now back.now bare) cells.old args.old → Visited (span_of links.now.counts.now links.now.users.now inner.now front.now back.now bare) 0 (length links.now.counts.now) pending.old args.old cells.old pending.new args.new cells.new result }
 {
     let mut rose = false;
     let mut base = 0;
-    for (q, count) in counts.iter().enumerate() {
+    for (q, count) in links.counts.iter().enumerate() {
         rose |= visit(
-            counts, rows, users, uses, inner, front, back, pending, args, cells, q, base,
+            links, inner, front, back, pending, args, cells, q, base,
         );
         base += wide(*count) + 1;
     }
@@ -152,30 +156,22 @@ fn round(
 
 // Raises the cells until each production is closed.
 pub fn settle(
-    counts: &[u8],
-    rows: usize,
-    users: &[u8],
-    uses: &[u8],
+    links: &LinkTables,
     inner: &[u8],
     front: &[u8],
     back: &[u8],
     args: &mut [u8],
     cells: &mut [u8],
 )
-    requires links { Links counts.now users.now uses.now }
     requires loads { Loads inner.now front.now back.now args.old cells.old }
-    requires founded { Founded counts.now users.now inner.now front.now back.now args.old cells.old }
-    requires rows_value { rows ≡ row_count (arity_in counts.now) (length counts.now) }
-    ensures { (bare : ℕ → ℕ) → Exact (span_of counts.now users.now inner.now front.now back.now bare) cells.old args.old → Settled (span_of counts.now users.now inner.now front.now back.now bare) cells.old args.new cells.new }
+    requires founded { Founded links.now.counts.now links.now.users.now inner.now front.now back.now args.old cells.old }
+    ensures { (bare : ℕ → ℕ) → Exact (span_of links.now.counts.now links.now.users.now inner.now front.now back.now bare) cells.old args.old → Settled (span_of links.now.counts.now links.now.users.now inner.now front.now back.now bare) cells.old args.new cells.new }
 {
     let mut pending = [1; PRODUCTION_LIMIT];
     let mut rose = true;
     while rose {
         rose = round(
-            counts,
-            rows,
-            users,
-            uses,
+            links,
             inner,
             front,
             back,

@@ -4,4 +4,4 @@ use Rattle.empty.specs.Turns.{first_row, Begun}
 use Rattle.empty.proofs.begin.Given as goal
 
 abbrev pub invariant-loop-p : goal.invariant-loop-p
-invariant-loop-p l = Begun l.counts l.users l.p l.args l.cells × (l.base ≡ first_row l.counts l.p)
+invariant-loop-p l = Begun l.links.counts.now l.links.users.now l.p l.args l.cells × (l.base ≡ first_row l.links.counts.now l.p)

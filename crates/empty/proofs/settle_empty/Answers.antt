@@ -11,7 +11,7 @@ settle-requires c = let start = c in
     let zero_row = c.zero_row-zeros in
     let p = start.requires in
     let t = c.loop-changed.invariant in
-    record { links = start.requires.links; loads = turning_loads t zero_row.ensures; founded = turning_founded t zero_row.result; rows_value = start.requires.all_zero.2 }
+    record { loads = turning_loads t zero_row.ensures; founded = turning_founded t zero_row.result }
 
 pub loop-changed-smaller : goal.loop-changed-smaller
 loop-changed-smaller c =
@@ -19,7 +19,7 @@ loop-changed-smaller c =
     let a = start.args in
     let h = c.loop-changed in
     let z = c.zero_row-zeros in
-    turning_less h.invariant start.requires.links z.ensures (c.settle.ensures (λ r. 0) (exact_held a.counts.now a.users.now z.result h.back h.invariant.agree)) c.args-in-loop-changed-1.given c.follow-changed-in-loop-changed.ensures c.loop-changed-test.true
+    turning_less h.invariant start.args.links.now.linked z.ensures (c.settle.ensures (λ r. 0) (exact_held a.links.now.counts.now a.links.now.users.now z.result h.back h.invariant.agree)) c.args-in-loop-changed-1.given c.follow-changed-in-loop-changed.ensures c.loop-changed-test.true
 
 pub loop-changed-preserved : goal.loop-changed-preserved
 loop-changed-preserved c =
@@ -28,7 +28,7 @@ loop-changed-preserved c =
     let h = c.loop-changed in
     let p = start.requires in
     let z = c.zero_row-zeros in
-    turning_next h.invariant start.requires.links z.ensures (c.settle.ensures (λ r. 0) (exact_held a.counts.now a.users.now z.result h.back h.invariant.agree)) c.args-in-loop-changed-1.given c.follow-changed-in-loop-changed.ensures
+    turning_next h.invariant start.args.links.now.linked z.ensures (c.settle.ensures (λ r. 0) (exact_held a.links.now.counts.now a.links.now.users.now z.result h.back h.invariant.agree)) c.args-in-loop-changed-1.given c.follow-changed-in-loop-changed.ensures
 
 pub returns : goal.returns
-returns c chars subs are = turning_last c.requires.links c.loop-changed.invariant c.loop-changed-test.false chars subs are
+returns c chars subs are = turning_last c.args.links.now.linked c.loop-changed.invariant c.loop-changed-test.false chars subs are

@@ -10,19 +10,19 @@ use Rattle.span.proofs.round.Goals as goal
 pub loop-q-init : goal.loop-q-init
 loop-q-init c =
     let p = c.requires in
-    (λ bare agree. visited_idle 0 0 c.requires.founded.small agree (λ k l m. absurd (omega arith)), refl, refl, refl, base_first (arity_in c.args.counts.now))
+    (λ bare agree. visited_idle 0 0 c.requires.founded.small agree (λ k l m. absurd (omega arith)), refl, refl, refl, base_first (arity_in c.args.links.now.counts.now))
 
 pub overflow_add-base : goal.overflow_add-base
 overflow_add-base c =
     let h = c.loop-q in
     let p = c.requires in
-    omega (arith, table_room h.q h.base c.requires.links c.requires.loads c.requires.founded (c.loop-q-test.true, h.invariant.4) c.wide.result c.wide.ensures)
+    omega (arith, table_room h.q h.base c.args.links.now.linked c.requires.loads c.requires.founded (c.loop-q-test.true, h.invariant.4) c.wide.result c.wide.ensures)
 
 pub overflow_add-base-in-loop-q : goal.overflow_add-base-in-loop-q
 overflow_add-base-in-loop-q c =
     let h = c.loop-q in
     let p = c.requires in
-    omega (arith, table_room h.q h.base c.requires.links c.requires.loads c.requires.founded (c.loop-q-test.true, h.invariant.4) c.wide.result c.wide.ensures)
+    omega (arith, table_room h.q h.base c.args.links.now.linked c.requires.loads c.requires.founded (c.loop-q-test.true, h.invariant.4) c.wide.result c.wide.ensures)
 
 pub loop-q-preserved : goal.loop-q-preserved
 loop-q-preserved c =
@@ -31,5 +31,5 @@ loop-q-preserved c =
       c.pending-1.given ∙ h.invariant.1,
       c.args-1.given ∙ h.invariant.2,
       c.cells-1.given ∙ h.invariant.3,
-      base_next (arity_in c.args.counts.now) h.q h.base c.wide.result h.invariant.4 c.wide.ensures,
+      base_next (arity_in c.args.links.now.counts.now) h.q h.base c.wide.result h.invariant.4 c.wide.ensures,
     )

@@ -9,8 +9,8 @@ use Rattle.span.proofs.round.Given as goal
 
 abbrev pub invariant-loop-q : goal.invariant-loop-q
 invariant-loop-q l =
-    ((bare : ℕ → ℕ) → Exact (span_of l.counts l.users l.inner l.front l.back bare) l.initial.cells l.initial.args → Visited (span_of l.counts l.users l.inner l.front l.back bare) 0 l.q l.initial.pending l.initial.args l.initial.cells l.pending l.args l.cells l.rose)
+    ((bare : ℕ → ℕ) → Exact (span_of l.links.counts.now l.links.users.now l.inner l.front l.back bare) l.initial.cells l.initial.args → Visited (span_of l.links.counts.now l.links.users.now l.inner l.front l.back bare) 0 l.q l.initial.pending l.initial.args l.initial.cells l.pending l.args l.cells l.rose)
     × (length l.pending ≡ length l.initial.pending)
     × (length l.args ≡ length l.initial.args)
     × (length l.cells ≡ length l.initial.cells)
-    × (l.base ≡ row_of (arity_in l.counts) l.q 0)
+    × (l.base ≡ row_of (arity_in l.links.counts.now) l.q 0)

@@ -9,7 +9,7 @@ pub loop-rose-init : goal.loop-rose-init
 unfolding span_of
 loop-rose-init c =
     let p = c.requires in
-    (λ bare agree. settling_first production_limit c.requires.links.few_productions c.requires.founded.small agree, refl, refl, refl)
+    (λ bare agree. settling_first production_limit c.args.links.now.linked.few_productions c.requires.founded.small agree, refl, refl, refl)
 
 pub loop-rose-smaller : goal.loop-rose-smaller
 loop-rose-smaller c =
@@ -17,7 +17,7 @@ loop-rose-smaller c =
     let h = c.loop-rose in
     let p = c.requires in
     let f = c.requires.founded in
-    settling_less a.counts.now a.users.now a.inner.now a.front.now a.back.now f.bare h.cells _ h.rose c.round-rose.result c.loop-rose-test.true (c.round-rose.ensures f.bare (h.invariant.0 f.bare f.agree).agree).less
+    settling_less a.links.now.counts.now a.links.now.users.now a.inner.now a.front.now a.back.now f.bare h.cells _ h.rose c.round-rose.result c.loop-rose-test.true (c.round-rose.ensures f.bare (h.invariant.0 f.bare f.agree).agree).less
 
 pub loop-rose-preserved : goal.loop-rose-preserved
 unfolding span_of
