@@ -10,7 +10,13 @@ use crate::cells::ROW_LIMIT;
 pub fn capped(n: usize) -> u8
     ensures { result ≡ cap n }
 {
-    n.min(2) as u8
+    if n == 0 {
+        return 0;
+    }
+    if n == 1 {
+        return 1;
+    }
+    2
 }
 
 // The same for a byte; the inner loop does many at a step.

@@ -45,9 +45,7 @@ fn follow(back: &mut [u8], args: &[u8]) -> bool
 }
 
 // Settles the empty span. The tables hold zeros before.
-pub fn settle_empty(
-    links: &LinkTables, args: &mut [u8], cells: &mut [u8],
-)
+pub fn settle_empty(links: &LinkTables, args: &mut [u8], cells: &mut [u8])
     requires { AllZero row_limit args.old × AllZero row_limit cells.old }
     ensures { (chars subs : ℕ → ℕ → ℕ → Bool) → UsersAre links.now.counts.now links.now.users.now subs → EmptyRight (grammar_of links.now.counts.now chars subs) cells.new args.new }
 {
@@ -56,9 +54,7 @@ pub fn settle_empty(
     begin(links, args, cells);
     let mut changed = follow(&mut back, args);
     while changed {
-        settle(
-            links, &zeros, &zeros, &back, args, cells,
-        );
+        settle(links, &zeros, &zeros, &back, args, cells);
         changed = follow(&mut back, args);
     }
 }

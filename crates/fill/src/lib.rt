@@ -18,7 +18,7 @@ use chart::cells::PLACES;
 use chart::sums::zero_row;
 use column::{SUMS, add_splits, bare_args, clear_column, store_cells, sums_at};
 use prepare::{BACK_AT, COUNTS_AT, EMPTY_AT, PREPARED, USES_AT};
-use span::settle;
+use span::{LinkTables, settle};
 use tables::{production_count, row_count};
 
 // No split lies inside the span, and it is no character: nothing spells it.
@@ -45,17 +45,13 @@ fn settle_by_links(
     ensures { SpanSettled tables.now prepared.now inner.now front.now back.now args.old cells.old args.new cells.new }
 {
     let count = production_count(tables);
-    settle(
-        &prepared[COUNTS_AT..COUNTS_AT + count],
-        row_count(tables),
-        &prepared[..USES_AT],
-        &prepared[USES_AT..COUNTS_AT],
-        inner,
-        front,
-        back,
-        args,
-        cells,
-    );
+    let links = LinkTables {
+        counts: &prepared[COUNTS_AT..COUNTS_AT + count],
+        rows: row_count(tables),
+        users: &prepared[..USES_AT],
+        uses: &prepared[USES_AT..COUNTS_AT],
+    };
+    settle(&links, inner, front, back, args, cells);
 }
 
 // Settles a span by all that is prepared.

@@ -15,6 +15,7 @@ use chart::sums::zero_row;
 use empty::settle_empty;
 use layout::limits::PRODUCTION_LIMIT;
 use links::{link_users, link_uses};
+use span::LinkTables;
 use tables::{argument_counts, production_count, row_count};
 
 // Where the parts stand, the users first.
@@ -81,12 +82,11 @@ fn settle_by_links(counts: &[u8], tables: &[u64], linked: &[u8], back: &mut [u8]
     requires all_zero { AllZero row_limit back.old × AllZero row_limit empty.old }
     ensures { EmptyRight (theory_of tables.now) empty.new back.new }
 {
-    settle_empty(
+    let links = LinkTables {
         counts,
-        row_count(tables),
-        &linked[..USES_AT],
-        &linked[USES_AT..COUNTS_AT],
-        back,
-        empty,
-    );
+        rows: row_count(tables),
+        users: &linked[..USES_AT],
+        uses: &linked[USES_AT..COUNTS_AT],
+    };
+    settle_empty(&links, back, empty);
 }

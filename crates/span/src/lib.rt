@@ -146,9 +146,7 @@ fn round(
     let mut rose = false;
     let mut base = 0;
     for (q, count) in links.counts.iter().enumerate() {
-        rose |= visit(
-            links, inner, front, back, pending, args, cells, q, base,
-        );
+        rose |= visit(links, inner, front, back, pending, args, cells, q, base);
         base += wide(*count) + 1;
     }
     rose
@@ -170,14 +168,6 @@ pub fn settle(
     let mut pending = [1; PRODUCTION_LIMIT];
     let mut rose = true;
     while rose {
-        rose = round(
-            links,
-            inner,
-            front,
-            back,
-            &mut pending,
-            args,
-            cells,
-        );
+        rose = round(links, inner, front, back, &mut pending, args, cells);
     }
 }
