@@ -6,7 +6,7 @@ ghost use Rattle.chart.specs.Layout.{row_limit};
 
 use crate::cells::ROW_LIMIT;
 
-// 0, 1, or 2 for more.
+// 0, 1, or 2 for more. With branches it takes less time than as a minimum: what is read next need not wait for a branch that is foreseen.
 pub fn capped(n: usize) -> u8
     ensures { result ≡ cap n }
 {

@@ -2,10 +2,9 @@
 // the next argument. The arguments are held fixed while the cells are settled, and taken up again until they stay.
 #![tactic(auto)]
 
-ghost use Rattle.std.specs.Prelude.{◌≡◌, Bool, List, ℕ, ◌≤◌, length, get_or};
+ghost use Rattle.std.specs.Prelude.{◌≡◌, Bool, ℕ, length};
 ghost use Rattle.common.specs.Zeros.{AllZero};
 ghost use Rattle.chart.specs.Layout.{row_limit};
-ghost use Rattle.tables.specs.Layout.{arity_in, row_count};
 ghost use Rattle.tables.specs.Theory.{grammar_of};
 ghost use Rattle.span.specs.Tables.{UsersAre};
 ghost use Rattle.empty.specs.Empty.{EmptyRight};
