@@ -1,11 +1,10 @@
 -- The sums of a column, row by row: nothing done, and one row more.
 use Prim.Native.Nat.{ℕ, ◌+◌, ◌*◌, max, ◌≤◌, ◌<◌}
-use mathlib.Core.Path.{◌≡◌, refl, sym, ◌∙◌, ap}
+use mathlib.Core.Path.{◌≡◌, sym, ◌∙◌, ap}
 use mathlib.Core.List.{List}
 use mathlib.Core.Logic.{by_cases}
 use native.Mathlib.Omega.{arith}
 use native.Mathlib.Decide.{ℕ_discrete, dec_lt}
-use native.Mathlib.Nat.{mul-zero}
 use lib.ListN.{get_or}
 use Rattle.chart.specs.Layout.{places, entry_at}
 use Rattle.chart.proofs.ByEndsLaws.{place_next, row_before}
