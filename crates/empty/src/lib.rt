@@ -13,7 +13,7 @@ ghost use Rattle.empty.specs.Turns.{Begun, Followed};
 use chart::cells::ROW_LIMIT;
 use chart::sums::zero_row;
 use common::wide;
-use span::{Known, LinkTables, settle, spread};
+use span::{LinkTables, settle, spread};
 
 // With no argument there is one list of trees, the empty one; a production without arguments has a tree by it.
 fn begin(links: &LinkTables, args: &mut [u8], cells: &mut [u8])
@@ -53,12 +53,7 @@ pub fn settle_empty(links: &LinkTables, args: &mut [u8], cells: &mut [u8])
     begin(links, args, cells);
     let mut changed = follow(&mut back, args);
     while changed {
-        let known = Known {
-            inner: &zeros,
-            front: &zeros,
-            back: &back,
-        };
-        settle(links, &known, args, cells);
+        settle(links, &zeros, &zeros, &back, args, cells);
         changed = follow(&mut back, args);
     }
 }

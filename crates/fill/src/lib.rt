@@ -18,7 +18,7 @@ use chart::cells::PLACES;
 use chart::sums::zero_row;
 use column::{SUMS, add_splits, bare_args, clear_column, store_cells, sums_at};
 use prepare::{BACK_AT, COUNTS_AT, EMPTY_AT, PREPARED, USES_AT};
-use span::{Known, LinkTables, settle};
+use span::{LinkTables, settle};
 use tables::{production_count, row_count};
 
 // No split lies inside the span, and it is no character: nothing spells it.
@@ -29,18 +29,20 @@ fn is_dead(live: &[u8], i: usize, j: usize) -> bool
     i + 1 != j && live[i] == 0
 }
 
-// Settles a span, whose inner splits are summed up, by the prepared links.
+// Settles a span, whose inner splits are summed up, by the prepared links and an empty span's cells and arguments, front and back.
 fn settle_by_links(
     tables: &[u64],
     prepared: &[u8],
-    known: &Known,
+    inner: &[u8],
+    front: &[u8],
+    back: &[u8],
     args: &mut [u8],
     cells: &mut [u8],
 )
     requires parser_tables { ParserTables tables.now × Prepared tables.now prepared.now }
-    requires loads { Loads known.now.inner.now known.now.front.now known.now.back.now args.old cells.old × AllZero row_limit cells.old }
+    requires loads { Loads inner.now front.now back.now args.old cells.old × AllZero row_limit cells.old }
     requires by_index { (r : ℕ) → get_or args.old r 0 ≤ 1 }
-    ensures { SpanSettled tables.now prepared.now known.now.inner.now known.now.front.now known.now.back.now args.old cells.old args.new cells.new }
+    ensures { SpanSettled tables.now prepared.now inner.now front.now back.now args.old cells.old args.new cells.new }
 {
     let count = production_count(tables);
     let links = LinkTables {
@@ -49,7 +51,7 @@ fn settle_by_links(
         users: &prepared[..USES_AT],
         uses: &prepared[USES_AT..COUNTS_AT],
     };
-    settle(&links, known, args, cells);
+    settle(&links, inner, front, back, args, cells);
 }
 
 // Settles a span by all that is prepared.
@@ -59,12 +61,15 @@ fn settle_span(tables: &[u64], prepared: &[u8], inner: &[u8], args: &mut [u8], c
     requires by_index { (r : ℕ) → get_or args.old r 0 ≤ 1 }
     ensures { SpanSettled tables.now prepared.now inner.now (empty_in prepared.now) (back_in prepared.now) args.old cells.old args.new cells.new }
 {
-    let known = Known {
+    settle_by_links(
+        tables,
+        prepared,
         inner,
-        front: &prepared[EMPTY_AT..BACK_AT],
-        back: &prepared[BACK_AT..PREPARED],
-    };
-    settle_by_links(tables, prepared, &known, args, cells);
+        &prepared[EMPTY_AT..BACK_AT],
+        &prepared[BACK_AT..PREPARED],
+        args,
+        cells,
+    );
 }
 
 // Writes for each row, over zeros, 1 if the text from i to j is a character that may stand as its next argument.

@@ -30,15 +30,6 @@ pub struct LinkTables<'a> {
     pub ghost all_rows: { rows ≡ row_count (arity_in counts.now) (length counts.now) },
 }
 
-// What is known of the spans inside a span, for each row: the splits within (inner), the cells of the empty span at its start (front), and the arguments of
-// the empty span at its end (back).
-#[derive(Clone, Copy)]
-pub struct Known<'a> {
-    pub inner: &'a [u8],
-    pub front: &'a [u8],
-    pub back: &'a [u8],
-}
-
 // What the equation of a cell gives: the inner splits, the split at the start, and the split at the end.
 fn step(inner: u8, front: u8, argument: u8, prefix: u8, back: u8) -> u8
     ensures { result ≡ cap (inner + front * argument + prefix * back) }
@@ -47,20 +38,28 @@ fn step(inner: u8, front: u8, argument: u8, prefix: u8, back: u8) -> u8
 }
 
 // Raises the cells of one production, argument by argument.
-fn advance(known: &Known, args: &[u8], cells: &mut [u8], base: usize, arity: usize)
-    requires loads { Loads known.now.inner.now known.now.front.now known.now.back.now args.now cells.old }
+fn advance(
+    inner: &[u8],
+    front: &[u8],
+    back: &[u8],
+    args: &[u8],
+    cells: &mut [u8],
+    base: usize,
+    arity: usize,
+)
+    requires loads { Loads inner.now front.now back.now args.now cells.old }
     requires arity_bound { base + arity < row_limit }
-    ensures { cells.new ≡ advanced known.now.inner.now known.now.front.now known.now.back.now args.now base arity cells.old }
+    ensures { cells.new ≡ advanced inner.now front.now back.now args.now base arity cells.old }
 {
     for d in 0..arity {
         cells[base + d + 1] = larger(
             cells[base + d + 1],
             step(
-                known.inner[base + d],
-                known.front[base + d],
+                inner[base + d],
+                front[base + d],
                 args[base + d],
                 cells[base + d],
-                known.back[base + d],
+                back[base + d],
             ),
         );
     }
@@ -91,18 +90,20 @@ fn mark(pending: &mut [u8], uses: &[u8])
 // Looks at production q, whose rows begin at `base`, if it is pending: true if its count rose.
 fn visit(
     links: &LinkTables,
-    known: &Known,
+    inner: &[u8],
+    front: &[u8],
+    back: &[u8],
     pending: &mut [u8],
     args: &mut [u8],
     cells: &mut [u8],
     q: usize,
     base: usize,
 ) -> bool
-    requires loads { Loads known.now.inner.now known.now.front.now known.now.back.now args.old cells.old }
-    requires founded { Founded links.now.counts.now links.now.users.now known.now.inner.now known.now.front.now known.now.back.now args.old cells.old }
+    requires loads { Loads inner.now front.now back.now args.old cells.old }
+    requires founded { Founded links.now.counts.now links.now.users.now inner.now front.now back.now args.old cells.old }
     requires pending_len { length pending.old ≡ production_limit }
     requires q_in_bounds { (q < length links.now.counts.now) × (base ≡ row_of (arity_in links.now.counts.now) q 0) }
-    ensures { (bare : ℕ → ℕ) → Exact (span_of links.now.counts.now links.now.users.now known.now.inner.now known.now.front.now known.now.back.now bare) cells.old args.old → Visited (span_of links.now.counts.now links.now.users.now known.now.inner.now known.now.front.now known.now.back.now bare) q (q + 1) pending.old args.old cells.old pending.new args.new cells.new result }
+    ensures { (bare : ℕ → ℕ) → Exact (span_of links.now.counts.now links.now.users.now inner.now front.now back.now bare) cells.old args.old → Visited (span_of links.now.counts.now links.now.users.now inner.now front.now back.now bare) q (q + 1) pending.old args.old cells.old pending.new args.new cells.new result }
 {
     if pending[q] == 0 {
         return false;
@@ -110,7 +111,7 @@ fn visit(
     pending[q] = 0;
     let whole = base + wide(links.counts[q]);
     let before = cells[whole];
-    advance(known, args, cells, base, wide(links.counts[q]));
+    advance(inner, front, back, args, cells, base, wide(links.counts[q]));
     if cells[whole] == before {
         return false;
     }
@@ -130,34 +131,43 @@ fn visit(
 // Looks at every pending production once: true if a count rose.
 fn round(
     links: &LinkTables,
-    known: &Known,
+    inner: &[u8],
+    front: &[u8],
+    back: &[u8],
     pending: &mut [u8],
     args: &mut [u8],
     cells: &mut [u8],
 ) -> bool
-    requires loads { Loads known.now.inner.now known.now.front.now known.now.back.now args.old cells.old }
-    requires founded { Founded links.now.counts.now links.now.users.now known.now.inner.now known.now.front.now known.now.back.now args.old cells.old }
+    requires loads { Loads inner.now front.now back.now args.old cells.old }
+    requires founded { Founded links.now.counts.now links.now.users.now inner.now front.now back.now args.old cells.old }
     requires pending_len { length pending.old ≡ production_limit }
-    ensures { (bare : ℕ → ℕ) → Exact (span_of links.now.counts.now links.now.users.now known.now.inner.now known.now.front.now known.now.back.now bare) cells.old args.old → Visited (span_of links.now.counts.now links.now.users.now known.now.inner.now known.now.front.now known.now.back.now bare) 0 (length links.now.counts.now) pending.old args.old cells.old pending.new args.new cells.new result }
+    ensures { (bare : ℕ → ℕ) → Exact (span_of links.now.counts.now links.now.users.now inner.now front.now back.now bare) cells.old args.old → Visited (span_of links.now.counts.now links.now.users.now inner.now front.now back.now bare) 0 (length links.now.counts.now) pending.old args.old cells.old pending.new args.new cells.new result }
 {
     let mut rose = false;
     let mut base = 0;
     for (q, count) in links.counts.iter().enumerate() {
-        rose |= visit(links, known, pending, args, cells, q, base);
+        rose |= visit(links, inner, front, back, pending, args, cells, q, base);
         base += wide(*count) + 1;
     }
     rose
 }
 
 // Raises the cells until each production is closed.
-pub fn settle(links: &LinkTables, known: &Known, args: &mut [u8], cells: &mut [u8])
-    requires loads { Loads known.now.inner.now known.now.front.now known.now.back.now args.old cells.old }
-    requires founded { Founded links.now.counts.now links.now.users.now known.now.inner.now known.now.front.now known.now.back.now args.old cells.old }
-    ensures { (bare : ℕ → ℕ) → Exact (span_of links.now.counts.now links.now.users.now known.now.inner.now known.now.front.now known.now.back.now bare) cells.old args.old → Settled (span_of links.now.counts.now links.now.users.now known.now.inner.now known.now.front.now known.now.back.now bare) cells.old args.new cells.new }
+pub fn settle(
+    links: &LinkTables,
+    inner: &[u8],
+    front: &[u8],
+    back: &[u8],
+    args: &mut [u8],
+    cells: &mut [u8],
+)
+    requires loads { Loads inner.now front.now back.now args.old cells.old }
+    requires founded { Founded links.now.counts.now links.now.users.now inner.now front.now back.now args.old cells.old }
+    ensures { (bare : ℕ → ℕ) → Exact (span_of links.now.counts.now links.now.users.now inner.now front.now back.now bare) cells.old args.old → Settled (span_of links.now.counts.now links.now.users.now inner.now front.now back.now bare) cells.old args.new cells.new }
 {
     let mut pending = [1; PRODUCTION_LIMIT];
     let mut rose = true;
     while rose {
-        rose = round(links, known, &mut pending, args, cells);
+        rose = round(links, inner, front, back, &mut pending, args, cells);
     }
 }

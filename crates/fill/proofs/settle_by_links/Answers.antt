@@ -19,7 +19,7 @@ invariant_of-links c =
 pub settle-requires : goal.settle-requires
 settle-requires c =
     let a = c.args in
-    record { loads = c.requires.loads.0; founded = zero_founded (counts_in c.production_count-count.result a.prepared.now) (users_in a.prepared.now) a.known.now.inner.now a.known.now.front.now a.known.now.back.now a.args.now a.cells.now c.requires.by_index c.requires.loads.1 }
+    record { loads = c.requires.loads.0; founded = zero_founded (counts_in c.production_count-count.result a.prepared.now) (users_in a.prepared.now) a.inner.now a.front.now a.back.now a.args.now a.cells.now c.requires.by_index c.requires.loads.1 }
 
 pub returns : goal.returns
 returns c =
@@ -29,5 +29,5 @@ returns c =
     let b = start.args.prepared.now in
     let n = production-count.result in
     let same = counts_read start.args.tables.now b n production-count.ensures start.requires.parser_tables.1 in
-    let exact = zero_exact (counts_in n b) (users_in b) start.args.known.now.inner.now start.args.known.now.front.now start.args.known.now.back.now start.args.args.now start.args.cells.now start.requires.loads.1 in
-    record { settled = subst (λ (l : List ℕ). Settled (span_of l (users_in b) start.args.known.now.inner.now start.args.known.now.front.now start.args.known.now.back.now (λ k. get_or start.args.args.now k 0)) start.args.cells.now settle.new.args settle.new.cells) same (settle.ensures (λ k. get_or start.args.args.now k 0) exact) }
+    let exact = zero_exact (counts_in n b) (users_in b) start.args.inner.now start.args.front.now start.args.back.now start.args.args.now start.args.cells.now start.requires.loads.1 in
+    record { settled = subst (λ (l : List ℕ). Settled (span_of l (users_in b) start.args.inner.now start.args.front.now start.args.back.now (λ k. get_or start.args.args.now k 0)) start.args.cells.now settle.new.args settle.new.cells) same (settle.ensures (λ k. get_or start.args.args.now k 0) exact) }

@@ -5,8 +5,8 @@ use Rattle.prepare.proofs.PreparedLaws.{part_long}
 use Rattle.prepare.specs.Prepared.{empty_at, back_at, prepared_bytes}
 use Rattle.fill.proofs.settle_span.Goals as goal
 
-pub slice_bounds-known-end-2 : goal.slice_bounds-known-end-2
-slice_bounds-known-end-2 c = omega (arith, c.requires.parser_tables.1.linked.long)
+pub slice_bounds-settle_by_links-end-2 : goal.slice_bounds-settle_by_links-end-2
+slice_bounds-settle_by_links-end-2 c = omega (arith, c.requires.parser_tables.1.linked.long)
 
 pub settle_by_links-requires : goal.settle_by_links-requires
 settle_by_links-requires c = let start = c in

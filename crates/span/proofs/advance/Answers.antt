@@ -12,4 +12,4 @@ unfolding advanced
 loop-d-init c = (refl, omega arith)
 
 pub loop-d-preserved : goal.loop-d-preserved
-loop-d-preserved c = (advanced_next c.args.known.now.inner.now c.args.known.now.front.now c.args.known.now.back.now c.args.args.now c.args.base c.loop-d.d c.args.cells.now c.loop-d.cells c.larger.result c.step.result c.loop-d.invariant.0 c.step.ensures c.larger.ensures, length-set c.loop-d.cells (c.args.base + c.loop-d.d + 1) c.larger.result ∙ c.loop-d.invariant.1)
+loop-d-preserved c = (advanced_next c.args.inner.now c.args.front.now c.args.back.now c.args.args.now c.args.base c.loop-d.d c.args.cells.now c.loop-d.cells c.larger.result c.step.result c.loop-d.invariant.0 c.step.ensures c.larger.ensures, length-set c.loop-d.cells (c.args.base + c.loop-d.d + 1) c.larger.result ∙ c.loop-d.invariant.1)

@@ -6,4 +6,4 @@ use Rattle.span.specs.Tables.{advanced}
 use Rattle.span.proofs.advance.Given as goal
 
 abbrev pub invariant-loop-d : goal.invariant-loop-d
-invariant-loop-d l = (l.cells ≡ advanced l.known.inner.now l.known.front.now l.known.back.now l.args l.base l.d l.initial.cells) × (length l.cells ≡ row_limit)
+invariant-loop-d l = (l.cells ≡ advanced l.inner l.front l.back l.args l.base l.d l.initial.cells) × (length l.cells ≡ row_limit)

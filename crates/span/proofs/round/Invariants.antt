@@ -9,7 +9,7 @@ use Rattle.span.proofs.round.Given as goal
 
 abbrev pub invariant-loop-q : goal.invariant-loop-q
 invariant-loop-q l =
-    ((bare : ℕ → ℕ) → Exact (span_of l.links.counts.now l.links.users.now l.known.inner.now l.known.front.now l.known.back.now bare) l.initial.cells l.initial.args → Visited (span_of l.links.counts.now l.links.users.now l.known.inner.now l.known.front.now l.known.back.now bare) 0 l.q l.initial.pending l.initial.args l.initial.cells l.pending l.args l.cells l.rose)
+    ((bare : ℕ → ℕ) → Exact (span_of l.links.counts.now l.links.users.now l.inner l.front l.back bare) l.initial.cells l.initial.args → Visited (span_of l.links.counts.now l.links.users.now l.inner l.front l.back bare) 0 l.q l.initial.pending l.initial.args l.initial.cells l.pending l.args l.cells l.rose)
     × (length l.pending ≡ length l.initial.pending)
     × (length l.args ≡ length l.initial.args)
     × (length l.cells ≡ length l.initial.cells)

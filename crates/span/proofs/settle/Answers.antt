@@ -17,7 +17,7 @@ loop-rose-smaller c =
     let h = c.loop-rose in
     let p = c.requires in
     let f = c.requires.founded in
-    settling_less a.links.now.counts.now a.links.now.users.now a.known.now.inner.now a.known.now.front.now a.known.now.back.now f.bare h.cells _ h.rose c.round-rose.result c.loop-rose-test.true (c.round-rose.ensures f.bare (h.invariant.0 f.bare f.agree).agree).less
+    settling_less a.links.now.counts.now a.links.now.users.now a.inner.now a.front.now a.back.now f.bare h.cells _ h.rose c.round-rose.result c.loop-rose-test.true (c.round-rose.ensures f.bare (h.invariant.0 f.bare f.agree).agree).less
 
 pub loop-rose-preserved : goal.loop-rose-preserved
 unfolding span_of
