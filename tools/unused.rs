@@ -8,7 +8,7 @@
 // A file is read word by word and not parsed. A word is no use of an imported name where it is a field (`.name`, or `name =` behind `{` or `;`), or where a
 // variable of that name is bound in the same declaration: by `λ name.`, `(name : ..)`, `let name`, or on a clause's left side, where only constructors are
 // told from variables, and those by the module that declares them: a name from outside crates/ counts as a constructor. What `ghost use` imports is used in
-// contracts only, between the braces of `requires` and `ensures`.
+// contracts only, between the braces of `requires`, of `ensures` and of a ghost field.
 use std::collections::{HashMap, HashSet};
 use std::path::{Path, PathBuf};
 use std::{env, fs, process};
@@ -139,6 +139,7 @@ fn code_and_ghost(text: &str) -> (String, String) {
     let (ghost_imports, code) = split(text, parts(text, "ghost use", through_semicolon));
     let mut contracts = parts(&code, "requires", through_braces);
     contracts.extend(parts(&code, "ensures", through_braces));
+    contracts.extend(parts(&code, "ghost", through_braces));
     let (contracts, _) = split(&code, contracts);
     let ghost = ghost_imports.replace("ghost use", "use      ").replace(';', " ");
     (code, ghost.lines().zip(contracts.lines()).map(|(a, b)| if b.trim().is_empty() { format!("{}\n", a.trim()) } else { format!("{}\n", b) }).collect())

@@ -1,6 +1,6 @@
 -- Turning the chart, start by start and row by row: nothing done, and one more.
 use Prim.Native.Nat.{ℕ, ◌+◌, ◌-◌, ◌*◌, ◌≤◌, ◌<◌}
-use mathlib.Core.Path.{◌≡◌, refl, sym, ◌∙◌, ap, subst, subst₂}
+use mathlib.Core.Path.{◌≡◌, refl, sym, ◌∙◌, ap, subst₂}
 use mathlib.Core.List.{List}
 use native.Mathlib.Omega.{arith}
 use native.Mathlib.Decide.{ℕ_discrete}
@@ -8,7 +8,7 @@ use lib.ListN.{length, get_or, set}
 use Rattle.chart.proofs.LayoutLaws.{cell_in, cell_below, cell_next, cell_same}
 use Rattle.chart.specs.Layout.{span_count, cell_at, entry_at}
 use Rattle.chart.proofs.ByEndsLaws.{column_in, place_in, place_of_row}
-use Rattle.common.proofs.RegionLaws.{region_others, front_inside, region_none, region_more}
+use Rattle.common.proofs.RegionLaws.{region_others, front_inside, region_more}
 use Rattle.chart.specs.ByEnds.{column_at, place_at, RowTurned, Turned}
 use Rattle.common.specs.Region.{Region}
 
@@ -23,12 +23,6 @@ abbrev pub EndsTurned : (n row i j : ℕ) (cells l₀ l : List ℕ) → Type 0
 EndsTurned n row i j cells l₀ l = Region (ReadFrom cells i) 0 (cell_at n row i i) (j - i) l₀ l
 
 module _ (n row i : ℕ) (cells l₀ : List ℕ) where
-  pub ends_none : EndsTurned n row i i cells l₀ l₀
-  ends_none =
-      let e : 0 ≡ i - i = omega arith in
-      subst (λ (k : ℕ). Region (ReadFrom cells i) 0 (cell_at n row i i) k l₀ l₀) e
-      (region_none (ReadFrom cells i) 0 (cell_at n row i i) l₀)
-
   pub ends_more : (j at : ℕ) (l l' : List ℕ) → i ≤ j → j ≤ n → (row + 1) * span_count n ≤ length l₀ → at ≡ column_at j → l' ≡ set l (cell_at n row i j) (get_or cells (at + i) 0)
       → EndsTurned n row i j cells l₀ l → EndsTurned n row i (j + 1) cells l₀ l'
   ends_more j at l l' h o room e d s =
@@ -54,12 +48,6 @@ pub record StartsTurned (n row i : ℕ) (l₀ l : List ℕ) : Type 0 where
   pub above : (k : ℕ) → (row + 1) * span_count n ≤ k → get_or l k 0 ≡ get_or l₀ k 0
 
 module _ (n row : ℕ) (l₀ : List ℕ) where
-  pub starts_none : StartsTurned n row 0 l₀ l₀
-  starts_none = record { long = refl; cells = λ k j h. absurd (omega arith); below = λ k h. refl; above = λ k h. refl }
-
-  pub starts_all : (l : List ℕ) → StartsTurned n row (n + 1) l₀ l → RowTurned n row l₀ l
-  starts_all l s = record { long = s.long; cells = λ i j h o. s.cells i j (omega arith) h o; below = s.below; above = s.above }
-
   -- one start more, read from a copy of the row
   module _ (i : ℕ) (copy l l' : List ℕ) (within : i ≤ n) (copied : (k : ℕ) → k < span_count n → get_or copy k 0 ≡ get_or l₀ (row * span_count n + k) 0)
       (s : StartsTurned n row i l₀ l) (w : EndsTurned n row i (n + 1) copy l l') where

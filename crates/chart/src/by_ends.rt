@@ -41,11 +41,7 @@ pub fn clear(bytes: &mut [u8], at: usize, count: usize)
     requires { at + count ≤ length bytes.old }
     ensures { Region (λ (k : ℕ) (v : ℕ). v ≡ 0) 0 at count bytes.old bytes.new }
 {
-    let mut k = 0;
-    while k < count {
-        bytes[at + k] = 0;
-        k += 1;
-    }
+    bytes[at..at + count].fill(0);
 }
 
 // Zeros for the cells of a row that end at j and start before it.
@@ -76,12 +72,10 @@ pub fn add_row(
     ensures region_2 { Region (λ (k : ℕ) (v : ℕ). v ≡ max (get_or live.old k 0) (cap (get_or sums.old (at + k) 0 + entry_at chart.now (place_at n row k m) * argument))) 0 0 m live.old live.new }
 {
     let from = place_at(n, row, 0, m);
-    let mut k = 0;
-    while k < m {
+    for k in 0..m {
         let sum = capped_byte(sums[at + k] + chart[from + k] * argument);
         sums[at + k] = sum;
         live[k] = larger(live[k], sum);
-        k += 1;
     }
 }
 
@@ -90,11 +84,7 @@ fn copy(bytes: &[u8], at: usize, count: usize, out: &mut [u8])
     requires { (at + count ≤ length bytes.now) × (count ≤ length out.old) }
     ensures { Region (λ (k : ℕ) (v : ℕ). v ≡ get_or bytes.now (at + k) 0) 0 0 count out.old out.new }
 {
-    let mut k = 0;
-    while k < count {
-        out[k] = bytes[at + k];
-        k += 1;
-    }
+    out[..count].copy_from_slice(&bytes[at..at + count]);
 }
 
 // Writes the cells of a row that start at i where the chart has them, from a copy of the row by ends.
@@ -103,10 +93,8 @@ fn turn_start(chart: &mut [u8], n: usize, row: usize, i: usize, cells: &[u8])
     requires n_in_bounds { ((row + 1) * span_count n ≤ length chart.old) × (span_count n ≤ length cells.now) }
     ensures { Region (λ (k : ℕ) (v : ℕ). v ≡ get_or cells.now (column_at (i + k) + i) 0) 0 (cell_at n row i i) (n + 1 - i) chart.old chart.new }
 {
-    let mut j = i;
-    while j <= n {
+    for j in i..n + 1 {
         put(chart, n, row, i, j, cells[column_at(j) + i]);
-        j += 1;
     }
 }
 
@@ -118,10 +106,8 @@ fn turn_row(chart: &mut [u8], n: usize, row: usize, cells: &mut [u8])
     ensures region { Region (λ (k : ℕ) (v : ℕ). v ≡ get_or chart.old (row * span_count n + k) 0) 0 0 (span_count n) cells.old cells.new }
 {
     copy(chart, row * span_count(n), span_count(n), cells);
-    let mut i = 0;
-    while i <= n {
+    for i in 0..n + 1 {
         turn_start(chart, n, row, i, cells);
-        i += 1;
     }
 }
 
@@ -132,9 +118,7 @@ pub fn turn_rows(chart: &mut [u8], n: usize, rows: usize)
     ensures { Turned n rows chart.old chart.new }
 {
     let mut cells = [0; SPANS];
-    let mut r = 0;
-    while r < rows {
+    for r in 0..rows {
         turn_row(chart, n, r, &mut cells);
-        r += 1;
     }
 }

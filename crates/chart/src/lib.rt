@@ -3,4 +3,5 @@
 
 pub mod by_ends;
 pub mod cells;
+pub mod rows;
 pub mod sums;

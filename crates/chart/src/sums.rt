@@ -6,7 +6,7 @@ ghost use Rattle.chart.specs.Layout.{row_limit};
 
 use crate::cells::ROW_LIMIT;
 
-// 0, 1, or 2 for more.
+// 0, 1, or 2 for more. With branches it takes less time than as a minimum: what is read next need not wait for a branch that is foreseen.
 pub fn capped(n: usize) -> u8
     ensures { result ≡ cap n }
 {
@@ -23,20 +23,14 @@ pub fn capped(n: usize) -> u8
 pub fn capped_byte(x: u8) -> u8
     ensures { result ≡ cap x }
 {
-    if x < 2 {
-        return x;
-    }
-    2
+    x.min(2)
 }
 
 // The larger of two bytes.
 pub fn larger(a: u8, b: u8) -> u8
     ensures { result ≡ max a b }
 {
-    if a < b {
-        return b;
-    }
-    a
+    a.max(b)
 }
 
 // A zero for each row.

@@ -1,6 +1,6 @@
 -- Laws of scattered writes.
 use Prim.Native.Nat.{ℕ, ◌+◌, ◌<◌}
-use mathlib.Core.Path.{◌≡◌, refl, ◌∙◌, subst⁻¹}
+use mathlib.Core.Path.{◌≡◌, ◌∙◌, subst⁻¹}
 use mathlib.Core.List.{List}
 use mathlib.Core.Logic.{by_cases}
 use native.Mathlib.Omega.{arith}
@@ -10,9 +10,6 @@ use lib.Seq.{get_or-set_same, get_or-set_other}
 use Rattle.column.specs.Scattered.{Scattered}
 
 module _ (at v : ℕ → ℕ) (l₀ : List ℕ) where
-  pub scattered_none : Scattered at v 0 l₀ l₀
-  scattered_none = record { long = refl; here = λ k l. absurd (omega arith); others = λ x h. refl }
-
   -- one place more, apart from those before it
   pub scattered_more : (n : ℕ) (l : List ℕ) → ((k : ℕ) → k < n → at k ≡ at n → ⊥) → at n < length l₀ → Scattered at v n l₀ l → Scattered at v (n + 1) l₀ (set l (at n) (v n))
   scattered_more n l apart inside s =

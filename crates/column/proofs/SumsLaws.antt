@@ -1,11 +1,10 @@
 -- The sums of a column, row by row: nothing done, and one row more.
 use Prim.Native.Nat.{ℕ, ◌+◌, ◌*◌, max, ◌≤◌, ◌<◌}
-use mathlib.Core.Path.{◌≡◌, refl, sym, ◌∙◌, ap}
+use mathlib.Core.Path.{◌≡◌, sym, ◌∙◌, ap}
 use mathlib.Core.List.{List}
 use mathlib.Core.Logic.{by_cases}
 use native.Mathlib.Omega.{arith}
 use native.Mathlib.Decide.{ℕ_discrete, dec_lt}
-use native.Mathlib.Nat.{mul-zero}
 use lib.ListN.{get_or}
 use Rattle.chart.specs.Layout.{places, entry_at}
 use Rattle.chart.proofs.ByEndsLaws.{place_next, row_before}
@@ -18,9 +17,6 @@ use Rattle.theory.specs.Steps.{cap}
 -- ---- zeros
 
 module _ (n j : ℕ) (l₀ : List ℕ) where
-  pub cleared_none : ColumnCleared n 0 j l₀ l₀
-  cleared_none = record { long = refl; zeros = λ r i h. absurd (omega arith); others = λ k apart. refl }
-
   pub cleared_more : (r : ℕ) (l l' : List ℕ) → j ≤ n → ColumnCleared n r j l₀ l → Region (λ (k v : ℕ). v ≡ 0) 0 (place_at n r 0 j) j l l' → ColumnCleared n (r + 1) j l₀ l'
   unfolding entry_at
   cleared_more r l l' within s w =
@@ -39,21 +35,6 @@ module _ (n j : ℕ) (l₀ : List ℕ) where
 -- ---- one row
 
 module _ (n row m arg : ℕ) (chart sums live : List ℕ) where
-  -- nothing to add if nothing may stand behind the cells
-  pub row_none : arg ≡ 0 → ((i : ℕ) → i < m → get_or sums (row * places + i) 0 ≤ 2) → RowAdded n row m arg chart sums live sums live
-  row_none e small =
-      record {
-        sums_long = refl;
-        live_long = refl;
-        added = λ i o. omega (arith, nothing i, small i o);
-        others = λ k apart. refl;
-        kept = λ i h. h;
-        quiet = λ i o h z. z;
-      }
-    where
-      nothing : (i : ℕ) → entry_at chart (place_at n row i m) * cap arg ≡ 0
-      nothing i = ap (λ (x : ℕ). entry_at chart (place_at n row i m) * cap x) e ∙ mul-zero (entry_at chart (place_at n row i m))
-
   -- the new sum of start k, if v is what may stand behind its cell
   abbrev new_sum : ℕ → ℕ → ℕ
   new_sum v k = cap (get_or sums (row * places + k) 0 + entry_at chart (place_at n row k m) * v)
@@ -76,17 +57,6 @@ module _ (n row m arg : ℕ) (chart sums live : List ℕ) where
 -- ---- all rows
 
 module _ (n m : ℕ) (chart args sums live : List ℕ) where
-  pub splits_none : SplitsAdded n 0 m chart args sums live sums live
-  splits_none =
-      record {
-        sums_long = refl;
-        live_long = refl;
-        added = λ r i h. absurd (omega arith);
-        others = λ k apart. refl;
-        kept = λ i h. h;
-        quiet = λ r i h. absurd (omega arith);
-      }
-
   module _ (r : ℕ) (sums₁ live₁ : List ℕ) (within : m ≤ places) (s : SplitsAdded n r m chart args sums live sums₁ live₁) where
     -- the sums of the next row are as they were
     pub splits_next : (i : ℕ) → i < m → get_or sums₁ (r * places + i) 0 ≡ get_or sums (r * places + i) 0

@@ -3,7 +3,6 @@
 
 ghost use Rattle.std.specs.Prelude.{◌≡◌, ◌&&◌, ℕ, ◌+◌, ◌*◌, ◌<◌, ◌≤◌, eqb, length, get_or};
 ghost use Rattle.common.specs.Below.{bit_of};
-ghost use Rattle.common.specs.Region.{Region};
 ghost use Rattle.common.specs.Zeros.{AllZero};
 ghost use Rattle.layout.specs.Limits.{production_limit, argument_limit};
 ghost use Rattle.tables.specs.Layout.{slot, table_words, takes_char};
@@ -15,6 +14,7 @@ ghost use Rattle.chart.specs.Rows.{RowsFilled};
 
 use chart::by_ends::{add_row, clear_row, store};
 use chart::cells::{PLACES, ROW_LIMIT};
+use chart::rows::fill_rows;
 use chart::sums::capped;
 use common::wide;
 use layout::limits::ARGUMENT_LIMIT;
@@ -31,10 +31,8 @@ pub fn clear_column(chart: &mut [u8], n: usize, rows: usize, j: usize)
     requires n_in_bounds { rows * span_count n ≤ length chart.old }
     ensures { ColumnCleared n rows j chart.old chart.new }
 {
-    let mut r = 0;
-    while r < rows {
+    for r in 0..rows {
         clear_row(chart, n, r, j);
-        r += 1;
     }
 }
 
@@ -43,10 +41,8 @@ pub fn sums_at(sums: &[u8], rows: usize, i: usize, out: &mut [u8])
     requires { (length sums.now ≡ row_limit * places) × (rows ≤ row_limit) × (i < places) × (length out.old ≡ row_limit) }
     ensures { ((r : ℕ) → r < rows → get_or out.new r 0 ≡ get_or sums.now (r * places + i) 0) × ((r : ℕ) → rows ≤ r → get_or out.new r 0 ≡ get_or out.old r 0) }
 {
-    let mut r = 0;
-    while r < rows {
+    for r in 0..rows {
         out[r] = sums[r * PLACES + i];
-        r += 1;
     }
 }
 
@@ -95,49 +91,12 @@ pub fn add_splits(
     requires by_index { ((r i : ℕ) → r < rows → i < m → get_or sums.old (r * places + i) 0 ≤ 2) × ((r i : ℕ) → r < rows → i < m → entry_at chart.now (place_at n r i m) ≤ 2) }
     ensures { SplitsAdded n rows m chart.now args.now sums.old live.old sums.new live.new }
 {
-    let mut r = 0;
-    while r < rows {
+    for r in 0..rows {
         add_split(chart, n, r, m, args[r], sums, live);
-        r += 1;
     }
 }
 
 // ---- characters
-
-// Writes which arguments of production p take the character.
-fn char_production(
-    out: &mut [u8],
-    tables: &[u64],
-    p: usize,
-    base: usize,
-    arity: usize,
-    character: u8,
-)
-    requires out_len { (length out.old ≡ row_limit) × (length tables.now ≡ table_words) }
-    requires p_lt_production_limit { (p < production_limit) × (arity ≤ argument_limit) × (base + arity < row_limit) }
-    ensures { Region (λ (d : ℕ) (v : ℕ). v ≡ bit_of (takes_char tables.now (slot p d) character)) 0 base arity out.old out.new }
-{
-    let mut d = 0;
-    while d < arity {
-        out[base + d] = takes_char(tables, p * ARGUMENT_LIMIT + d, character) as u8;
-        d += 1;
-    }
-}
-
-// Writes for each row, over zeros, 1 if the character may stand as its next argument.
-fn char_row(counts: &[u8], tables: &[u64], character: u8, out: &mut [u8])
-    requires counts_len_bound { (length counts.now ≤ production_limit) × ((p : ℕ) → get_or counts.now p 0 ≤ argument_limit) × (length tables.now ≡ table_words) }
-    requires all_zero { AllZero row_limit out.old }
-    ensures { RowsFilled (λ p d. bit_of (takes_char tables.now (slot p d) character)) counts.now (length counts.now) out.new }
-{
-    let mut base = 0;
-    let mut p = 0;
-    while p < counts.len() {
-        char_production(out, tables, p, base, wide(counts[p]), character);
-        base += wide(counts[p]) + 1;
-        p += 1;
-    }
-}
 
 // Writes for each row, over zeros, 1 if the text from i to j is a character that may stand as its next argument.
 pub fn bare_args(text: &[u8], counts: &[u8], tables: &[u64], i: usize, j: usize, out: &mut [u8])
@@ -149,7 +108,12 @@ pub fn bare_args(text: &[u8], counts: &[u8], tables: &[u64], i: usize, j: usize,
     if i + 1 != j {
         return;
     }
-    char_row(counts, tables, text[i], out);
+    let character = text[i];
+    fill_rows(
+        counts,
+        |p, d| takes_char(tables, p * ARGUMENT_LIMIT + d, character) as u8,
+        out,
+    );
 }
 
 // ---- cells
@@ -160,9 +124,7 @@ pub fn store_cells(chart: &mut [u8], n: usize, rows: usize, i: usize, j: usize, 
     requires n_in_bounds { (rows * span_count n ≤ length chart.old) × (length cells.now ≡ row_limit) }
     ensures { Scattered (λ r. place_at n r i j) (λ r. get_or cells.now r 0) rows chart.old chart.new }
 {
-    let mut r = 0;
-    while r < rows {
+    for r in 0..rows {
         store(chart, n, r, i, j, cells[r]);
-        r += 1;
     }
 }

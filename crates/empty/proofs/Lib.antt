@@ -1,5 +1,4 @@
 -- Laws of the empty span.
-pub mod FollowLaws
 pub mod RowLaws
 pub mod BeginLaws
 pub mod SumLaws

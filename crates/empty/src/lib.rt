@@ -2,78 +2,58 @@
 // the next argument. The arguments are held fixed while the cells are settled, and taken up again until they stay.
 #![tactic(auto)]
 
-ghost use Rattle.std.specs.Prelude.{◌≡◌, Bool, List, ℕ, ◌≤◌, length, get_or};
+ghost use Rattle.std.specs.Prelude.{◌≡◌, Bool, ℕ, length};
 ghost use Rattle.common.specs.Zeros.{AllZero};
 ghost use Rattle.chart.specs.Layout.{row_limit};
-ghost use Rattle.tables.specs.Layout.{arity_in, row_count};
 ghost use Rattle.tables.specs.Theory.{grammar_of};
-ghost use Rattle.span.specs.Tables.{Links, UsersAre};
+ghost use Rattle.span.specs.Tables.{UsersAre};
 ghost use Rattle.empty.specs.Empty.{EmptyRight};
 ghost use Rattle.empty.specs.Turns.{Begun, Followed};
 
 use chart::cells::ROW_LIMIT;
 use chart::sums::zero_row;
-use common::{either, wide};
-use span::{settle, spread};
+use common::wide;
+use span::{LinkTables, settle, spread};
 
 // With no argument there is one list of trees, the empty one; a production without arguments has a tree by it.
-fn begin(counts: &[u8], rows: usize, users: &[u8], args: &mut [u8], cells: &mut [u8])
-    requires by_index { (uses : List ℕ) × Links counts.now users.now uses }
-    requires all_zero { AllZero row_limit args.old × AllZero row_limit cells.old × (rows ≡ row_count (arity_in counts.now) (length counts.now)) }
-    ensures { Begun counts.now users.now (length counts.now) args.new cells.new }
+fn begin(links: &LinkTables, args: &mut [u8], cells: &mut [u8])
+    requires { AllZero row_limit args.old × AllZero row_limit cells.old }
+    ensures { Begun links.now.counts.now links.now.users.now (length links.now.counts.now) args.new cells.new }
 {
     let mut base = 0;
-    let mut p = 0;
-    while p < counts.len() {
+    for (p, count) in links.counts.iter().enumerate() {
         cells[base] = 1;
         spread(
             args,
-            &users[p * ROW_LIMIT..(p + 1) * ROW_LIMIT],
-            rows,
-            (counts[p] == 0) as u8,
+            &links.users[p * ROW_LIMIT..(p + 1) * ROW_LIMIT],
+            links.rows,
+            (*count == 0) as u8,
         );
-        base += wide(counts[p]) + 1;
-        p += 1;
+        base += wide(*count) + 1;
     }
 }
 
-// Takes up the arguments of the rows: true if they had changed. Beyond the rows they are the same.
-fn follow(back: &mut [u8], args: &[u8], rows: usize) -> bool
-    requires back_len { (length back.old ≡ row_limit) × (length args.now ≡ row_limit) × (rows ≤ row_limit) }
-    requires by_index { (r : ℕ) → rows ≤ r → get_or back.old r 0 ≡ get_or args.now r 0 }
+// Takes up the arguments: true if they had changed.
+fn follow(back: &mut [u8], args: &[u8]) -> bool
+    requires { length back.old ≡ length args.now }
     ensures { Followed back.old args.now back.new result }
 {
-    let mut changed = false;
-    let mut r = 0;
-    while r < rows {
-        changed = either(changed, back[r] != args[r]);
-        back[r] = args[r];
-        r += 1;
-    }
+    let changed = *back != *args;
+    back.copy_from_slice(args);
     changed
 }
 
 // Settles the empty span. The tables hold zeros before.
-pub fn settle_empty(
-    counts: &[u8],
-    rows: usize,
-    users: &[u8],
-    uses: &[u8],
-    args: &mut [u8],
-    cells: &mut [u8],
-)
-    requires links { Links counts.now users.now uses.now }
-    requires all_zero { AllZero row_limit args.old × AllZero row_limit cells.old × (rows ≡ row_count (arity_in counts.now) (length counts.now)) }
-    ensures { (chars subs : ℕ → ℕ → ℕ → Bool) → UsersAre counts.now users.now subs → EmptyRight (grammar_of counts.now chars subs) cells.new args.new }
+pub fn settle_empty(links: &LinkTables, args: &mut [u8], cells: &mut [u8])
+    requires { AllZero row_limit args.old × AllZero row_limit cells.old }
+    ensures { (chars subs : ℕ → ℕ → ℕ → Bool) → UsersAre links.now.counts.now links.now.users.now subs → EmptyRight (grammar_of links.now.counts.now chars subs) cells.new args.new }
 {
     let zeros = zero_row();
     let mut back = zero_row();
-    begin(counts, rows, users, args, cells);
-    let mut changed = follow(&mut back, args, rows);
+    begin(links, args, cells);
+    let mut changed = follow(&mut back, args);
     while changed {
-        settle(
-            counts, rows, users, uses, &zeros, &zeros, &back, args, cells,
-        );
-        changed = follow(&mut back, args, rows);
+        settle(links, &zeros, &zeros, &back, args, cells);
+        changed = follow(&mut back, args);
     }
 }

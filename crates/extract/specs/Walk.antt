@@ -17,10 +17,6 @@ use Rattle.theory.specs.Tree.{Tree, node, Forest, production_number, listing, li
 abbrev pub level_limit : ℕ
 level_limit = production_limit * places
 
--- levels that are enough for a short text
-abbrev pub few_levels : ℕ
-few_levels = 2048
-
 -- ---- what a stack says
 
 -- Level n, counted from 0, of a tree of q₀ from i₀ to j₀: production q, whose arguments begin at the places of `ends`; its first d arguments are written.

@@ -9,7 +9,7 @@ ghost use Rattle.tables.specs.Layout.{slot, slots, counts_of, arity_in, table_wo
 ghost use Rattle.tables.specs.Theory.{theory_of};
 ghost use Rattle.numbers.specs.Written.{room};
 ghost use Rattle.levels.specs.Levels.{level_bytes, production_of, written_of};
-ghost use Rattle.extract.specs.Walk.{few_levels, Midway, Further, WrittenOut, OnlyWritten};
+ghost use Rattle.extract.specs.Walk.{level_limit, Midway, Further, WrittenOut, OnlyWritten};
 ghost use Rattle.extract.specs.Places.{Walkable, cell_of, FirstChild, Splits};
 
 use chart::cells::{PLACES, entry_of};
@@ -43,12 +43,16 @@ fn child_fits(
     requires p_in_bounds { (p < length (counts_of tables.now)) × (d < arity_in (counts_of tables.now) p) × (q < length (counts_of tables.now)) × (m ≤ j) × (j ≤ length text.now) }
     ensures { result ≡ (takes_production tables.now (slot p d) q && leb 1 (cell_of tables.now text.now chart.now q (arity_in (counts_of tables.now) q) m j)) }
 {
-    if !takes_production(tables, p * ARGUMENT_LIMIT + d, q) {
-        return false;
-    }
-    let arity = argument_count(tables, q);
-    let trees = entry_of(chart, tables, text.len(), q, arity, m, j);
-    0 < trees
+    takes_production(tables, p * ARGUMENT_LIMIT + d, q)
+        && 0 < entry_of(
+            chart,
+            tables,
+            text.len(),
+            q,
+            argument_count(tables, q),
+            m,
+            j,
+        )
 }
 
 // The first production that does, or how many productions there are.
@@ -66,14 +70,12 @@ fn first_child(
     ensures { FirstChild tables.now text.now chart.now p d m j result }
 {
     let count = production_count(tables);
-    let mut q = 0;
-    while q < count {
+    for q in 0..count {
         if child_fits(chart, text, tables, p, d, q, m, j) {
             return q;
         }
-        q += 1;
     }
-    q
+    count
 }
 
 // The text from m to j is one character that may stand as argument d of p.
@@ -81,10 +83,7 @@ fn char_fits(text: &[u8], tables: &[u64], p: usize, d: usize, m: usize, j: usize
     requires { (slot p d < slots) × (length tables.now ≡ table_words) × (m ≤ j) × (j ≤ length text.now) }
     ensures { result ≡ (eqb (m + 1) j && takes_char tables.now (slot p d) (get_or text.now m 0)) }
 {
-    if m + 1 != j {
-        return false;
-    }
-    takes_char(tables, p * ARGUMENT_LIMIT + d, text[m])
+    m + 1 == j && takes_char(tables, p * ARGUMENT_LIMIT + d, text[m])
 }
 
 // A tree may stand as argument d of p from m to j, with a list of trees for the arguments before it from i to m.
@@ -102,13 +101,9 @@ fn split_fits(
     requires p_in_bounds { (p < length (counts_of tables.now)) × (d < arity_in (counts_of tables.now) p) × (i ≤ m) × (m ≤ j) × (j ≤ length text.now) }
     ensures { (result ≡ true) ↔ ((1 ≤ cell_of tables.now text.now chart.now p d i m) × ((t : Tree) × Stands (theory_of tables.now) text.now p d t m j)) }
 {
-    if entry_of(chart, tables, text.len(), p, d, i, m) == 0 {
-        return false;
-    }
-    if char_fits(text, tables, p, d, m, j) {
-        return true;
-    }
-    first_child(chart, text, tables, p, d, m, j) < production_count(tables)
+    entry_of(chart, tables, text.len(), p, d, i, m) != 0
+        && (char_fits(text, tables, p, d, m, j)
+            || first_child(chart, text, tables, p, d, m, j) < production_count(tables))
 }
 
 // Where argument d of p begins, if the list of its first d + 1 arguments goes from i to j.
@@ -127,10 +122,8 @@ fn find_split(
     ensures { (i ≤ result) × (result ≤ j) × (1 ≤ cell_of tables.now text.now chart.now p d i result) × ((t : Tree) × Stands (theory_of tables.now) text.now p d t result j) }
 {
     let mut m = j;
-    let mut found = split_fits(chart, text, tables, p, d, i, m, j);
-    while !found {
+    while !split_fits(chart, text, tables, p, d, i, m, j) {
         m -= 1;
-        found = split_fits(chart, text, tables, p, d, i, m, j);
     }
     m
 }
@@ -150,10 +143,9 @@ fn find_splits(
     ensures { Splits (theory_of tables.now) text.now p 0 i j result }
 {
     let mut ends = [0; ENDS];
-    let mut d = argument_count(tables, p);
-    ends[d] = narrow(j);
-    while 0 < d {
-        d -= 1;
+    let arity = argument_count(tables, p);
+    ends[arity] = narrow(j);
+    for d in (0..arity).rev() {
         ends[d] = narrow(find_split(chart, text, tables, p, d, i, wide(ends[d + 1])));
     }
     ends
@@ -279,24 +271,25 @@ const LEVELS: usize = PRODUCTION_LIMIT * PLACES;
 // Levels that are enough for a short text; it is spared the clearing of many.
 const FEW_LEVELS: usize = 2048;
 
-// The same with a few levels of its own.
-fn write_low(chart: &[u8], text: &[u8], tables: &[u64], out: &mut [u8], q: usize) -> usize
-    requires walkable { Walkable tables.now text.now chart.now }
-    requires q_in_bounds { (q < length (counts_of tables.now)) × (cell_of tables.now text.now chart.now q (arity_in (counts_of tables.now) q) 0 (length text.now) ≡ 1) }
-    requires text_len_bound { length (counts_of tables.now) * (length text.now + 1) ≤ few_levels }
-    ensures { OnlyWritten (theory_of tables.now) text.now q out.old out.new result }
-{
-    let mut levels = [0; FEW_LEVELS * LEVEL];
-    write_tree(chart, text, tables, &mut levels, out, q)
-}
+// The bytes of as many, and of a few.
+const MOST_BYTES: usize = LEVELS * LEVEL;
 
-// The same with as many levels as any only tree has.
-fn write_high(chart: &[u8], text: &[u8], tables: &[u64], out: &mut [u8], q: usize) -> usize
+const FEW_BYTES: usize = FEW_LEVELS * LEVEL;
+
+// The same with levels of its own, of N bytes in all.
+fn write_with<const N: usize>(
+    chart: &[u8],
+    text: &[u8],
+    tables: &[u64],
+    out: &mut [u8],
+    q: usize,
+) -> usize
     requires walkable { Walkable tables.now text.now chart.now }
     requires q_in_bounds { (q < length (counts_of tables.now)) × (cell_of tables.now text.now chart.now q (arity_in (counts_of tables.now) q) 0 (length text.now) ≡ 1) }
+    requires enough { (length (counts_of tables.now) * (length text.now + 1) * level_bytes ≤ N) × (N ≤ level_limit * level_bytes) }
     ensures { OnlyWritten (theory_of tables.now) text.now q out.old out.new result }
 {
-    let mut levels = [0; LEVELS * LEVEL];
+    let mut levels = [0; N];
     write_tree(chart, text, tables, &mut levels, out, q)
 }
 
@@ -307,7 +300,7 @@ pub fn write_only(chart: &[u8], text: &[u8], tables: &[u64], out: &mut [u8], q: 
     ensures { OnlyWritten (theory_of tables.now) text.now q out.old out.new result }
 {
     if production_count(tables) * (text.len() + 1) <= FEW_LEVELS {
-        return write_low(chart, text, tables, out, q);
+        return write_with::<FEW_BYTES>(chart, text, tables, out, q);
     }
-    write_high(chart, text, tables, out, q)
+    write_with::<MOST_BYTES>(chart, text, tables, out, q)
 }

@@ -1,6 +1,6 @@
 -- Parts of a chart filled one after the other.
 use Prim.Native.Nat.{ℕ, ◌+◌, ◌-◌, ◌*◌, ◌≤◌, ◌<◌}
-use mathlib.Core.Path.{◌≡◌, refl, ◌∙◌, subst}
+use mathlib.Core.Path.{◌≡◌, ◌∙◌, subst}
 use mathlib.Core.List.{List}
 use native.Mathlib.Omega.{arith}
 use lib.ListN.{length, get_or}
@@ -19,9 +19,6 @@ use Rattle.theory.specs.Steps.{everything}
 module _ {t b w : List ℕ} where
   -- ---- starts of a column
 
-  pub further_none : (chart sums live : List ℕ) (i j : ℕ) → Further t b w chart sums live i j chart sums live i
-  further_none chart sums live i j = record { further = λ before f s. (f, s) }
-
   pub further_join : (chart sums live chart₁ sums₁ live₁ chart₂ sums₂ live₂ : List ℕ) (j i i₁ i₂ : ℕ)
       → Further t b w chart sums live i j chart₁ sums₁ live₁ i₁ → Further t b w chart₁ sums₁ live₁ i₁ j chart₂ sums₂ live₂ i₂
       → Further t b w chart sums live i j chart₂ sums₂ live₂ i₂
@@ -29,9 +26,6 @@ module _ {t b w : List ℕ} where
       record { further = λ before f s. let (f₁, s₁) = one.further before f s in two.further before f₁ s₁ }
 
   -- ---- columns
-
-  pub onward_none : (chart : List ℕ) (j : ℕ) → Onward t b w chart j chart j
-  onward_none chart j = record { onward = λ before f. f }
 
   pub onward_join : (chart chart₁ chart₂ : List ℕ) (j j₁ j₂ : ℕ) → Onward t b w chart j chart₁ j₁ → Onward t b w chart₁ j₁ chart₂ j₂ → Onward t b w chart j chart₂ j₂
   onward_join chart chart₁ chart₂ j j₁ j₂ one two = record { onward = λ before f. two.onward before (one.onward before f) }
@@ -72,9 +66,6 @@ pub record ColumnsDone (t b w chart₀ sums₀ live₀ chart sums live : List �
   pub within : j ≤ length w + 1
 
 module _ {t b w chart₀ sums₀ live₀ : List ℕ} where
-  pub spans_none : (j : ℕ) → Small t w chart₀ sums₀ j → SpansDone t b w chart₀ sums₀ live₀ j chart₀ sums₀ live₀ j
-  spans_none j small = record { spans = further_none chart₀ sums₀ live₀ j j; chart_long = refl; sums_long = refl; live_long = refl; small = small; within = omega arith }
-
   pub spans_more : (j : ℕ) (chart sums live chart' sums' live' : List ℕ) (i : ℕ) → 0 < i → SpansDone t b w chart₀ sums₀ live₀ j chart sums live i
       → Further t b w chart sums live (i - 1 + 1) j chart' sums' live' (i - 1)
       → length chart' ≡ length chart → length sums' ≡ length sums → length live' ≡ length live → Small t w chart' sums' j
@@ -94,17 +85,6 @@ module _ {t b w chart₀ sums₀ live₀ : List ℕ} where
   pub spans_all : (j : ℕ) (chart sums live : List ℕ) (i : ℕ) → i ≡ 0 → SpansDone t b w chart₀ sums₀ live₀ j chart sums live i
       → Further t b w chart₀ sums₀ live₀ j j chart sums live 0
   spans_all j chart sums live i e done = subst (λ (n : ℕ). Further t b w chart₀ sums₀ live₀ j j chart sums live n) e done.spans
-
-  pub columns_none : ColumnsDone t b w chart₀ sums₀ live₀ chart₀ sums₀ live₀ 0
-  columns_none =
-      record {
-        columns = onward_none chart₀ 0;
-        chart_long = refl;
-        sums_long = refl;
-        live_long = refl;
-        cells = record { small_cells = λ r i j lr l h. absurd (omega arith) };
-        within = omega arith;
-      }
 
   pub columns_more : (chart sums live chart' sums' live' : List ℕ) (j : ℕ) → j ≤ length w → ColumnsDone t b w chart₀ sums₀ live₀ chart sums live j
       → Onward t b w chart j chart' (j + 1)

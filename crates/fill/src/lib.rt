@@ -18,7 +18,7 @@ use chart::cells::PLACES;
 use chart::sums::zero_row;
 use column::{SUMS, add_splits, bare_args, clear_column, store_cells, sums_at};
 use prepare::{BACK_AT, COUNTS_AT, EMPTY_AT, PREPARED, USES_AT};
-use span::settle;
+use span::{LinkTables, settle};
 use tables::{production_count, row_count};
 
 // No split lies inside the span, and it is no character: nothing spells it.
@@ -26,10 +26,7 @@ fn is_dead(live: &[u8], i: usize, j: usize) -> bool
     requires { (i < j) × (j < length live.now) }
     ensures { result ≡ (not (eqb (i + 1) j) && eqb (get_or live.now i 0) 0) }
 {
-    if i + 1 == j {
-        return false;
-    }
-    live[i] == 0
+    i + 1 != j && live[i] == 0
 }
 
 // Settles a span, whose inner splits are summed up, by the prepared links and an empty span's cells and arguments, front and back.
@@ -48,17 +45,13 @@ fn settle_by_links(
     ensures { SpanSettled tables.now prepared.now inner.now front.now back.now args.old cells.old args.new cells.new }
 {
     let count = production_count(tables);
-    settle(
-        &prepared[COUNTS_AT..COUNTS_AT + count],
-        row_count(tables),
-        &prepared[..USES_AT],
-        &prepared[USES_AT..COUNTS_AT],
-        inner,
-        front,
-        back,
-        args,
-        cells,
-    );
+    let links = LinkTables {
+        counts: &prepared[COUNTS_AT..COUNTS_AT + count],
+        rows: row_count(tables),
+        users: &prepared[..USES_AT],
+        uses: &prepared[USES_AT..COUNTS_AT],
+    };
+    settle(&links, inner, front, back, args, cells);
 }
 
 // Settles a span by all that is prepared.
@@ -153,9 +146,7 @@ fn fill_spans(
     ensures small_2 { Small tables.now text.now chart.new sums.new j }
 {
     let mut inner = zero_row();
-    let mut i = j;
-    while 0 < i {
-        i -= 1;
+    for i in (0..j).rev() {
         let span = Span { start: i, end: j };
         fill_span(chart, text, tables, prepared, sums, live, &mut inner, span);
     }
@@ -198,10 +189,8 @@ fn fill_columns(
     ensures onward { Onward tables.now prepared.now text.now chart.old 0 chart.new (length text.now + 1) }
     ensures small_cells { SmallCells (length text.now) (rows_of tables.now) (length text.now + 1) chart.new }
 {
-    let mut j = 0;
-    while j <= text.len() {
+    for j in 0..text.len() + 1 {
         fill_column(chart, text, tables, prepared, sums, live, j);
-        j += 1;
     }
 }
 

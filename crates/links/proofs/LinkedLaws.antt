@@ -1,6 +1,6 @@
 -- Laws of the tables of users and uses, written an octet of productions at a time.
 use Prim.Native.Nat.{ℕ, ◌+◌, ◌-◌, ◌*◌, max, ◌≤◌, ◌<◌}
-use mathlib.Core.Path.{◌≡◌, refl, ◌∙◌, ap, subst, subst⁻¹}
+use mathlib.Core.Path.{◌≡◌, ◌∙◌, ap, subst, subst⁻¹}
 use mathlib.Core.Bool.{true}
 use mathlib.Core.List.{List}
 use mathlib.Core.Logic.{by_cases, inl, inr}
@@ -8,15 +8,13 @@ use native.Mathlib.Omega.{arith}
 use native.Mathlib.Decide.{ℕ_discrete, dec_lt}
 use native.Mathlib.Nat.{mul-le-mul_right}
 use lib.Bits.{bit_or}
-use lib.ListN.{length, get_or, set, length-set}
-use lib.Seq.{get_or-set_same, get_or-set_other}
+use lib.ListN.{length, get_or}
 use Rattle.charset.proofs.BitLaws.{bit_or_lem, bit_zero}
 use Rattle.charset.specs.Set.{bit}
 use Rattle.common.proofs.BelowLaws.{bit_small}
 use Rattle.common.proofs.BoolLaws.{or_first, or_second, true_or_false}
 use Rattle.common.specs.Below.{bit_of}
 use Rattle.common.specs.Region.{Region}
-use Rattle.common.specs.Zeros.{AllZero}
 use Rattle.layout.specs.Limits.{production_limit, argument_limit}
 use Rattle.tables.proofs.LayoutLaws.{octet_bit}
 use Rattle.tables.specs.Layout.{slot, takes_production, arity_in, row_count, octet_bits, production_octet}
@@ -24,34 +22,17 @@ use Rattle.chart.proofs.LayoutLaws.{row_below}
 use Rattle.chart.specs.Layout.{row_limit, row_of}
 use Rattle.chart.specs.Rows.{RowsFilled}
 use Rattle.links.specs.Linked.{Joined, UsedOctets, BitsTurned, UsersTo, UsesTo}
-use Rattle.span.specs.Tables.{user_at, use_at, user_bytes, use_bytes, Links, UsersAre}
+use Rattle.span.specs.Tables.{user_at, use_at, Links, UsersAre}
 
 -- ---- octets
 
 module _ (tables : List ℕ) (p k : ℕ) where
-  pub joined_none : (v : ℕ) → Joined tables p k 0 v
-  joined_none v = record { all = λ d b l h. absurd (omega arith) }
-
   pub joined_more : (n v : ℕ) → Joined tables p k n v → Joined tables p k (n + 1) (bit_or v (production_octet tables (slot p n) k))
   joined_more n v j =
       record {
         all = λ d b l h. bit_or_lem v (production_octet tables (slot p n) k) b ∙ elim (ℕ_discrete d n) [
           | yes e ↦ or_second (bit v b) (bit (production_octet tables (slot p n) k) b) (subst (λ (x : ℕ). bit (production_octet tables (slot p x) k) b ≡ true) e h)
           | no e ↦ or_first (bit v b) (bit (production_octet tables (slot p n) k) b) (j.all d b (by_cases (dec_lt d n) (λ m. m) (λ m. absurd (e (omega arith)))) h)
-        ];
-      }
-
-module _ (counts tables : List ℕ) (k : ℕ) where
-  pub used_none : (l : List ℕ) → length l ≡ production_limit → UsedOctets counts tables k 0 l
-  used_none l e = record { long = e; here = λ p o. absurd (omega arith) }
-
-  pub used_more : (n v : ℕ) (l : List ℕ) → n < production_limit → UsedOctets counts tables k n l → Joined tables n k (arity_in counts n) v → UsedOctets counts tables k (n + 1) (set l n v)
-  used_more n v l o u j =
-      record {
-        long = length-set l n v ∙ u.long;
-        here = λ p h. elim (ℕ_discrete p n) [
-          | yes e ↦ subst⁻¹ (λ (x : ℕ). Joined tables x k (arity_in counts x) (get_or (set l n v) x 0)) e (subst⁻¹ (Joined tables n k (arity_in counts n)) (get_or-set_same l n v 0 (omega (arith, u.long))) j)
-          | no e ↦ subst⁻¹ (Joined tables p k (arity_in counts p)) (get_or-set_other l n p v 0 e) (u.here p (by_cases (dec_lt p n) (λ m. m) (λ m. absurd (e (omega arith)))))
         ];
       }
 
@@ -64,9 +45,6 @@ row_under a b w r l h =
     omega arith
 
 module _ (octets : List ℕ) (from : ℕ) (out : List ℕ) where
-  pub turned_none : BitsTurned octets from 0 out out
-  turned_none = record { long = refl; bits = λ i. omega arith; turned = λ b r l h. absurd (omega arith); before = λ i l. refl }
-
   -- one row more
   module _ (n : ℕ) (out₁ out₂ : List ℕ) (t : BitsTurned octets from n out out₁)
       (r : Region (λ (i v : ℕ). v ≡ bit_of (bit (get_or octets i 0) n)) 0 ((from + n) * length octets) (length octets) out₁ out₂) where
@@ -100,18 +78,6 @@ module _ (octets : List ℕ) (from : ℕ) (out : List ℕ) where
 -- ---- users and uses
 
 module _ (counts tables : List ℕ) where
-  pub users_none : (users : List ℕ) → AllZero user_bytes users → UsersTo counts tables 0 users
-  users_none users z =
-      record {
-        long = z.long;
-        bits = λ i. omega (arith, z.zeros i);
-        takes = λ p d q l h m. absurd (omega arith);
-        outside = λ q r m b l. absurd (omega arith);
-      }
-
-  pub uses_none : (uses : List ℕ) → length uses ≡ use_bytes → UsesTo counts tables 0 uses
-  uses_none uses e = record { long = e; used = λ p d q l h m t. absurd (omega arith) }
-
   module _ (few : length counts ≤ production_limit) (short : (p : ℕ) → arity_in counts p ≤ argument_limit) where
     -- the first m productions of an octet more
     module _ (k m : ℕ) (inside : m ≤ octet_bits) (octets users users' : List ℕ) (u : UsersTo counts tables (k * octet_bits) users)

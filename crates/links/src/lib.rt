@@ -2,7 +2,7 @@
 // such a row (its uses). Eight productions go together: an octet of a class has a bit for each of them, and bit b of all octets is a row of users.
 #![tactic(auto)]
 
-ghost use Rattle.std.specs.Prelude.{◌≡◌, ℕ, ◌+◌, ◌*◌, ◌<◌, ◌≤◌, min, length, get_or};
+ghost use Rattle.std.specs.Prelude.{◌≡◌, ℕ, ◌+◌, ◌*◌, ◌<◌, ◌≤◌, length, get_or};
 ghost use Rattle.common.specs.Below.{bit_of};
 ghost use Rattle.common.specs.Region.{Region};
 ghost use Rattle.common.specs.Zeros.{AllZero};
@@ -15,25 +15,13 @@ ghost use Rattle.span.specs.Tables.{user_bytes, use_bytes};
 ghost use Rattle.links.specs.Linked.{Joined, UsedOctets, BitsTurned, UsersTo, UsesTo};
 
 use chart::cells::ROW_LIMIT;
+use chart::rows::fill_rows;
 use chart::sums::zero_row;
 use common::wide;
 use layout::limits::{ARGUMENT_LIMIT, PRODUCTION_LIMIT};
 use tables::{OCTET_BITS, class_octet};
 
 // ---- octets
-
-// Writes octet k of each argument of production p.
-fn octet_production(tables: &[u64], k: usize, p: usize, base: usize, arity: usize, out: &mut [u8])
-    requires out_len { (length out.old ≡ row_limit) × (length tables.now ≡ table_words) × (k < production_octets) }
-    requires p_lt_production_limit { (p < production_limit) × (arity ≤ argument_limit) × (base + arity < row_limit) }
-    ensures { Region (λ (d : ℕ) (v : ℕ). v ≡ production_octet tables.now (slot p d) k) 0 base arity out.old out.new }
-{
-    let mut d = 0;
-    while d < arity {
-        out[base + d] = class_octet(tables, p * ARGUMENT_LIMIT + d, k);
-        d += 1;
-    }
-}
 
 // For each row octet k of what it takes.
 fn row_octets(counts: &[u8], tables: &[u64], k: usize) -> [u8; ROW_LIMIT]
@@ -42,13 +30,11 @@ fn row_octets(counts: &[u8], tables: &[u64], k: usize) -> [u8; ROW_LIMIT]
     ensures { RowsFilled (λ p d. production_octet tables.now (slot p d) k) counts.now (length counts.now) result }
 {
     let mut out = zero_row();
-    let mut base = 0;
-    let mut p = 0;
-    while p < counts.len() {
-        octet_production(tables, k, p, base, wide(counts[p]), &mut out);
-        base += wide(counts[p]) + 1;
-        p += 1;
-    }
+    fill_rows(
+        counts,
+        |p, d| class_octet(tables, p * ARGUMENT_LIMIT + d, k),
+        &mut out,
+    );
     out
 }
 
@@ -59,10 +45,8 @@ fn used_octet(tables: &[u64], k: usize, p: usize, arity: usize) -> u8
     ensures { Joined tables.now p k arity result }
 {
     let mut all = 0;
-    let mut d = 0;
-    while d < arity {
-        all = all | class_octet(tables, p * ARGUMENT_LIMIT + d, k);
-        d += 1;
+    for d in 0..arity {
+        all |= class_octet(tables, p * ARGUMENT_LIMIT + d, k);
     }
     all
 }
@@ -74,10 +58,8 @@ fn used_octets(counts: &[u8], tables: &[u64], k: usize) -> [u8; PRODUCTION_LIMIT
     ensures { UsedOctets counts.now tables.now k (length counts.now) result }
 {
     let mut out = [0; PRODUCTION_LIMIT];
-    let mut p = 0;
-    while p < counts.len() {
-        out[p] = used_octet(tables, k, p, wide(counts[p]));
-        p += 1;
+    for (p, count) in counts.iter().enumerate() {
+        out[p] = used_octet(tables, k, p, wide(*count));
     }
     out
 }
@@ -89,18 +71,9 @@ fn put_bits(octets: &[u8], b: usize, out: &mut [u8], at: usize)
     requires { (b < octet_bits) × (at + length octets.now ≤ length out.old) }
     ensures { Region (λ (r : ℕ) (v : ℕ). v ≡ bit_of (bit (get_or octets.now r 0) b)) 0 at (length octets.now) out.old out.new }
 {
-    let mut r = 0;
-    while r < octets.len() {
-        out[at + r] = (octets[r] >> b) % 2;
-        r += 1;
+    for (r, octet) in octets.iter().enumerate() {
+        out[at + r] = (*octet >> b) % 2;
     }
-}
-
-// How many of n productions are in an octet that begins with the first of them.
-fn at_most_octet(n: usize) -> usize
-    ensures { result ≡ min n octet_bits }
-{
-    if n < OCTET_BITS { n } else { OCTET_BITS }
 }
 
 // The first `count` bits of the octets as rows, from row `from` on.
@@ -109,10 +82,8 @@ fn turn_octets(octets: &[u8], from: usize, count: usize, out: &mut [u8])
     requires from_lt_production_limit { (from < production_limit) × (count ≤ octet_bits) × (length octets.now ≤ row_limit) }
     ensures { BitsTurned octets.now from count out.old out.new }
 {
-    let mut b = 0;
-    while b < count {
+    for b in 0..count {
         put_bits(octets, b, out, (from + b) * octets.len());
-        b += 1;
     }
 }
 
@@ -122,12 +93,10 @@ pub fn link_users(counts: &[u8], tables: &[u64], users: &mut [u8])
     requires all_zero { AllZero user_bytes users.old }
     ensures { UsersTo counts.now tables.now (length counts.now) users.new }
 {
-    let mut k = 0;
-    while k * OCTET_BITS < counts.len() {
+    for k in 0..counts.len().div_ceil(OCTET_BITS) {
         let octets = row_octets(counts, tables, k);
-        let count = at_most_octet(counts.len() - k * OCTET_BITS);
+        let count = (counts.len() - k * OCTET_BITS).min(OCTET_BITS);
         turn_octets(&octets, k * OCTET_BITS, count, users);
-        k += 1;
     }
 }
 
@@ -137,11 +106,9 @@ pub fn link_uses(counts: &[u8], tables: &[u64], uses: &mut [u8])
     requires uses_len { length uses.old ≡ use_bytes }
     ensures { UsesTo counts.now tables.now (length counts.now) uses.new }
 {
-    let mut k = 0;
-    while k * OCTET_BITS < counts.len() {
+    for k in 0..counts.len().div_ceil(OCTET_BITS) {
         let octets = used_octets(counts, tables, k);
-        let count = at_most_octet(counts.len() - k * OCTET_BITS);
+        let count = (counts.len() - k * OCTET_BITS).min(OCTET_BITS);
         turn_octets(&octets, k * OCTET_BITS, count, uses);
-        k += 1;
     }
 }

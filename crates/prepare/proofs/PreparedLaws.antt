@@ -1,14 +1,13 @@
 -- Laws of what is prepared: its parts, written one after the other.
 use Prim.Native.Nat.{ℕ, ◌+◌, ◌-◌, ◌≤◌, ◌<◌}
-use mathlib.Core.Path.{◌≡◌, refl, sym, ◌∙◌, ap, subst, subst₂}
-use mathlib.Core.List.{List, ◌++◌, append_assoc}
+use mathlib.Core.Path.{◌≡◌, sym, ◌∙◌, ap, subst, subst₂, subst⁻¹}
+use mathlib.Core.List.{List, ◌++◌}
 use mathlib.Core.Logic.{by_cases}
 use native.Mathlib.Omega.{arith}
 use native.Mathlib.Decide.{dec_lt}
 use lib.ListN.{length, get_or, take, drop, length-drop, length-append, get_or-eq_default}
-use lib.Seq.{sets, sets-eq, length-sets, drop-drop, length-take-le, get_or-take, get_or-drop, ext_get_or, take_at, drop_at}
+use lib.Seq.{length-take-le, get_or-take, get_or-drop, ext_get_or, take_at, drop_at}
 use borrow.Rule.Slice.PartMut.{put_mid, same_len_mid, take_put}
-use Rattle.chart.specs.Layout.{row_limit}
 use Rattle.common.specs.Zeros.{AllZero}
 use Rattle.empty.specs.Empty.{EmptyRight}
 use Rattle.layout.specs.Limits.{production_limit}
@@ -43,17 +42,6 @@ module _ (a k : ℕ) (xs ys : List ℕ) (inside : a + k ≤ length xs) (long : l
       let whole' : length (take k' (drop a' xs)) ≡ k' = part_long a' k' xs (omega arith) in
       ext_get_or 0 (take k' (drop a' (put_mid a k xs ys))) (take k' (drop a' xs)) (whole ∙ sym whole')
       (λ i h. get_or-take k' (drop a' (put_mid a k xs ys)) i 0 (omega arith) ∙ get_or-drop a' (put_mid a k xs ys) i 0 ∙ before (a' + i) (omega arith) ∙ sym (get_or-drop a' xs i 0) ∙ sym (get_or-take k' (drop a' xs) i 0 (omega arith)))
-
--- what is put at a place takes the place of as much
-sets_mid : (a : ℕ) (xs ys : List ℕ) → a + length ys ≤ length xs → sets xs a ys ≡ put_mid a (length ys) xs ys
-sets_mid a xs ys inside = sets-eq ys xs a inside ∙ ap (λ (l : List ℕ). take a xs ++ ys ++ l) (sym (drop-drop (length ys) a xs)) ∙ append_assoc (take a xs) ys (drop (length ys) (drop a xs))
-
-module _ (a : ℕ) (xs ys : List ℕ) (inside : a + length ys ≤ length xs) where
-  pub put_here : take (length ys) (drop a (sets xs a ys)) ≡ ys
-  put_here = ap (λ (l : List ℕ). take (length ys) (drop a l)) (sets_mid a xs ys inside) ∙ part_here a (length ys) xs ys inside refl
-
-  pub put_before : (a' k' : ℕ) → a' + k' ≤ a → take k' (drop a' (sets xs a ys)) ≡ take k' (drop a' xs)
-  put_before a' k' l = ap (λ (m : List ℕ). take k' (drop a' m)) (sets_mid a xs ys inside) ∙ part_before a (length ys) xs ys inside refl a' k' l
 
 -- a first part of zeros
 pub front_zeros : (n m : ℕ) (b : List ℕ) → n ≤ m → AllZero m b → AllZero n (take n b)
@@ -104,71 +92,87 @@ module _ (t : List ℕ) (parsed : ParserTables t) (b users uses : List ℕ) (lon
       }
 
 -- what is put behind the links
-pub linked_kept : (t b ys : List ℕ) (a : ℕ) → counts_at ≤ a → a + length ys ≤ prepared_bytes → Linked t b → Linked t (sets b a ys)
-linked_kept t b ys a l h r =
-    let inside : a + length ys ≤ length b = omega (arith, r.long) in
-    let users : users_in (sets b a ys) ≡ users_in b = put_before a b ys inside 0 uses_at (omega arith) in
-    let uses : uses_in (sets b a ys) ≡ uses_in b = put_before a b ys inside uses_at (counts_at - uses_at) (omega arith) in
+pub linked_kept : (t b ys : List ℕ) (a k : ℕ) → counts_at ≤ a → a + k ≤ prepared_bytes → length ys ≡ k → Linked t b → Linked t (put_mid a k b ys)
+linked_kept t b ys a k l h e r =
+    let inside : a + k ≤ length b = omega (arith, r.long) in
+    let users : users_in (put_mid a k b ys) ≡ users_in b = part_before a k b ys inside e 0 uses_at (omega arith) in
+    let uses : uses_in (put_mid a k b ys) ≡ uses_in b = part_before a k b ys inside e uses_at (counts_at - uses_at) (omega arith) in
     record {
-      long = length-sets b a ys ∙ r.long;
+      long = put_long a k b ys inside e ∙ r.long;
       links = subst₂ (Links (counts_of t)) (sym users) (sym uses) r.links;
       users = subst (λ (x : List ℕ). UsersAre (counts_of t) x (λ (p d q : ℕ). takes_production t (slot p d) q)) (sym users) r.users;
     }
 
 -- the argument counts, the empty span, and what is behind it, put one after the other
-module _ (t b counts empty back : List ℕ) (few : length (counts_of t) ≤ production_limit) (are : counts ≡ counts_of t) (e : length empty ≡ row_limit) (k : length back ≡ row_limit)
-    (l : Linked t b) where
+module _ (t b counts empty back : List ℕ) (few : length (counts_of t) ≤ production_limit) (are : counts ≡ counts_of t)
+    (e : length empty ≡ back_at - empty_at) (k : length back ≡ prepared_bytes - back_at) (l : Linked t b) where
+  n : ℕ
+  n = counts_at + length counts - counts_at
+
   counted : List ℕ
-  counted = sets b counts_at counts
+  counted = put_mid counts_at n b counts
 
   with_cells : List ℕ
-  with_cells = sets counted empty_at empty
+  with_cells = put_mid empty_at (back_at - empty_at) counted empty
 
   all : List ℕ
-  all = sets with_cells back_at back
+  all = put_mid back_at (prepared_bytes - back_at) with_cells back
+
+  long₀ : length counts ≡ n
+  unfolding n
+  long₀ = omega arith
+
+  inside₀ : counts_at + n ≤ empty_at
+  inside₀ = omega (arith, long₀, ap length are)
 
   l₁ : Linked t counted
   unfolding counted
-  l₁ = linked_kept t b counts counts_at (omega arith) (omega (arith, ap length are)) l
+  l₁ = linked_kept t b counts counts_at n (omega arith) (omega (arith, inside₀)) long₀ l
 
   l₂ : Linked t with_cells
   unfolding with_cells
-  l₂ = linked_kept t counted empty empty_at (omega arith) (omega arith) l₁
+  l₂ = linked_kept t counted empty empty_at (back_at - empty_at) (omega arith) (omega arith) e l₁
 
-  inside₀ : counts_at + length counts ≤ length b
-  inside₀ = omega (arith, l.long, ap length are)
-
-  inside₁ : empty_at + length empty ≤ length counted
+  inside₁ : empty_at + (back_at - empty_at) ≤ length counted
   inside₁ = omega (arith, l₁.long)
 
-  inside₂ : back_at + length back ≤ length with_cells
+  inside₂ : back_at + (prepared_bytes - back_at) ≤ length with_cells
   inside₂ = omega (arith, l₂.long)
 
   counts_same : counts_in (length counts) all ≡ counts
-  unfolding counted with_cells all
+  unfolding n counted with_cells all
   counts_same =
-      let n : counts_at + length counts - counts_at ≡ length counts = omega arith in
-      ap (λ (m : ℕ). take m (drop counts_at all)) n ∙ put_before back_at with_cells back inside₂ counts_at (length counts) (omega (arith, ap length are))
-      ∙ put_before empty_at counted empty inside₁ counts_at (length counts) (omega (arith, ap length are)) ∙ put_here counts_at b counts inside₀
+      part_before back_at (prepared_bytes - back_at) with_cells back inside₂ k counts_at n (omega (arith, inside₀))
+      ∙ part_before empty_at (back_at - empty_at) counted empty inside₁ e counts_at n inside₀
+      ∙ part_here counts_at n b counts (omega (arith, inside₀, l.long)) long₀
 
   cells_same : empty_in all ≡ empty
   unfolding with_cells all
-  cells_same =
-      put_before back_at with_cells back inside₂ empty_at (back_at - empty_at) (omega arith)
-      ∙ ap (λ (m : ℕ). take m (drop empty_at with_cells)) (sym e) ∙ put_here empty_at counted empty inside₁
+  cells_same = part_before back_at (prepared_bytes - back_at) with_cells back inside₂ k empty_at (back_at - empty_at) (omega arith) ∙ part_here empty_at (back_at - empty_at) counted empty inside₁ e
 
   back_same : back_in all ≡ back
   unfolding all
-  back_same = ap (λ (m : ℕ). take m (drop back_at all)) (sym k) ∙ put_here back_at with_cells back inside₂
+  back_same = part_here back_at (prepared_bytes - back_at) with_cells back inside₂ k
 
-  pub all_prepared : EmptyRight (theory_of t) empty back → Prepared t (sets (sets (sets b counts_at counts) empty_at empty) back_at back)
-  unfolding counted with_cells all
+  pub all_prepared : EmptyRight (theory_of t) empty back
+      → Prepared t (put_mid back_at (prepared_bytes - back_at) (put_mid empty_at (back_at - empty_at) (put_mid counts_at (counts_at + length counts - counts_at) b counts) empty) back)
+  unfolding n counted with_cells all
   all_prepared r =
       record {
-        linked = linked_kept t with_cells back back_at (omega arith) (omega arith) l₂;
+        linked = linked_kept t with_cells back back_at (prepared_bytes - back_at) (omega arith) (omega arith) k l₂;
         counts = ap (λ (m : ℕ). counts_in m all) (sym (ap length are)) ∙ counts_same ∙ are;
         empty = subst₂ (EmptyRight (theory_of t)) (sym cells_same) (sym back_same) r;
       }
+
+-- the same if what is put there are copies
+pub copies_prepared : (t b counts counts' empty empty' back back' : List ℕ) → counts' ≡ counts → empty' ≡ empty → back' ≡ back
+    → length (counts_of t) ≤ production_limit → counts ≡ counts_of t → length empty ≡ back_at - empty_at → length back ≡ prepared_bytes - back_at → Linked t b → EmptyRight (theory_of t) empty back
+    → Prepared t (put_mid back_at (prepared_bytes - back_at) (put_mid empty_at (back_at - empty_at) (put_mid counts_at (counts_at + length counts - counts_at) b counts') empty') back')
+copies_prepared t b counts counts' empty empty' back back' p q r few are e k l right =
+    subst⁻¹ (λ (x : List ℕ). Prepared t (put_mid back_at (prepared_bytes - back_at) (put_mid empty_at (back_at - empty_at) (put_mid counts_at (counts_at + length counts - counts_at) b x) empty') back')) p
+    (subst⁻¹ (λ (x : List ℕ). Prepared t (put_mid back_at (prepared_bytes - back_at) (put_mid empty_at (back_at - empty_at) (put_mid counts_at (counts_at + length counts - counts_at) b counts) x) back')) q
+    (subst⁻¹ (λ (x : List ℕ). Prepared t (put_mid back_at (prepared_bytes - back_at) (put_mid empty_at (back_at - empty_at) (put_mid counts_at (counts_at + length counts - counts_at) b counts) empty) x)) r
+    (all_prepared t b counts empty back few are e k l right)))
 
 -- the argument counts, as code reads them
 pub counts_read : (t b : List ℕ) (n : ℕ) → n ≡ length (counts_of t) → Prepared t b → counts_in n b ≡ counts_of t

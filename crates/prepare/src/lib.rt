@@ -2,8 +2,7 @@
 // row (uses), how many arguments each production has (counts), and the empty span, its cells and the arguments behind them.
 #![tactic(auto)]
 
-ghost use Rattle.std.specs.Prelude.{◌≡◌, ◌+◌, ◌≤◌, length};
-ghost use Rattle.std.proofs.lemmas.List.Edits.{sets};
+ghost use Rattle.std.specs.Prelude.{◌≡◌};
 ghost use Rattle.common.specs.Zeros.{AllZero};
 ghost use Rattle.tables.specs.Layout.{counts_of, ParserTables};
 ghost use Rattle.tables.specs.Theory.{theory_of};
@@ -16,6 +15,7 @@ use chart::sums::zero_row;
 use empty::settle_empty;
 use layout::limits::PRODUCTION_LIMIT;
 use links::{link_users, link_uses};
+use span::LinkTables;
 use tables::{argument_counts, production_count, row_count};
 
 // Where the parts stand, the users first.
@@ -58,9 +58,9 @@ fn prepare_by_counts(counts: &[u8], tables: &[u64], prepared: &mut [u8])
     let mut empty = zero_row();
     let mut back = zero_row();
     settle_by_links(counts, tables, prepared, &mut back, &mut empty);
-    put(prepared, COUNTS_AT, counts);
-    put(prepared, EMPTY_AT, &empty);
-    put(prepared, BACK_AT, &back);
+    prepared[COUNTS_AT..COUNTS_AT + counts.len()].copy_from_slice(counts);
+    prepared[EMPTY_AT..BACK_AT].copy_from_slice(&empty);
+    prepared[BACK_AT..PREPARED].copy_from_slice(&back);
 }
 
 // The users and the uses.
@@ -82,24 +82,11 @@ fn settle_by_links(counts: &[u8], tables: &[u64], linked: &[u8], back: &mut [u8]
     requires all_zero { AllZero row_limit back.old × AllZero row_limit empty.old }
     ensures { EmptyRight (theory_of tables.now) empty.new back.new }
 {
-    settle_empty(
+    let links = LinkTables {
         counts,
-        row_count(tables),
-        &linked[..USES_AT],
-        &linked[USES_AT..COUNTS_AT],
-        back,
-        empty,
-    );
-}
-
-// Copies bytes to a place.
-fn put(out: &mut [u8], at: usize, bytes: &[u8])
-    requires { at + length bytes.now ≤ length out.old }
-    ensures { out.new ≡ sets out.old at bytes.now }
-{
-    let mut k = 0;
-    while k < bytes.len() {
-        out[at + k] = bytes[k];
-        k += 1;
-    }
+        rows: row_count(tables),
+        users: &linked[..USES_AT],
+        uses: &linked[USES_AT..COUNTS_AT],
+    };
+    settle_empty(&links, back, empty);
 }

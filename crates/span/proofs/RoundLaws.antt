@@ -1,19 +1,19 @@
 -- Visits one after the other, and rounds of them until no count rises.
 use Prim.Native.Nat.{ℕ, ◌+◌, ◌*◌, ◌≤◌, ◌<◌}
-use mathlib.Core.Path.{◌≡◌, refl, ◌∙◌, ap}
+use mathlib.Core.Path.{◌≡◌, refl, ap}
 use mathlib.Core.Bool.{Bool, false, true, ◌||◌, true≢false}
 use mathlib.Core.List.{List}
 use mathlib.Core.Logic.{by_cases}
 use native.Mathlib.Omega.{arith}
 use native.Mathlib.Decide.{dec_lt}
-use lib.ListN.{length, get_or, replicate, get_or-replicate}
+use lib.ListN.{get_or, replicate, get_or-replicate}
 use Rattle.chart.proofs.LayoutLaws.{row_next}
 use Rattle.chart.specs.Layout.{row_of}
 use Rattle.common.proofs.BoolLaws.{or_first_false, or_second_false}
 use Rattle.common.specs.Below.{sum_below, bit_of}
 use Rattle.span.proofs.SpanLaws.{raised_join}
 use Rattle.span.specs.Span.{Span, Raised, as_before, spare}
-use Rattle.span.specs.Tables.{span_of, Loads, Exact, Founded, Resting, Visited, Settled}
+use Rattle.span.specs.Tables.{span_of, Exact, Resting, Visited}
 
 -- ---- visits
 
@@ -51,15 +51,6 @@ pub base_next : (arity : ℕ → ℕ) (q base n : ℕ) → base ≡ row_of arity
 unfolding row_of
 base_next arity q base n e f = omega (arith, e, f, row_next arity q)
 
--- what visits need holds again after them
-pub loads_kept : {inner front back args x : List ℕ} (args' x' : List ℕ) → Loads inner front back args x → length args' ≡ length args → length x' ≡ length x → Loads inner front back args' x'
-loads_kept args' x' l e f = record { inner_long = l.inner_long; front_long = l.front_long; back_long = l.back_long; args_long = e ∙ l.args_long; cells_long = f ∙ l.cells_long }
-
-pub founded_kept : {counts users inner front back args x args' x' : List ℕ} → Founded counts users inner front back args x
-    → ((bare : ℕ → ℕ) → Exact (span_of counts users inner front back bare) x args → ((r : ℕ) → get_or x' r 0 ≤ 2) × Exact (span_of counts users inner front back bare) x' args')
-    → Founded counts users inner front back args' x'
-founded_kept f v = let w = v f.bare f.agree in record { bare = f.bare; little = f.little; small = w.0; agree = w.1 }
-
 -- ---- rounds
 
 -- Between two rounds the cells x came about from x₀, and what is not pending is closed. If no count rose, nothing is pending.
@@ -92,10 +83,6 @@ settling_next g v =
       resting = v.rests g.resting;
       calm = λ e p l. v.done e p (omega arith) l;
     }
-
--- in the end all productions are closed
-pub settling_last : {s : Span} {x₀ pending args x : List ℕ} {rose : Bool} → rose ≡ false → Settling s x₀ pending args x rose → Settled s x₀ args x
-settling_last e g = record { agree = g.agree; came = g.came; closed_all = λ p l. g.resting.rest p l (g.calm e p l) }
 
 -- each round but the last leaves less to spare, whatever the characters count for
 pub settling_less : (counts users inner front back : List ℕ) (bare : ℕ → ℕ) (x x' : List ℕ) (rose₀ rose : Bool) → rose₀ ≡ true

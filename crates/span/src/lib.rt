@@ -15,8 +15,20 @@ ghost use Rattle.common.specs.Bytes.{byte_values};
 
 use chart::cells::ROW_LIMIT;
 use chart::sums::{capped, larger};
-use common::{either, wide};
+use common::wide;
 use layout::limits::PRODUCTION_LIMIT;
+
+// The tables of a grammar: how many arguments each production has, how many rows there are, which rows take a production as their next argument, and
+// which productions have such a row.
+#[derive(Clone, Copy)]
+pub struct LinkTables<'a> {
+    pub counts: &'a [u8],
+    pub rows: usize,
+    pub users: &'a [u8],
+    pub uses: &'a [u8],
+    pub ghost linked: { Links counts.now users.now uses.now },
+    pub ghost all_rows: { rows ≡ row_count (arity_in counts.now) (length counts.now) },
+}
 
 // What the equation of a cell gives: the inner splits, the split at the start, and the split at the end.
 fn step(inner: u8, front: u8, argument: u8, prefix: u8, back: u8) -> u8
@@ -39,8 +51,7 @@ fn advance(
     requires arity_bound { base + arity < row_limit }
     ensures { cells.new ≡ advanced inner.now front.now back.now args.now base arity cells.old }
 {
-    let mut d = 0;
-    while d < arity {
+    for d in 0..arity {
         cells[base + d + 1] = larger(
             cells[base + d + 1],
             step(
@@ -51,7 +62,6 @@ fn advance(
                 back[base + d],
             ),
         );
-        d += 1;
     }
 }
 
@@ -62,10 +72,8 @@ pub fn spread(args: &mut [u8], users: &[u8], rows: usize, by: u8)
     requires by_index { (r : ℕ) → r < row_limit → get_or args.old r 0 + by * get_or users.now r 0 < byte_values }
     ensures { (r : ℕ) → r < row_limit → get_or args.new r 0 ≡ get_or args.old r 0 + by * get_or users.now r 0 }
 {
-    let mut r = 0;
-    while r < rows {
-        args[r] = args[r] + by * users[r];
-        r += 1;
+    for r in 0..rows {
+        args[r] += by * users[r];
     }
 }
 
@@ -74,19 +82,14 @@ fn mark(pending: &mut [u8], uses: &[u8])
     requires { (length pending.old ≡ production_limit) × (length uses.now ≡ production_limit) }
     ensures { (p : ℕ) → p < production_limit → get_or pending.new p 0 ≡ max (get_or pending.old p 0) (get_or uses.now p 0) }
 {
-    let mut p = 0;
-    while p < PRODUCTION_LIMIT {
+    for p in 0..PRODUCTION_LIMIT {
         pending[p] = larger(pending[p], uses[p]);
-        p += 1;
     }
 }
 
 // Looks at production q, whose rows begin at `base`, if it is pending: true if its count rose.
 fn visit(
-    counts: &[u8],
-    rows: usize,
-    users: &[u8],
-    uses: &[u8],
+    links: &LinkTables,
     inner: &[u8],
     front: &[u8],
     back: &[u8],
@@ -96,42 +99,38 @@ fn visit(
     q: usize,
     base: usize,
 ) -> bool
-    requires links { Links counts.now users.now uses.now }
     requires loads { Loads inner.now front.now back.now args.old cells.old }
-    requires founded { Founded counts.now users.now inner.now front.now back.now args.old cells.old }
-    requires pending_len { (length pending.old ≡ production_limit) × (rows ≡ row_count (arity_in counts.now) (length counts.now)) }
-    requires q_in_bounds { (q < length counts.now) × (base ≡ row_of (arity_in counts.now) q 0) }
-    ensures { (bare : ℕ → ℕ) → Exact (span_of counts.now users.now inner.now front.now back.now bare) cells.old args.old → Visited (span_of counts.now users.now inner.now front.now back.now bare) q (q + 1) pending.old args.old cells.old pending.new args.new cells.new result }
+    requires founded { Founded links.now.counts.now links.now.users.now inner.now front.now back.now args.old cells.old }
+    requires pending_len { length pending.old ≡ production_limit }
+    requires q_in_bounds { (q < length links.now.counts.now) × (base ≡ row_of (arity_in links.now.counts.now) q 0) }
+    ensures { (bare : ℕ → ℕ) → Exact (span_of links.now.counts.now links.now.users.now inner.now front.now back.now bare) cells.old args.old → Visited (span_of links.now.counts.now links.now.users.now inner.now front.now back.now bare) q (q + 1) pending.old args.old cells.old pending.new args.new cells.new result }
 {
     if pending[q] == 0 {
         return false;
     }
     pending[q] = 0;
-    let whole = base + wide(counts[q]);
+    let whole = base + wide(links.counts[q]);
     let before = cells[whole];
-    advance(inner, front, back, args, cells, base, wide(counts[q]));
+    advance(inner, front, back, args, cells, base, wide(links.counts[q]));
     if cells[whole] == before {
         return false;
     }
     spread(
         args,
-        &users[q * ROW_LIMIT..(q + 1) * ROW_LIMIT],
-        rows,
+        &links.users[q * ROW_LIMIT..(q + 1) * ROW_LIMIT],
+        links.rows,
         cells[whole] - before,
     );
     mark(
         pending,
-        &uses[q * PRODUCTION_LIMIT..(q + 1) * PRODUCTION_LIMIT],
+        &links.uses[q * PRODUCTION_LIMIT..(q + 1) * PRODUCTION_LIMIT],
     );
     true
 }
 
 // Looks at every pending production once: true if a count rose.
 fn round(
-    counts: &[u8],
-    rows: usize,
-    users: &[u8],
-    uses: &[u8],
+    links: &LinkTables,
     inner: &[u8],
     front: &[u8],
     back: &[u8],
@@ -139,58 +138,36 @@ fn round(
     args: &mut [u8],
     cells: &mut [u8],
 ) -> bool
-    requires links { Links counts.now users.now uses.now }
     requires loads { Loads inner.now front.now back.now args.old cells.old }
-    requires founded { Founded counts.now users.now inner.now front.now back.now args.old cells.old }
-    requires pending_len { (length pending.old ≡ production_limit) × (rows ≡ row_count (arity_in counts.now) (length counts.now)) }
-    ensures { (bare : ℕ → ℕ) → Exact (span_of counts.now users.now inner.now front.now back.now bare) cells.old args.old → Visited (span_of counts.now users.now inner.now front.now back.now bare) 0 (length counts.now) pending.old args.old cells.old pending.new args.new cells.new result }
+    requires founded { Founded links.now.counts.now links.now.users.now inner.now front.now back.now args.old cells.old }
+    requires pending_len { length pending.old ≡ production_limit }
+    ensures { (bare : ℕ → ℕ) → Exact (span_of links.now.counts.now links.now.users.now inner.now front.now back.now bare) cells.old args.old → Visited (span_of links.now.counts.now links.now.users.now inner.now front.now back.now bare) 0 (length links.now.counts.now) pending.old args.old cells.old pending.new args.new cells.new result }
 {
     let mut rose = false;
     let mut base = 0;
-    let mut q = 0;
-    while q < counts.len() {
-        let here = visit(
-            counts, rows, users, uses, inner, front, back, pending, args, cells, q, base,
-        );
-        rose = either(rose, here);
-        base += wide(counts[q]) + 1;
-        q += 1;
+    for (q, count) in links.counts.iter().enumerate() {
+        rose |= visit(links, inner, front, back, pending, args, cells, q, base);
+        base += wide(*count) + 1;
     }
     rose
 }
 
 // Raises the cells until each production is closed.
 pub fn settle(
-    counts: &[u8],
-    rows: usize,
-    users: &[u8],
-    uses: &[u8],
+    links: &LinkTables,
     inner: &[u8],
     front: &[u8],
     back: &[u8],
     args: &mut [u8],
     cells: &mut [u8],
 )
-    requires links { Links counts.now users.now uses.now }
     requires loads { Loads inner.now front.now back.now args.old cells.old }
-    requires founded { Founded counts.now users.now inner.now front.now back.now args.old cells.old }
-    requires rows_value { rows ≡ row_count (arity_in counts.now) (length counts.now) }
-    ensures { (bare : ℕ → ℕ) → Exact (span_of counts.now users.now inner.now front.now back.now bare) cells.old args.old → Settled (span_of counts.now users.now inner.now front.now back.now bare) cells.old args.new cells.new }
+    requires founded { Founded links.now.counts.now links.now.users.now inner.now front.now back.now args.old cells.old }
+    ensures { (bare : ℕ → ℕ) → Exact (span_of links.now.counts.now links.now.users.now inner.now front.now back.now bare) cells.old args.old → Settled (span_of links.now.counts.now links.now.users.now inner.now front.now back.now bare) cells.old args.new cells.new }
 {
     let mut pending = [1; PRODUCTION_LIMIT];
     let mut rose = true;
     while rose {
-        rose = round(
-            counts,
-            rows,
-            users,
-            uses,
-            inner,
-            front,
-            back,
-            &mut pending,
-            args,
-            cells,
-        );
+        rose = round(links, inner, front, back, &mut pending, args, cells);
     }
 }

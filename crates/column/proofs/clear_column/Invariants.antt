@@ -1,10 +1,6 @@
 -- `clear_column` meets its contract: the rows below r are cleared.
-use Prim.Native.Nat.{◌-◌, ◌≤◌}
 use Rattle.column.specs.Sums.{ColumnCleared}
 use Rattle.column.proofs.clear_column.Given as goal
 
 abbrev pub invariant-loop-r : goal.invariant-loop-r
-invariant-loop-r l = ColumnCleared l.n l.r l.j l.initial.chart l.chart × (l.r ≤ l.rows)
-
-abbrev pub decreases-loop-r : goal.decreases-loop-r
-decreases-loop-r l = l.rows - l.r
+invariant-loop-r l = ColumnCleared l.n l.r l.j l.initial.chart l.chart

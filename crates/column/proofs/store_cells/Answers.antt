@@ -1,13 +1,12 @@
 -- `store_cells` meets its contract: the cells of the rows below r are written.
 use Prim.Native.Nat.{ℕ, ◌+◌, ◌*◌, ◌≤◌, ◌<◌}
-use mathlib.Core.Path.{◌≡◌, subst, subst⁻¹}
+use mathlib.Core.Path.{◌≡◌, subst⁻¹}
 use mathlib.Core.List.{List}
 use native.Mathlib.Omega.{arith}
-use native.Mathlib.Nat.{mul-le-mul_right}
 use lib.ListN.{length, get_or, set}
 use Rattle.chart.specs.Layout.{span_count}
 use Rattle.chart.proofs.ByEndsLaws.{place_below, place_same}
-use Rattle.column.proofs.ScatteredLaws.{scattered_none, scattered_more}
+use Rattle.column.proofs.ScatteredLaws.{scattered_more}
 use Rattle.chart.specs.ByEnds.{place_at}
 use Rattle.column.specs.Scattered.{Scattered}
 use Rattle.column.proofs.store_cells.Goals as goal
@@ -20,22 +19,7 @@ row_stored n i j rows r cells l₀ l l' ij jn few room e s =
     let found : place_at n r i j < length l₀ = omega (arith, place_below n r rows i j few ij jn) in
     subst⁻¹ (λ (x : List ℕ). Scattered (λ (k : ℕ). place_at n k i j) (λ (k : ℕ). get_or cells k 0) (r + 1) l₀ x) e (scattered_more (λ (k : ℕ). place_at n k i j) (λ (k : ℕ). get_or cells k 0) l₀ r l apart found s)
 
-pub loop-r-init : goal.loop-r-init
-loop-r-init c = (scattered_none (λ (k : ℕ). place_at c.args.n k c.args.i c.args.j) (λ (k : ℕ). get_or c.args.cells.now k 0) c.args.chart.now, omega arith)
-
-pub store-requires : goal.store-requires
-store-requires c = record { n_le_text_limit = (omega arith, omega arith, omega arith, omega arith); n_in_bounds = omega (arith, c.loop-r.invariant.0.long, mul-le-mul_right {m = c.loop-r.r + 1} {n = c.args.rows} (span_count c.args.n) (omega arith)) }
-
 pub loop-r-preserved : goal.loop-r-preserved
 loop-r-preserved c =
     let a = c.args in
-    (row_stored a.n a.i a.j a.rows c.loop-r.r a.cells.now a.chart.now c.loop-r.chart c.store.new.chart (omega arith) (omega arith) (omega arith) (omega arith) c.store.ensures c.loop-r.invariant.0, omega arith)
-
-pub shape_of-chart : goal.shape_of-chart
-shape_of-chart c = c.loop-r.invariant.0.long
-
-pub returns : goal.returns
-returns c =
-    let a = c.args in
-    let e : c.loop-r.r ≡ a.rows = omega arith in
-    subst (λ (n : ℕ). Scattered (λ (k : ℕ). place_at a.n k a.i a.j) (λ (k : ℕ). get_or a.cells.now k 0) n a.chart.now c.loop-r.chart) e c.loop-r.invariant.0
+    row_stored a.n a.i a.j a.rows c.loop-r.r a.cells.now a.chart.now c.loop-r.chart c.store.new.chart (omega arith) (omega arith) (omega arith) (omega arith) c.store.ensures c.loop-r.invariant

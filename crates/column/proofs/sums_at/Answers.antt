@@ -4,23 +4,14 @@ use mathlib.Core.Path.{refl}
 use native.Mathlib.Omega.{arith}
 use lib.ListN.{get_or}
 use Rattle.chart.specs.Layout.{places}
-use Rattle.common.proofs.FillLaws.{filled_none, filled_more}
+use Rattle.common.proofs.FillLaws.{filled_more}
 use Rattle.column.proofs.sums_at.Invariants.{Sum}
 use Rattle.column.proofs.sums_at.Goals as goal
 
-pub loop-r-init : goal.loop-r-init
-loop-r-init c = (filled_none (Sum c.args.sums.now c.args.i) 0 c.args.out.now, omega arith)
-
-pub bounds-out-r : goal.bounds-out-r
-bounds-out-r c = omega (arith, c.loop-r.invariant.0.long)
-
 pub loop-r-preserved : goal.loop-r-preserved
 unfolding Sum
-loop-r-preserved c = (filled_more (Sum c.args.sums.now c.args.i) 0 c.args.out.now c.loop-r.r c.loop-r.out (get_or c.args.sums.now (c.loop-r.r * places + c.args.i) 0) (omega arith) c.loop-r.invariant.0 refl, omega arith)
-
-pub shape_of-out : goal.shape_of-out
-shape_of-out c = c.loop-r.invariant.0.long
+loop-r-preserved c = filled_more (Sum c.args.sums.now c.args.i) 0 c.args.out.now c.loop-r.r c.loop-r.out (get_or c.args.sums.now (c.loop-r.r * places + c.args.i) 0) (omega arith) c.loop-r.invariant refl
 
 pub returns : goal.returns
 unfolding Sum
-returns c = (λ r l. c.loop-r.invariant.0.done r (omega arith), λ r l. c.loop-r.invariant.0.rest r (omega arith))
+returns c = (λ r l. c.loop-r.invariant.done r (omega arith), λ r l. c.loop-r.invariant.rest r (omega arith))

@@ -1,8 +1,6 @@
 -- `begin` meets its contract: the productions below p have their 1, and p's rows begin at `base`.
-use mathlib.Core.Path.{◌≡◌, sym, ◌∙◌}
 use native.Mathlib.Omega.{arith}
 use native.Mathlib.Nat.{le_refl}
-use lib.ListN.{length}
 use Rattle.chart.specs.Layout.{row_of}
 use Rattle.tables.specs.Layout.{arity_in}
 use Rattle.empty.proofs.BeginLaws.{begun_none, begun_fits, begun_more}
@@ -12,47 +10,23 @@ use Rattle.span.proofs.TableLaws.{part_outside}
 use Rattle.empty.proofs.begin.Goals as goal
 
 pub loop-p-init : goal.loop-p-init
-loop-p-init c = (begun_none c.args.counts.now c.args.users.now c.args.args.now c.args.cells.now c.requires.all_zero.0 c.requires.all_zero.1, base_first (arity_in c.args.counts.now), omega arith)
+loop-p-init c = (begun_none c.args.links.now.counts.now c.args.links.now.users.now c.args.args.now c.args.cells.now c.requires.0 c.requires.1, base_first (arity_in c.args.links.now.counts.now))
 
 pub bounds-cells-base : goal.bounds-cells-base
-bounds-cells-base c = omega (arith, row_room c.requires.by_index.1 c.loop-p.p 0 c.loop-p-test.true (omega arith), c.loop-p.invariant.1, c.loop-p.invariant.0.cells_long)
-
-pub overflow_mul-p : goal.overflow_mul-p
-overflow_mul-p c = omega (arith, c.requires.by_index.1.few_productions)
-
-pub overflow_add-p : goal.overflow_add-p
-overflow_add-p c = omega (arith, c.requires.by_index.1.few_productions)
-
-pub overflow_mul-p-in-loop-p : goal.overflow_mul-p-in-loop-p
-overflow_mul-p-in-loop-p c = omega (arith, c.requires.by_index.1.few_productions)
-
-pub slice_bounds-spread-end : goal.slice_bounds-spread-end
-slice_bounds-spread-end c = omega (arith, c.requires.by_index.1.users_long, c.requires.by_index.1.few_productions)
+bounds-cells-base c = omega (arith, row_room c.args.links.now.linked c.loop-p.p 0 c.loop-p-test.true (omega arith), c.loop-p.invariant.1, c.loop-p.invariant.0.cells_long)
 
 pub spread-requires : goal.spread-requires
-spread-requires c = record { args_len = (c.loop-p.invariant.0.args_long, omega arith); rows_le_row_limit = part_outside c.requires.by_index.1 c.loop-p.p c.args.rows c.loop-p-test.true c.requires.all_zero.2; by_index = begun_fits c.requires.by_index.1 c.loop-p-test.true c.loop-p.invariant.0 }
+spread-requires c = record { args_len = (c.loop-p.invariant.0.args_long, omega arith); rows_le_row_limit = part_outside c.args.links.now.linked c.loop-p.p c.args.links.now.rows c.loop-p-test.true c.args.links.now.all_rows; by_index = begun_fits c.args.links.now.linked c.loop-p-test.true c.loop-p.invariant.0 }
 
 pub overflow_add-base : goal.overflow_add-base
-overflow_add-base c = omega (arith, c.requires.by_index.1.few_arguments c.loop-p.p, c.wide.ensures)
+overflow_add-base c = omega (arith, c.args.links.now.linked.few_arguments c.loop-p.p, c.wide.ensures)
 
 pub overflow_add-base-in-loop-p : goal.overflow_add-base-in-loop-p
 unfolding row_of
-overflow_add-base-in-loop-p c = omega (arith, row_room c.requires.by_index.1 c.loop-p.p (arity_in c.args.counts.now c.loop-p.p) c.loop-p-test.true (le_refl _), c.loop-p.invariant.1, c.wide.ensures)
-
-pub overflow_add-p-in-loop-p : goal.overflow_add-p-in-loop-p
-overflow_add-p-in-loop-p c = omega (arith, c.requires.by_index.1.few_productions)
+overflow_add-base-in-loop-p c = omega (arith, row_room c.args.links.now.linked c.loop-p.p (arity_in c.args.links.now.counts.now c.loop-p.p) c.loop-p-test.true (le_refl _), c.loop-p.invariant.1, c.wide.ensures)
 
 pub loop-p-preserved : goal.loop-p-preserved
 loop-p-preserved c =
-    let p = c.requires.by_index.1 in
+    let p = c.args.links.now.linked in
     let h = c.loop-p in
-    (begun_more p c.loop-p-test.true h.invariant.0 h.base _ h.invariant.1 c.args-1.given c.spread.ensures, base_next (arity_in c.args.counts.now) h.p h.base c.wide.result h.invariant.1 c.wide.ensures, omega arith)
-
-pub shape_of-args : goal.shape_of-args
-shape_of-args c = c.loop-p.invariant.0.args_long ∙ sym c.requires.all_zero.0.long
-
-pub shape_of-cells : goal.shape_of-cells
-shape_of-cells c = c.loop-p.invariant.0.cells_long ∙ sym c.requires.all_zero.1.long
-
-pub returns : goal.returns
-returns c = let e : c.loop-p.p ≡ length c.args.counts.now = omega arith in rw (← e) c.loop-p.invariant.0
+    (begun_more p c.loop-p-test.true h.invariant.0 h.base _ h.invariant.1 c.args-1.given c.spread.ensures, base_next (arity_in c.args.links.now.counts.now) h.p h.base c.wide.result h.invariant.1 c.wide.ensures)

@@ -7,7 +7,7 @@ use Rattle.span.specs.Span.{spare}
 use Rattle.empty.proofs.settle_empty.Given as goal
 
 abbrev pub invariant-loop-changed : goal.invariant-loop-changed
-invariant-loop-changed l = Turning l.counts l.users l.args l.cells l.back l.changed
+invariant-loop-changed l = Turning l.links.counts.now l.links.users.now l.args l.cells l.back l.changed
 
 abbrev pub decreases-loop-changed : goal.decreases-loop-changed
-decreases-loop-changed l = 2 * spare (empty_span l.counts l.users) l.cells + bit_of l.changed
+decreases-loop-changed l = 2 * spare (empty_span l.links.counts.now l.links.users.now) l.cells + bit_of l.changed

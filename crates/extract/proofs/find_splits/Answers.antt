@@ -8,8 +8,8 @@ use Rattle.extract.specs.Places.{cell_of}
 use Rattle.levels.specs.Levels.{end_count}
 use Rattle.extract.proofs.find_splits.Goals as goal
 
-pub argument_count-d-requires : goal.argument_count-d-requires
-argument_count-d-requires c =
+pub argument_count-arity-requires : goal.argument_count-arity-requires
+argument_count-arity-requires c =
     let start = c in
     (start.requires.walkable.fits.tables, start.requires.p_in_bounds.0)
 
@@ -21,12 +21,12 @@ narrow-requires c =
 pub bounds-ends-d : goal.bounds-ends-d
 bounds-ends-d c =
     let start = c in
-    omega (arith, c.argument_count-d.ensures, start.requires.walkable.fits.tables.few_arguments start.args.p)
+    omega (arith, c.argument_count-arity.ensures, start.requires.walkable.fits.tables.few_arguments start.args.p)
 
 pub loop-d-init : goal.loop-d-init
 loop-d-init c =
     let start = c in
-    splits_last start.args.tables.now start.args.text.now start.args.chart.now start.args.p start.args.i start.args.j c.argument_count-d.result c.narrow.result (replicate end_count 0) refl c.argument_count-d.ensures (omega (arith, c.argument_count-d.ensures, start.requires.walkable.fits.tables.few_arguments start.args.p)) c.narrow.ensures start.requires.p_in_bounds.1 start.requires.p_in_bounds.2 start.requires.bound
+    splits_last start.args.tables.now start.args.text.now start.args.chart.now start.args.p start.args.i start.args.j c.argument_count-arity.result c.narrow.result (replicate end_count 0) refl c.argument_count-arity.ensures (omega (arith, c.argument_count-arity.ensures, start.requires.walkable.fits.tables.few_arguments start.args.p)) c.narrow.ensures start.requires.p_in_bounds.1 start.requires.p_in_bounds.2 start.requires.bound
 
 pub overflow_add-d : goal.overflow_add-d
 overflow_add-d c =
@@ -47,11 +47,6 @@ find_split-requires c = let start = c in
 
 pub narrow-requires-in-loop-d : goal.narrow-requires-in-loop-d
 narrow-requires-in-loop-d c = omega (arith, c.find_split.ensures.1, c.wide.ensures, (splits_back c.loop-d.invariant (omega arith)).high, c.requires.walkable.fits.short)
-
-pub bounds-ends-d-in-loop-d-2 : goal.bounds-ends-d-in-loop-d-2
-bounds-ends-d-in-loop-d-2 c =
-    let start = c in
-    omega (arith, c.loop-d.invariant.few, start.requires.walkable.fits.tables.few_arguments start.args.p)
 
 pub loop-d-preserved : goal.loop-d-preserved
 loop-d-preserved c =

@@ -4,6 +4,3 @@ use Rattle.extract.proofs.find_splits.Given as goal
 
 abbrev pub invariant-loop-d : goal.invariant-loop-d
 invariant-loop-d l = SplitsLeft l.tables l.text l.chart l.p l.i l.j l.d l.ends
-
-abbrev pub decreases-loop-d : goal.decreases-loop-d
-decreases-loop-d l = l.d

@@ -11,7 +11,7 @@ pub production_count-count-requires : goal.production_count-count-requires
 production_count-count-requires c = c.requires.walkable.fits.tables
 
 pub loop-q-init : goal.loop-q-init
-loop-q-init c = (omega arith, λ k l v. absurd (omega arith))
+loop-q-init c = λ k l v. absurd (omega arith)
 
 pub child_fits-requires : goal.child_fits-requires
 child_fits-requires c = let start = c in
@@ -21,13 +21,13 @@ pub returns-then-child_fits : goal.returns-then-child_fits
 returns-then-child_fits c =
     let start = c in
     let turn = c.loop-q in
-    record { within = omega arith; stands = λ l. child_found (takes_production start.args.tables.now (slot start.args.p start.args.d) turn.q) (cell_of start.args.tables.now start.args.text.now start.args.chart.now turn.q (arity_in (counts_of start.args.tables.now) turn.q) start.args.m start.args.j) (sym c.child_fits.ensures ∙ c.if-child_fits.true); skipped = λ k l e v. turn.invariant.1 k l (e, v) }
+    record { within = omega arith; stands = λ l. child_found (takes_production start.args.tables.now (slot start.args.p start.args.d) turn.q) (cell_of start.args.tables.now start.args.text.now start.args.chart.now turn.q (arity_in (counts_of start.args.tables.now) turn.q) start.args.m start.args.j) (sym c.child_fits.ensures ∙ c.if-child_fits.true); skipped = λ k l e v. turn.invariant k l (e, v) }
 
 pub loop-q-preserved : goal.loop-q-preserved
 loop-q-preserved c =
     let start = c in
     let turn = c.loop-q in
-    (omega arith, below_more _ _ turn.invariant.1 (λ v. child_lost (takes_production start.args.tables.now (slot start.args.p start.args.d) turn.q) (cell_of start.args.tables.now start.args.text.now start.args.chart.now turn.q (arity_in (counts_of start.args.tables.now) turn.q) start.args.m start.args.j) (sym c.child_fits.ensures ∙ c.if-child_fits.false) v))
+    below_more _ _ turn.invariant (λ v. child_lost (takes_production start.args.tables.now (slot start.args.p start.args.d) turn.q) (cell_of start.args.tables.now start.args.text.now start.args.chart.now turn.q (arity_in (counts_of start.args.tables.now) turn.q) start.args.m start.args.j) (sym c.child_fits.ensures ∙ c.if-child_fits.false) v)
 
 pub returns : goal.returns
-returns c = record { within = c.loop-q.invariant.0; stands = λ l. absurd (omega arith); skipped = λ k l e v. c.loop-q.invariant.1 k l (e, v) }
+returns c = record { within = omega arith; stands = λ l. absurd (omega arith); skipped = λ k l e v. c.loop-q.invariant k (omega arith) (e, v) }

@@ -7,6 +7,3 @@ use Rattle.fill.proofs.fill_spans.Given as goal
 
 abbrev pub invariant-loop-i : goal.invariant-loop-i
 invariant-loop-i l = SpansDone l.tables l.prepared l.text l.initial.chart l.initial.sums l.initial.live l.j l.chart l.sums l.live l.i × (length l.inner ≡ row_limit)
-
-abbrev pub decreases-loop-i : goal.decreases-loop-i
-decreases-loop-i l = l.i

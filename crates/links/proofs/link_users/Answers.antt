@@ -1,32 +1,12 @@
 -- `link_users` meets its contract: the productions of the octets below k are linked.
-use Prim.Native.Nat.{ℕ, ◌+◌, ◌*◌, min, ◌≤◌}
-use mathlib.Core.Path.{◌≡◌, sym, ◌∙◌, subst, subst⁻¹}
-use native.Mathlib.Nat.{mul-le-mul_right}
+use Prim.Native.Nat.{ℕ, ◌+◌, ◌*◌, min}
+use mathlib.Core.Path.{◌≡◌, subst}
 use native.Mathlib.Omega.{arith}
 use lib.ListN.{length}
-use Rattle.chart.specs.Layout.{row_limit}
-use Rattle.layout.specs.Limits.{production_limit}
-use Rattle.links.proofs.LinkedLaws.{users_none, users_more}
+use Rattle.links.proofs.LinkedLaws.{users_more}
 use Rattle.links.specs.Linked.{UsersTo}
 use Rattle.tables.specs.Layout.{octet_bits}
 use Rattle.links.proofs.link_users.Goals as goal
-
-pub loop-k-init : goal.loop-k-init
-loop-k-init c =
-    let start = c in
-    let counts = start.args.counts.now in
-    let none : 0 ≡ min (0 * octet_bits) (length counts) = omega arith in
-    (subst (λ (n : ℕ). UsersTo counts start.args.tables.now n start.args.users.now) none (users_none counts start.args.tables.now start.args.users.now start.requires.all_zero), omega arith)
-
-pub row_octets-octets-requires : goal.row_octets-octets-requires
-row_octets-octets-requires c = record { counts_len_bound = c.requires.counts_len_bound; k_lt_production_octets = omega arith }
-
-pub turn_octets-requires : goal.turn_octets-requires
-turn_octets-requires c = let turn = c.loop-k in
-    let row-octets = c.row_octets-octets in
-    let count = c.at_most_octet-count.result in
-    let inside = mul-le-mul_right {m = turn.k * octet_bits + count} {n = production_limit} row_limit (omega arith) in
-    record { octets_in_bounds = subst⁻¹ (λ (n : ℕ). (turn.k * octet_bits + count) * n ≤ length turn.users) row-octets.ensures.long (omega (arith, turn.invariant.0.long, inside)); from_lt_production_limit = (omega arith, omega arith, omega (arith, row-octets.ensures.long)) }
 
 pub loop-k-preserved : goal.loop-k-preserved
 loop-k-preserved c =
@@ -35,19 +15,10 @@ loop-k-preserved c =
     let tables = start.args.tables.now in
     let turn = c.loop-k in
     let row-octets = c.row_octets-octets in
-    let count = c.at_most_octet-count.result in
+    let count = c.min-count.result in
     let turn-octets = c.turn_octets in
     let out = turn-octets.new.out in
     let before : min (turn.k * octet_bits) (length counts) ≡ turn.k * octet_bits = omega arith in
     let after : turn.k * octet_bits + count ≡ min ((turn.k + 1) * octet_bits) (length counts) = omega arith in
-    let more = users_more counts tables start.requires.counts_len_bound.0 start.requires.counts_len_bound.1 turn.k count (omega arith) row-octets.result turn.users out (subst (λ (n : ℕ). UsersTo counts tables n turn.users) before turn.invariant.0) row-octets.ensures turn-octets.ensures in
-    (subst (λ (n : ℕ). UsersTo counts tables n out) after more, omega arith)
-
-pub shape_of-users : goal.shape_of-users
-shape_of-users c = c.loop-k.invariant.0.long ∙ sym c.requires.all_zero.long
-
-pub returns : goal.returns
-returns c =
-    let start = c in
-    let all : min (c.loop-k.k * octet_bits) (length start.args.counts.now) ≡ length start.args.counts.now = omega arith in
-    subst (λ (n : ℕ). UsersTo start.args.counts.now start.args.tables.now n c.loop-k.users) all c.loop-k.invariant.0
+    let more = users_more counts tables start.requires.counts_len_bound.0 start.requires.counts_len_bound.1 turn.k count (omega arith) row-octets.result turn.users out (subst (λ (n : ℕ). UsersTo counts tables n turn.users) before turn.invariant) row-octets.ensures turn-octets.ensures in
+    subst (λ (n : ℕ). UsersTo counts tables n out) after more

@@ -1,31 +1,12 @@
 -- `link_uses` meets its contract: the productions of the octets below k are linked.
-use Prim.Native.Nat.{ℕ, ◌+◌, ◌*◌, min, ◌≤◌}
-use mathlib.Core.Path.{◌≡◌, sym, ◌∙◌, subst, subst⁻¹}
-use native.Mathlib.Nat.{mul-le-mul_right}
+use Prim.Native.Nat.{ℕ, ◌+◌, ◌*◌, min}
+use mathlib.Core.Path.{◌≡◌, subst}
 use native.Mathlib.Omega.{arith}
 use lib.ListN.{length}
-use Rattle.layout.specs.Limits.{production_limit}
-use Rattle.links.proofs.LinkedLaws.{uses_none, uses_more}
+use Rattle.links.proofs.LinkedLaws.{uses_more}
 use Rattle.links.specs.Linked.{UsesTo}
 use Rattle.tables.specs.Layout.{octet_bits}
 use Rattle.links.proofs.link_uses.Goals as goal
-
-pub loop-k-init : goal.loop-k-init
-loop-k-init c =
-    let start = c in
-    let counts = start.args.counts.now in
-    let none : 0 ≡ min (0 * octet_bits) (length counts) = omega arith in
-    (subst (λ (n : ℕ). UsesTo counts start.args.tables.now n start.args.uses.now) none (uses_none counts start.args.tables.now start.args.uses.now start.requires.uses_len), omega arith)
-
-pub used_octets-octets-requires : goal.used_octets-octets-requires
-used_octets-octets-requires c = record { counts_len_bound = c.requires.counts_len_bound; k_lt_production_octets = omega arith }
-
-pub turn_octets-requires : goal.turn_octets-requires
-turn_octets-requires c = let turn = c.loop-k in
-    let used-octets = c.used_octets-octets in
-    let count = c.at_most_octet-count.result in
-    let inside = mul-le-mul_right {m = turn.k * octet_bits + count} {n = production_limit} production_limit (omega arith) in
-    record { octets_in_bounds = subst⁻¹ (λ (n : ℕ). (turn.k * octet_bits + count) * n ≤ length turn.uses) used-octets.ensures.long (omega (arith, turn.invariant.0.long, inside)); from_lt_production_limit = (omega arith, omega arith, omega (arith, used-octets.ensures.long)) }
 
 pub loop-k-preserved : goal.loop-k-preserved
 loop-k-preserved c =
@@ -34,19 +15,10 @@ loop-k-preserved c =
     let tables = start.args.tables.now in
     let turn = c.loop-k in
     let used-octets = c.used_octets-octets in
-    let count = c.at_most_octet-count.result in
+    let count = c.min-count.result in
     let turn-octets = c.turn_octets in
     let out = turn-octets.new.out in
     let before : min (turn.k * octet_bits) (length counts) ≡ turn.k * octet_bits = omega arith in
     let after : turn.k * octet_bits + count ≡ min ((turn.k + 1) * octet_bits) (length counts) = omega arith in
-    let more = uses_more counts tables start.requires.counts_len_bound.0 start.requires.counts_len_bound.1 turn.k count (omega arith) used-octets.result turn.uses out (subst (λ (n : ℕ). UsesTo counts tables n turn.uses) before turn.invariant.0) used-octets.ensures turn-octets.ensures in
-    (subst (λ (n : ℕ). UsesTo counts tables n out) after more, omega arith)
-
-pub shape_of-uses : goal.shape_of-uses
-shape_of-uses c = c.loop-k.invariant.0.long ∙ sym c.requires.uses_len
-
-pub returns : goal.returns
-returns c =
-    let start = c in
-    let all : min (c.loop-k.k * octet_bits) (length start.args.counts.now) ≡ length start.args.counts.now = omega arith in
-    subst (λ (n : ℕ). UsesTo start.args.counts.now start.args.tables.now n c.loop-k.uses) all c.loop-k.invariant.0
+    let more = uses_more counts tables start.requires.counts_len_bound.0 start.requires.counts_len_bound.1 turn.k count (omega arith) used-octets.result turn.uses out (subst (λ (n : ℕ). UsesTo counts tables n turn.uses) before turn.invariant) used-octets.ensures turn-octets.ensures in
+    subst (λ (n : ℕ). UsesTo counts tables n out) after more

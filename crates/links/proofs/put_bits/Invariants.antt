@@ -1,8 +1,8 @@
 -- `put_bits` meets its contract: the bits of the octets below r are written.
-use Prim.Native.Nat.{ℕ, ◌-◌, ◌≤◌}
+use Prim.Native.Nat.{ℕ}
 use mathlib.Core.List.{List}
 use mathlib.Core.Path.{◌≡◌}
-use lib.ListN.{length, get_or}
+use lib.ListN.{get_or}
 use Rattle.charset.specs.Set.{bit}
 use Rattle.common.specs.Below.{bit_of}
 use Rattle.common.specs.Region.{Region}
@@ -12,7 +12,4 @@ unfoldable pub Entry : List ℕ → ℕ → ℕ → ℕ → Type 0
 Entry octets b r v = v ≡ bit_of (bit (get_or octets r 0) b)
 
 abbrev pub invariant-loop-r : goal.invariant-loop-r
-invariant-loop-r l = Region (Entry l.octets l.b) 0 l.at l.r l.initial.out l.out × (l.r ≤ length l.octets)
-
-abbrev pub decreases-loop-r : goal.decreases-loop-r
-decreases-loop-r l = length l.octets - l.r
+invariant-loop-r l = Region (Entry l.octets l.b) 0 l.at l.r l.initial.out l.out

@@ -1,10 +1,6 @@
 -- `turn_octets` meets its contract: the rows of the bits below b are written.
-use Prim.Native.Nat.{◌-◌, ◌≤◌}
 use Rattle.links.specs.Linked.{BitsTurned}
 use Rattle.links.proofs.turn_octets.Given as goal
 
 abbrev pub invariant-loop-b : goal.invariant-loop-b
-invariant-loop-b l = BitsTurned l.octets l.from l.b l.initial.out l.out × (l.b ≤ l.count)
-
-abbrev pub decreases-loop-b : goal.decreases-loop-b
-decreases-loop-b l = l.count - l.b
+invariant-loop-b l = BitsTurned l.octets l.from l.b l.initial.out l.out

@@ -1,31 +1,15 @@
 -- `used_octet` meets its contract: the arguments below d are joined.
 use Prim.Native.Nat.{ℕ, ◌+◌}
-use mathlib.Core.Path.{◌≡◌, sym, ap, subst}
-use native.Mathlib.Omega.{arith}
+use mathlib.Core.Path.{sym, ap, subst}
 use lib.Bits.{bit_or}
-use Rattle.links.proofs.LinkedLaws.{joined_none, joined_more}
+use Rattle.links.proofs.LinkedLaws.{joined_more}
 use Rattle.links.specs.Linked.{Joined}
 use Rattle.tables.specs.Layout.{slot}
 use Rattle.links.proofs.used_octet.Goals as goal
-
-pub loop-d-init : goal.loop-d-init
-loop-d-init c =
-    let start = c in
-    (joined_none start.args.tables.now start.args.p start.args.k 0, omega arith)
-
-pub class_octet-all-requires : goal.class_octet-all-requires
-class_octet-all-requires c =
-    let start = c in
-    (start.requires.tables_len.0, omega arith, start.requires.tables_len.1)
 
 pub loop-d-preserved : goal.loop-d-preserved
 unfolding slot
 loop-d-preserved c =
     let start = c in
     let turn = c.loop-d in
-    (subst (λ (v : ℕ). Joined start.args.tables.now start.args.p start.args.k (turn.d + 1) v) (ap (bit_or turn.all) (sym c.class_octet-all.ensures)) (joined_more start.args.tables.now start.args.p start.args.k turn.d turn.all turn.invariant.0), omega arith)
-
-pub returns : goal.returns
-returns c =
-    let start = c in
-    let e : c.loop-d.d ≡ start.args.arity = omega arith in subst (λ (n : ℕ). Joined start.args.tables.now start.args.p start.args.k n c.loop-d.all) e c.loop-d.invariant.0
+    subst (λ (v : ℕ). Joined start.args.tables.now start.args.p start.args.k (turn.d + 1) v) (ap (bit_or turn.all) (sym c.class_octet-all.ensures)) (joined_more start.args.tables.now start.args.p start.args.k turn.d turn.all turn.invariant)

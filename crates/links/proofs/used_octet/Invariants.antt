@@ -1,10 +1,6 @@
 -- `used_octet` meets its contract: the arguments below d are joined.
-use Prim.Native.Nat.{◌-◌, ◌≤◌}
 use Rattle.links.specs.Linked.{Joined}
 use Rattle.links.proofs.used_octet.Given as goal
 
 abbrev pub invariant-loop-d : goal.invariant-loop-d
-invariant-loop-d l = Joined l.tables l.p l.k l.d l.all × (l.d ≤ l.arity)
-
-abbrev pub decreases-loop-d : goal.decreases-loop-d
-decreases-loop-d l = l.arity - l.d
+invariant-loop-d l = Joined l.tables l.p l.k l.d l.all

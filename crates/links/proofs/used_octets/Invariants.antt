@@ -1,11 +1,6 @@
 -- `used_octets` meets its contract: the entries of the productions below p are written.
-use Prim.Native.Nat.{◌-◌, ◌≤◌}
-use lib.ListN.{length}
 use Rattle.links.specs.Linked.{UsedOctets}
 use Rattle.links.proofs.used_octets.Given as goal
 
 abbrev pub invariant-loop-p : goal.invariant-loop-p
-invariant-loop-p l = UsedOctets l.counts l.tables l.k l.p l.out × (l.p ≤ length l.counts)
-
-abbrev pub decreases-loop-p : goal.decreases-loop-p
-decreases-loop-p l = length l.counts - l.p
+invariant-loop-p l = UsedOctets l.counts l.tables l.k l.p l.out

@@ -1,5 +1,4 @@
 -- `advance` meets its contract: the cells are raised for the first d arguments.
-use Prim.Native.Nat.{◌-◌, ◌≤◌}
 use mathlib.Core.Path.{◌≡◌}
 use lib.ListN.{length}
 use Rattle.chart.specs.Layout.{row_limit}
@@ -7,7 +6,4 @@ use Rattle.span.specs.Tables.{advanced}
 use Rattle.span.proofs.advance.Given as goal
 
 abbrev pub invariant-loop-d : goal.invariant-loop-d
-invariant-loop-d l = (l.cells ≡ advanced l.inner l.front l.back l.args l.base l.d l.initial.cells) × (length l.cells ≡ row_limit) × (l.d ≤ l.arity)
-
-abbrev pub decreases-loop-d : goal.decreases-loop-d
-decreases-loop-d l = l.arity - l.d
+invariant-loop-d l = (l.cells ≡ advanced l.inner l.front l.back l.args l.base l.d l.initial.cells) × (length l.cells ≡ row_limit)

@@ -4,30 +4,18 @@ use mathlib.Core.Path.{◌∙◌, ap}
 use native.Mathlib.Omega.{arith}
 use native.Mathlib.Nat.{le_refl}
 use lib.ListN.{get_or}
-use Rattle.common.proofs.FillLaws.{filled_none, filled_more}
+use Rattle.common.proofs.FillLaws.{filled_more}
 use Rattle.span.proofs.mark.Invariants.{Marked}
 use Rattle.span.proofs.mark.Goals as goal
-
-pub loop-p-init : goal.loop-p-init
-loop-p-init c = (filled_none (Marked c.args.pending.now c.args.uses.now) 0 c.args.pending.now, omega arith)
-
-pub bounds-pending-p : goal.bounds-pending-p
-bounds-pending-p c = omega (arith, c.loop-p.invariant.0.long)
-
-pub bounds-pending-p-in-loop-p : goal.bounds-pending-p-in-loop-p
-bounds-pending-p-in-loop-p c = omega (arith, c.loop-p.invariant.0.long)
 
 pub loop-p-preserved : goal.loop-p-preserved
 unfolding Marked
 loop-p-preserved c =
     let now = c.loop-p in
     let a = c.args in
-    let old = now.invariant.0.rest now.p (le_refl _) in
-    (filled_more (Marked a.pending.now a.uses.now) 0 a.pending.now now.p now.pending _ (omega arith) now.invariant.0 (c.larger.ensures ∙ ap (λ (v : ℕ). max v (get_or a.uses.now now.p 0)) old), omega arith)
-
-pub shape_of-pending : goal.shape_of-pending
-shape_of-pending c = c.loop-p.invariant.0.long
+    let old = now.invariant.rest now.p (le_refl _) in
+    filled_more (Marked a.pending.now a.uses.now) 0 a.pending.now now.p now.pending _ (omega arith) now.invariant (c.larger.ensures ∙ ap (λ (v : ℕ). max v (get_or a.uses.now now.p 0)) old)
 
 pub returns : goal.returns
 unfolding Marked
-returns c p l = c.loop-p.invariant.0.done p (omega arith)
+returns c p l = c.loop-p.invariant.done p (omega arith)

@@ -11,10 +11,10 @@ use Rattle.span.proofs.settle.Given as goal
 
 abbrev pub invariant-loop-rose : goal.invariant-loop-rose
 invariant-loop-rose l =
-    ((bare : ℕ → ℕ) → Exact (span_of l.counts l.users l.inner l.front l.back bare) l.initial.cells l.initial.args → Settling (span_of l.counts l.users l.inner l.front l.back bare) l.initial.cells l.pending l.args l.cells l.rose)
+    ((bare : ℕ → ℕ) → Exact (span_of l.links.counts.now l.links.users.now l.inner l.front l.back bare) l.initial.cells l.initial.args → Settling (span_of l.links.counts.now l.links.users.now l.inner l.front l.back bare) l.initial.cells l.pending l.args l.cells l.rose)
     × (length l.pending ≡ production_limit)
     × (length l.args ≡ length l.initial.args)
     × (length l.cells ≡ length l.initial.cells)
 
 abbrev pub decreases-loop-rose : goal.decreases-loop-rose
-decreases-loop-rose l = 2 * spare (span_of l.counts l.users l.inner l.front l.back (λ r. 0)) l.cells + bit_of l.rose
+decreases-loop-rose l = 2 * spare (span_of l.links.counts.now l.links.users.now l.inner l.front l.back (λ r. 0)) l.cells + bit_of l.rose

@@ -6,35 +6,17 @@ use native.Mathlib.Omega.{arith}
 use native.Mathlib.Decide.{dec_lt}
 use native.Mathlib.Nat.{le_refl}
 use lib.ListN.{get_or}
-use Rattle.common.proofs.FillLaws.{filled_none, filled_more}
+use Rattle.common.proofs.FillLaws.{filled_more}
 use Rattle.span.proofs.spread.Invariants.{Risen}
 use Rattle.span.proofs.spread.Goals as goal
 
-pub loop-r-init : goal.loop-r-init
-loop-r-init c = (filled_none (Risen c.args.args.now c.args.users.now c.args.by) 0 c.args.args.now, omega arith)
-
-pub bounds-args-r : goal.bounds-args-r
-bounds-args-r c = omega (arith, c.loop-r.invariant.0.long)
-
-pub overflow_mul-args : goal.overflow_mul-args
-overflow_mul-args c = omega (arith, c.requires.by_index c.loop-r.r (omega arith))
-
-pub overflow_add-args : goal.overflow_add-args
-overflow_add-args c = omega (arith, c.requires.by_index c.loop-r.r (omega arith), c.loop-r.invariant.0.rest c.loop-r.r (le_refl _))
-
-pub bounds-args-r-in-loop-r : goal.bounds-args-r-in-loop-r
-bounds-args-r-in-loop-r c = omega (arith, c.loop-r.invariant.0.long)
-
 pub loop-r-preserved : goal.loop-r-preserved
 unfolding Risen
-loop-r-preserved c = (filled_more (Risen c.args.args.now c.args.users.now c.args.by) 0 c.args.args.now c.loop-r.r c.loop-r.args _ (omega arith) c.loop-r.invariant.0 (ap (λ (v : ℕ). v + c.args.by * get_or c.args.users.now c.loop-r.r 0) (c.loop-r.invariant.0.rest c.loop-r.r (le_refl _))), omega arith)
-
-pub shape_of-args : goal.shape_of-args
-shape_of-args c = c.loop-r.invariant.0.long
+loop-r-preserved c = filled_more (Risen c.args.args.now c.args.users.now c.args.by) 0 c.args.args.now c.loop-r.r c.loop-r.args _ (omega arith) c.loop-r.invariant (ap (λ (v : ℕ). v + c.args.by * get_or c.args.users.now c.loop-r.r 0) (c.loop-r.invariant.rest c.loop-r.r (le_refl _)))
 
 pub returns : goal.returns
 unfolding Risen
 returns c r l =
     by_cases (dec_lt r c.args.rows)
-    (λ h. c.loop-r.invariant.0.done r (omega arith))
-    (λ h. omega (arith, c.loop-r.invariant.0.rest r (omega arith), ap (λ (n : ℕ). c.args.by * n) (c.requires.rows_le_row_limit.1 r (omega arith) l)))
+    (λ h. c.loop-r.invariant.done r (omega arith))
+    (λ h. omega (arith, c.loop-r.invariant.rest r (omega arith), ap (λ (n : ℕ). c.args.by * n) (c.requires.rows_le_row_limit.1 r (omega arith) l)))

@@ -4,18 +4,10 @@ use mathlib.Core.Path.{◌≡◌, ◌∙◌, ap₂, subst}
 use native.Mathlib.Omega.{arith}
 use lib.ListN.{get_or}
 use Rattle.chart.proofs.ByEndsLaws.{place_in, place_few, place_next, product_small, cell_small, sum_made}
-use Rattle.common.proofs.RegionLaws.{front_more, region_none, region_more}
+use Rattle.common.proofs.RegionLaws.{front_more, region_more}
 use Rattle.common.specs.Region.{Region}
 use Rattle.chart.proofs.by_ends.add_row.Invariants.{Sum, Live}
 use Rattle.chart.proofs.by_ends.add_row.Goals as goal
-
-pub loop-k-init : goal.loop-k-init
-loop-k-init c =
-    let a = c.args in
-    (region_none (Sum a.chart.now a.sums.now a.n a.row a.m a.argument a.at) 0 a.at a.sums.now, region_none (Live a.chart.now a.sums.now a.live.now a.n a.row a.m a.argument a.at) 0 0 a.live.now, omega arith)
-
-pub bounds-sums-at : goal.bounds-sums-at
-bounds-sums-at c = omega (arith, c.loop-k.invariant.0.long)
 
 pub overflow_add-from : goal.overflow_add-from
 overflow_add-from c =
@@ -39,15 +31,6 @@ overflow_add-sums c =
     let small = cell_small a.chart.now a.n a.row a.m c.place_at-from.result c.loop-k.k c.place_at-from.ensures (c.requires.by_index.1 c.loop-k.k (omega arith)) in
     omega (arith, product_small (get_or a.chart.now (c.place_at-from.result + c.loop-k.k) 0) a.argument small c.requires.n_le_text_limit.3, c.loop-k.invariant.0.above (a.at + c.loop-k.k) (omega arith), c.requires.by_index.0 c.loop-k.k (omega arith))
 
-pub bounds-sums-at-in-loop-k : goal.bounds-sums-at-in-loop-k
-bounds-sums-at-in-loop-k c = omega (arith, c.loop-k.invariant.0.long)
-
-pub bounds-live-k : goal.bounds-live-k
-bounds-live-k c = omega (arith, c.loop-k.invariant.1.long)
-
-pub bounds-live-k-in-loop-k : goal.bounds-live-k-in-loop-k
-bounds-live-k-in-loop-k c = omega (arith, c.loop-k.invariant.1.long)
-
 pub loop-k-preserved : goal.loop-k-preserved
 unfolding Sum Live
 loop-k-preserved c =
@@ -57,14 +40,7 @@ loop-k-preserved c =
       region_more (Sum a.chart.now a.sums.now a.n a.row a.m a.argument a.at) 0 a.at a.sums.now c.loop-k.k c.loop-k.sums c.capped_byte-sum.result (omega arith) c.loop-k.invariant.0 made,
       front_more (Live a.chart.now a.sums.now a.live.now a.n a.row a.m a.argument a.at) c.loop-k.k a.live.now c.loop-k.live c.larger.result (omega arith) c.loop-k.invariant.1
           (c.larger.ensures ∙ ap₂ max (c.loop-k.invariant.1.above c.loop-k.k (omega arith)) made),
-      omega arith,
     )
-
-pub shape_of-sums : goal.shape_of-sums
-shape_of-sums c = c.loop-k.invariant.0.long
-
-pub shape_of-live : goal.shape_of-live
-shape_of-live c = c.loop-k.invariant.1.long
 
 pub returns : goal.returns
 unfolding Sum Live

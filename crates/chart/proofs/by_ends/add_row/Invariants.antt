@@ -1,5 +1,5 @@
 -- `add_row` meets its contract: the sums of the starts below k are new; those of later starts are read as they were at entry.
-use Prim.Native.Nat.{ℕ, ◌+◌, ◌-◌, ◌*◌, max, ◌≤◌}
+use Prim.Native.Nat.{ℕ, ◌+◌, ◌*◌, max}
 use mathlib.Core.Path.{◌≡◌}
 use mathlib.Core.List.{List}
 use lib.ListN.{get_or}
@@ -17,7 +17,4 @@ unfoldable pub Live : (chart sums live : List ℕ) (n row m arg at k v : ℕ) �
 Live chart sums live n row m arg at k v = v ≡ max (get_or live k 0) (cap (get_or sums (at + k) 0 + entry_at chart (place_at n row k m) * arg))
 
 abbrev pub invariant-loop-k : goal.invariant-loop-k
-invariant-loop-k l = Region (Sum l.chart l.initial.sums l.n l.row l.m l.argument l.at) 0 l.at l.k l.initial.sums l.sums × Region (Live l.chart l.initial.sums l.initial.live l.n l.row l.m l.argument l.at) 0 0 l.k l.initial.live l.live × (l.k ≤ l.m)
-
-abbrev pub decreases-loop-k : goal.decreases-loop-k
-decreases-loop-k l = l.m - l.k
+invariant-loop-k l = Region (Sum l.chart l.initial.sums l.n l.row l.m l.argument l.at) 0 l.at l.k l.initial.sums l.sums × Region (Live l.chart l.initial.sums l.initial.live l.n l.row l.m l.argument l.at) 0 0 l.k l.initial.live l.live
