@@ -5,4 +5,4 @@ use Rattle.charset.proofs.CharSet.contains.Goals as goal
 
 pub returns : goal.returns
 unfolding has bit
-returns c = refl
+returns c = rw c.from-at.ensures refl
