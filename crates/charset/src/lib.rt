@@ -2,7 +2,7 @@
 // (01, "The book": a class of characters is a set of bytes held as one record.)
 #![tactic(auto)]
 
-ghost use Rattle.std.specs.Prelude.{◌≡◌, Bool, false, ◌*◌, ◌||◌, ℕ, ◌+◌, ◌-◌, ◌/◌, ◌%◌, ◌<◌, ◌≤◌, min, length, get_or};
+ghost use Rattle.std.specs.Prelude.{◌≡◌, Bool, false, not, ◌&&◌, ◌*◌, ◌||◌, ℕ, ◌+◌, ◌-◌, ◌/◌, ◌%◌, ◌<◌, ◌≤◌, min, length, get_or};
 ghost use Rattle.charset.specs.Set.{characters, word_bits, set_words, bit, has, in_range, spans, same_set};
 ghost use Rattle.charset.specs.Runs.{runs, first_run};
 ghost use Rattle.charset.specs.Sought.{Sought, Computed};
@@ -38,6 +38,38 @@ impl<const W: usize> Bits<W> {
         let mut own = [0; W];
         own.copy_from_slice(&words[at..at + W]);
         Bits { words: own }
+    }
+
+    // The set of the numbers whose entry of the row is set.
+    pub fn of<const N: usize>(row: [bool; N]) -> Self
+        requires { N ≡ W * word_bits }
+        ensures { (c : ℕ) → c < W * word_bits → has result.words c ≡ get_or row.entry c false }
+    {
+        let mut words = [0; W];
+        for k in 0..W {
+            words[k] = word_of(&row, 64 * k);
+        }
+        Bits { words }
+    }
+
+    // The set without the others, if these are barred.
+    pub fn without(self, barred: bool, others: Self) -> Self
+        ensures { (c : ℕ) → c < W * word_bits → has result.words c ≡ (has self.entry.words c && not (barred && has others.entry.words c)) }
+    {
+        if !barred {
+            return self;
+        }
+        self.minus(others)
+    }
+
+    fn minus(self, others: Self) -> Self
+        ensures { (c : ℕ) → c < W * word_bits → has result.words c ≡ (has self.entry.words c && not (has others.entry.words c)) }
+    {
+        let mut words = self.words;
+        for k in 0..W {
+            words[k] ^= words[k] & others.words[k];
+        }
+        Bits { words }
     }
 }
 
@@ -89,6 +121,18 @@ impl CharSet {
     {
         next_run(from, CHARACTERS, |c| self.contains(c as u8))
     }
+}
+
+// A bit for each of the 64 entries of the row from `at` on.
+fn word_of(row: &[bool], at: usize) -> u64
+    requires { at + word_bits ≤ length row.now }
+    ensures { (b : ℕ) → b < word_bits → bit result b ≡ get_or row.now (at + b) false }
+{
+    let mut word = 0u64;
+    for b in 0..64 {
+        word |= (row[at + b] as u64) << b;
+    }
+    word
 }
 
 // Whether the two sets in words are the same: whether the words are.
