@@ -52,6 +52,14 @@ impl<const W: usize> Bits<W> {
         Bits { words }
     }
 
+    // Whether the number is in the set.
+    pub fn contains(self, c: usize) -> bool
+        requires { c < W * word_bits }
+        ensures { result ≡ has self.entry.words c }
+    {
+        (self.words[c / 64] >> (c % 64)) % 2 == 1
+    }
+
     // The set without the others, if these are barred.
     pub fn without(self, barred: bool, others: Self) -> Self
         ensures { (c : ℕ) → c < W * word_bits → has result.words c ≡ (has self.entry.words c && not (barred && has others.entry.words c)) }
@@ -74,14 +82,6 @@ impl<const W: usize> Bits<W> {
 }
 
 impl CharSet {
-    // Whether the byte is in the set.
-    pub fn contains(self, c: u8) -> bool
-        ensures { result ≡ has self.words c }
-    {
-        let at = usize::from(c / 64);
-        (self.words[at] >> (c % 64)) % 2 == 1
-    }
-
     // The set with the bytes of a written range more: those from low to high or, if low is above high, from high to low.
     pub fn insert_range(self, low: u8, high: u8) -> Self
         ensures { (b : ℕ) → b < characters → has result.words b ≡ (has self.words b || spans low high b) }
@@ -114,13 +114,6 @@ impl CharSet {
     {
         same_words(&self.words, &other.words)
     }
-
-    // The first of the normal ranges of the bytes from `from` on.
-    pub fn next_run(self, from: usize) -> Option<(usize, usize)>
-        ensures { result ≡ first_run (runs (has self.words) from (characters - from)) }
-    {
-        next_run(from, CHARACTERS, |c| self.contains(c as u8))
-    }
 }
 
 // A bit for each of the 64 entries of the row from `at` on.
@@ -147,16 +140,16 @@ fn same_words(v: &[u64], w: &[u64]) -> bool
 pub fn next_run<F: Fn(usize) -> bool>(
     from: usize,
     limit: usize,
-    member: F,
+    member: &F,
 ) -> Option<(usize, usize)>
-    requires { (k : ℕ) → from ≤ k → k < limit → F.pre member k }
-    ensures { (f : ℕ → Bool) → Computed F.post member from limit f → result ≡ first_run (runs f from (limit - from)) }
+    requires { (k : ℕ) → from ≤ k → k < limit → F.pre member.now k }
+    ensures { (f : ℕ → Bool) → Computed F.post member.now from limit f → result ≡ first_run (runs f from (limit - from)) }
 {
-    let low = seek(from, limit, &member, true);
+    let low = seek(from, limit, member, true);
     if limit <= low {
         return None;
     }
-    Some((low, seek(low + 1, limit, &member, false) - 1))
+    Some((low, seek(low + 1, limit, member, false) - 1))
 }
 
 // The first place from `from` on whose membership is as wanted; past the limit if there is none.

@@ -121,6 +121,14 @@ pub fn class_chars(tables: &[u64], s: usize) -> CharSet
     CharSet::read(tables, slot_at(s))
 }
 
+// The productions that may stand at slot s.
+pub fn class_productions(tables: &[u64], s: usize) -> ProductionSet
+    requires { (length tables.now ≡ table_words) × (s ≤ slots) }
+    ensures { (q : ℕ) → q < production_limit → has result.words q ≡ takes_production tables.now s q }
+{
+    ProductionSet::read(tables, slot_at(s) + SET_WORDS)
+}
+
 // Eight of the productions that may stand at slot s, from 8 k on: a bit for each.
 pub fn class_octet(tables: &[u64], s: usize, k: usize) -> u8
     requires { (length tables.now ≡ table_words) × (s ≤ slots) × (k < production_octets) }
