@@ -6,14 +6,13 @@ ghost use Rattle.std.specs.Prelude.{◌≡◌, ℕ, ◌*◌, ◌∷◌, ◌+◌,
 ghost use Rattle.layout.specs.Limits.{production_limit};
 ghost use Rattle.theory.specs.Tree.{production_number};
 ghost use Rattle.charset.specs.Set.{word_bits, has};
-ghost use Rattle.charset.specs.Runs.{range, runs, first_run};
-ghost use Rattle.charset.specs.Sought.{Sought};
+ghost use Rattle.charset.specs.Runs.{range, runs};
 ghost use Rattle.common.specs.Lists.{joined};
 ghost use Rattle.writing.specs.Put.{Put, farthest};
 ghost use Rattle.writing.specs.Numeral.{numeral};
 ghost use Rattle.ccg.specs.Text.{backslash, number_limit, range_text, class_text, result_text, line_text, grammar_text};
 ghost use Rattle.tables.specs.Layout.{slots, table_words, counts_of, ParserTables};
-ghost use Rattle.ccg.specs.Tables.{takes_number, table_class, table_line, table_grammar};
+ghost use Rattle.ccg.specs.Tables.{table_class, table_line, table_grammar};
 
 use charset::{Bits, next_run};
 use layout::limits::ARGUMENT_LIMIT;

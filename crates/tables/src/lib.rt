@@ -2,12 +2,11 @@
 // First how many productions there are; then for each how many arguments it has; for each its first row; and a class for each slot.
 #![tactic(auto)]
 
-ghost use Rattle.std.specs.Prelude.{◌≡◌, false, not, ◌&&◌, ℕ, ◌+◌, ◌*◌, ◌/◌, ◌%◌, ◌<◌, ◌≤◌, length, get_or};
-ghost use Rattle.charset.specs.Set.{characters, word_bits, bit, has};
-ghost use Rattle.common.specs.Bytes.{byte_values};
+ghost use Rattle.std.specs.Prelude.{◌≡◌, ℕ, ◌+◌, ◌*◌, ◌/◌, ◌%◌, ◌<◌, ◌≤◌, length, get_or};
+ghost use Rattle.charset.specs.Set.{characters, has};
 ghost use Rattle.common.specs.Zeros.{AllZero};
 ghost use Rattle.layout.specs.Limits.{production_limit};
-ghost use Rattle.tables.specs.Layout.{slots, counts_of, arity_in, row_count, slot_at, production_words, class_words, class_bits, production_octets, production_octet, table_words, takes_char, takes_production, ParserTables};
+ghost use Rattle.tables.specs.Layout.{slots, counts_of, arity_in, row_count, slot_at, class_words, class_bits, production_octets, production_octet, table_words, takes_char, takes_production, ParserTables};
 ghost use Rattle.tables.specs.Put.{CountsPut, ClassesKept, ClassPut, MemberAdded};
 
 use charset::{Bits, CharSet, SET_WORDS};
