@@ -1,8 +1,8 @@
 -- `put_rows` meets its contract: the lines of the numbers passed are put.
-use Prim.Native.Nat.{ℕ, ◌*◌, ◌-◌, ◌≤◌}
+use Prim.Native.Nat.{ℕ, ◌*◌}
 use mathlib.Core.List.{List}
 use mathlib.Core.Path.{◌≡◌}
-use lib.ListN.{length, get_or}
+use lib.ListN.{get_or}
 use Rattle.common.specs.Lists.{tabulate}
 use Rattle.numbers.specs.Numbers.{numbers_of}
 use Rattle.lines.specs.Text.{page_text, line_length}

@@ -1,7 +1,6 @@
 -- `put_text` meets its contract: the columns passed are put.
-use Prim.Native.Nat.{◌-◌, ◌≤◌}
 use Rattle.common.specs.Lists.{tabulate}
-use Rattle.lines.specs.Text.{shown, text_width}
+use Rattle.lines.specs.Text.{shown}
 use Rattle.writing.specs.Put.{Put}
 use Rattle.lines.proofs.put_text.Given as goal
 
