@@ -11,10 +11,7 @@ const LINE_FEED: u8 = 10;
 fn goes_on(sheet: &[u8], at: usize) -> bool
     ensures { result ≡ goes_on sheet.now at }
 {
-    if sheet.len() <= at {
-        return false;
-    }
-    sheet[at] != LINE_FEED
+    at < sheet.len() && sheet[at] != LINE_FEED
 }
 
 // Where the line that starts at a place ends: at its line feed, or at the end of the sheet.
@@ -34,10 +31,7 @@ pub fn behind(sheet: &[u8], end: usize) -> usize
     requires { end ≤ length sheet.now }
     ensures { result ≡ min (suc end) (length sheet.now) }
 {
-    if end < sheet.len() {
-        return end + 1;
-    }
-    end
+    (end + 1).min(sheet.len())
 }
 
 // How many lines a sheet has.

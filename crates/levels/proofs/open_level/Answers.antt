@@ -9,18 +9,18 @@ use Rattle.levels.specs.Levels.{level_bytes}
 use Rattle.levels.proofs.open_level.Goals as goal
 
 pub loop-b-init : goal.loop-b-init
-loop-b-init c = (region_none (Opens c.args.q c.args.ends) 0 (c.args.k * level_bytes) c.args.levels.now, omega arith)
+loop-b-init c = region_none (Opens c.args.q c.args.ends) 0 (c.args.k * level_bytes) c.args.levels.now
 
 pub bounds-levels-k : goal.bounds-levels-k
-bounds-levels-k c = omega (arith, c.loop-b.invariant.0.long)
+bounds-levels-k c = omega (arith, c.loop-b.invariant.long)
 
 pub loop-b-preserved : goal.loop-b-preserved
-loop-b-preserved c = (region_more (Opens c.args.q c.args.ends) 0 (c.args.k * level_bytes) c.args.levels.now c.loop-b.b c.loop-b.levels c.level_byte.result (omega arith) c.loop-b.invariant.0 c.level_byte.ensures, omega arith)
+loop-b-preserved c = region_more (Opens c.args.q c.args.ends) 0 (c.args.k * level_bytes) c.args.levels.now c.loop-b.b c.loop-b.levels c.level_byte.result (omega arith) c.loop-b.invariant c.level_byte.ensures
 
 pub shape_of-levels : goal.shape_of-levels
-shape_of-levels c = c.loop-b.invariant.0.long
+shape_of-levels c = c.loop-b.invariant.long
 
 pub returns : goal.returns
 returns c =
-    let e : c.loop-b.b ≡ level_bytes = omega (arith, c.loop-b.invariant.1) in
-    subst (λ (n : ℕ). Region (Opens c.args.q c.args.ends) 0 (c.args.k * level_bytes) n c.args.levels.now c.loop-b.levels) e c.loop-b.invariant.0
+    let e : c.loop-b.b ≡ level_bytes = omega arith in
+    subst (λ (n : ℕ). Region (Opens c.args.q c.args.ends) 0 (c.args.k * level_bytes) n c.args.levels.now c.loop-b.levels) e c.loop-b.invariant

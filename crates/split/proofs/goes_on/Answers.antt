@@ -5,10 +5,10 @@ use borrow.Author.Tests.{lt-ltb, le-ltb}
 use Rattle.split.specs.Lines.{goes_on}
 use Rattle.split.proofs.goes_on.Goals as goal
 
-pub returns-then-sheet-at : goal.returns-then-sheet-at
+pub returns-then-at-sheet : goal.returns-then-at-sheet
 unfolding goes_on
-returns-then-sheet-at c = rw (le-ltb c.args.at (length c.args.sheet.now) c.if-sheet-at.true) refl
+returns-then-at-sheet c = rw (lt-ltb c.args.at (length c.args.sheet.now) c.if-at-sheet.true) refl
 
-pub returns : goal.returns
+pub returns-else-at-sheet : goal.returns-else-at-sheet
 unfolding goes_on
-returns c = rw (lt-ltb c.args.at (length c.args.sheet.now) c.if-sheet-at.false) refl
+returns-else-at-sheet c = rw (le-ltb c.args.at (length c.args.sheet.now) c.if-at-sheet.false) refl

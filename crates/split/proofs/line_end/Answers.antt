@@ -7,9 +7,6 @@ use Rattle.split.proofs.line_end.Goals as goal
 pub loop-end-init : goal.loop-end-init
 loop-end-init c = ending_first c.args.sheet.now c.args.start c.requires
 
-pub overflow_add-end : goal.overflow_add-end
-overflow_add-end c = omega (arith, (goes_on_more c.args.sheet.now c.loop-end.end (sym c.goes_on.ensures ∙ c.loop-end-test.true)).0)
-
 pub loop-end-smaller : goal.loop-end-smaller
 loop-end-smaller c = omega (arith, (goes_on_more c.args.sheet.now c.loop-end.end (sym c.goes_on.ensures ∙ c.loop-end-test.true)).0)
 
