@@ -1,5 +1,5 @@
 -- `open_level` meets its contract: the first b bytes of the level are written.
-use Prim.Native.Nat.{◌-◌, ◌*◌, ◌≤◌}
+use Prim.Native.Nat.{◌*◌}
 use Rattle.common.specs.Region.{Region}
 use Rattle.levels.proofs.LevelsLaws.{Opens}
 use Rattle.levels.specs.Levels.{level_bytes}
