@@ -7,21 +7,9 @@ use Rattle.levels.proofs.LevelsLaws.{place_at}
 use Rattle.levels.specs.Levels.{level_bytes, production_of, written_of}
 use Rattle.levels.proofs.due_at.Goals as goal
 
-pub overflow_add-k-3 : goal.overflow_add-k-3
-unfolding written_of
-overflow_add-k-3 c = omega (arith, c.from-d.ensures)
-
 pub bounds-levels-k-3 : goal.bounds-levels-k-3
 unfolding written_of
 bounds-levels-k-3 c = omega (arith, c.from-d.ensures)
-
-pub overflow_add-k-5 : goal.overflow_add-k-5
-unfolding written_of
-overflow_add-k-5 c = omega (arith, c.from-d.ensures)
-
-pub overflow_add-k-6 : goal.overflow_add-k-6
-unfolding written_of
-overflow_add-k-6 c = omega (arith, c.from-d.ensures)
 
 pub bounds-levels-k-4 : goal.bounds-levels-k-4
 unfolding written_of
