@@ -1,11 +1,10 @@
 -- `put_text` meets its contract: the columns passed are put.
-use Prim.Native.Nat.{ℕ}
-use mathlib.Core.Path.{◌≡◌, sym, ap}
+use mathlib.Core.Path.{sym}
 use native.Mathlib.Omega.{arith}
 use Rattle.common.proofs.ListLaws.{length_tabulate, tabulate_next}
 use Rattle.common.specs.Lists.{tabulate}
-use Rattle.lines.specs.Text.{shown, text_width}
-use Rattle.writing.proofs.PutLaws.{put_none, put_append, put_same, put_long}
+use Rattle.lines.specs.Text.{shown}
+use Rattle.writing.proofs.PutLaws.{put_none, put_append, put_same}
 use Rattle.lines.proofs.put_text.Goals as goal
 
 pub loop-c-init : goal.loop-c-init
@@ -13,11 +12,6 @@ unfolding tabulate
 loop-c-init c =
     let start = c in
     put_none start.args.out.now start.args.at
-
-pub shown-requires : goal.shown-requires
-shown-requires c =
-    let start = c in
-    (start.requires.0, start.requires.1, omega arith)
 
 pub put-place-requires : goal.put-place-requires
 put-place-requires c =
@@ -32,12 +26,3 @@ loop-c-preserved c =
     let a = c.args in
     let column = shown a.text.now a.start a.end in
     put_same _ _ _ _ _ _ (sym (tabulate_next turn.c column)) (put_append _ _ _ _ _ _ _ _ turn.invariant (rw c.shown.ensures at c.put-place.ensures))
-
-pub shape_of-out : goal.shape_of-out
-shape_of-out c = put_long _ _ _ _ _ c.loop-c.invariant
-
-pub returns : goal.returns
-returns c =
-    let a = c.args in
-    let all : c.loop-c.c ≡ text_width = omega arith in
-    put_same _ _ _ _ _ _ (ap (λ (k : ℕ). tabulate k (shown a.text.now a.start a.end)) all) c.loop-c.invariant
