@@ -9,7 +9,7 @@ use lib.ListN.{length, length-append}
 use Rattle.ccg.specs.Text.{range_text}
 use Rattle.charset.proofs.RunLaws.{runs_rest}
 use Rattle.charset.specs.Runs.{Range, range, runs, first_run}
-use Rattle.charset.specs.declared.NextRun.TheVariants.{Run, End}
+use Rattle.std.specs.Prelude.{None, Some}
 use Rattle.common.specs.Lists.{joined}
 use Rattle.writing.proofs.PutLaws.{put_none, put_append, put_same}
 use Rattle.writing.specs.Put.{Put}
@@ -22,24 +22,25 @@ pub record RunsPut (f : ℕ → Bool) (start limit : ℕ) (l₀ : List ℕ) (at 
   pub begun : start ≤ from
   pub within : from ≤ limit
 
-no_run : (rs : List Range) → first_run rs ≡ End → rs ≡ []
+no_run : (rs : List Range) → first_run rs ≡ None → rs ≡ []
 unfolding first_run
 no_run [] e = refl
 no_run (r ∷ rs) e = let z : ◌≡◌ {A = ℕ} 0 1 = cc in absurd (omega arith)
 
-a_run : (rs : List Range) (lo hi : ℕ) → first_run rs ≡ Run lo hi → (ts : List Range) × (rs ≡ range lo hi ∷ ts)
+a_run : (rs : List Range) (lo hi : ℕ) → first_run rs ≡ Some (lo, hi) → (ts : List Range) × (rs ≡ range lo hi ∷ ts)
 unfolding first_run
 a_run [] lo hi e = let z : ◌≡◌ {A = ℕ} 0 1 = cc in absurd (omega arith)
 a_run (r ∷ rs) lo hi e =
-    let a : r.low ≡ lo = cc in
-    let b : r.high ≡ hi = cc in
+    let p : ◌≡◌ {A = ℕ × ℕ} (r.low, r.high) (lo, hi) = cc in
+    let a : r.low ≡ lo = ap (λ (q : ℕ × ℕ). q.0) p in
+    let b : r.high ≡ hi = ap (λ (q : ℕ × ℕ). q.1) p in
     (rs, λ i. record { low = a i; high = b i } ∷ rs)
 
 module _ (f : ℕ → Bool) (start limit : ℕ) (l₀ : List ℕ) (at : ℕ) where
   pub runs_put_none : start ≤ limit → RunsPut f start limit l₀ at start l₀ at
   runs_put_none h = record { done = []; is_put = put_none l₀ at; rest = refl; begun = le_refl start; within = h }
 
-  pub runs_put_end : (from : ℕ) (l : List ℕ) (place : ℕ) → RunsPut f start limit l₀ at from l place → first_run (runs f from (limit - from)) ≡ End
+  pub runs_put_end : (from : ℕ) (l : List ℕ) (place : ℕ) → RunsPut f start limit l₀ at from l place → first_run (runs f from (limit - from)) ≡ None
       → Put (joined range_text (runs f start (limit - start))) l₀ at l place
   unfolding joined
   runs_put_end from l place p e =
@@ -47,15 +48,8 @@ module _ (f : ℕ → Bool) (start limit : ℕ) (l₀ : List ℕ) (at : ℕ) whe
       put_same p.done (joined range_text (runs f start (limit - start))) l₀ l at place
       (sym (append-nil p.done) ∙ ap (λ (t : List ℕ). p.done ++ t) (sym none_left) ∙ p.rest) p.is_put
 
-  pub runs_put_past : (from : ℕ) (l : List ℕ) (place : ℕ) → RunsPut f start limit l₀ at from l place → limit ≤ from
-      → Put (joined range_text (runs f start (limit - start))) l₀ at l place
-  unfolding runs first_run
-  runs_put_past from l place p h =
-      let z : limit - from ≡ 0 = omega arith in
-      runs_put_end from l place p (ap (λ (n : ℕ). first_run (runs f from n)) z)
-
-  module _ (from : ℕ) (l : List ℕ) (place lo hi : ℕ) (p : RunsPut f start limit l₀ at from l place) (below : from < limit)
-      (e : first_run (runs f from (limit - from)) ≡ Run lo hi) where
+  module _ (from : ℕ) (l : List ℕ) (place lo hi : ℕ) (p : RunsPut f start limit l₀ at from l place)
+      (e : first_run (runs f from (limit - from)) ≡ Some (lo, hi)) where
     tail : List Range
     tail = (a_run (runs f from (limit - from)) lo hi e).0
 
@@ -73,12 +67,12 @@ module _ (f : ℕ → Bool) (start limit : ℕ) (l₀ : List ℕ) (at : ℕ) whe
     run_rises = facts.1.1
 
     pub run_below : hi < limit
-    run_below = omega (arith, facts.1.2)
+    run_below = omega (arith, p.within, facts.1.2)
 
     left : joined range_text (runs f from (limit - from)) ≡ range_text (range lo hi) ++ joined range_text (runs f (hi + 1) (limit - (hi + 1)))
     unfolding joined
     left =
-        let n : from + (limit - from) - (hi + 1) ≡ limit - (hi + 1) = omega arith in
+        let n : from + (limit - from) - (hi + 1) ≡ limit - (hi + 1) = omega (arith, p.within) in
         ap (joined range_text) is_run ∙ ap (λ (rs : List Range). range_text (range lo hi) ++ joined range_text rs) facts.0
         ∙ ap (λ (k : ℕ). range_text (range lo hi) ++ joined range_text (runs f (hi + 1) k)) n
 

@@ -1,5 +1,6 @@
 -- Laws of the character classes.
 pub mod BitLaws
+pub mod BitsLaws
 pub mod RunLaws
 pub mod SeekLaws
 pub mod SameSetLaws

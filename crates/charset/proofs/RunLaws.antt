@@ -11,11 +11,11 @@ use native.Mathlib.Numerals.{add-one}
 use lib.Dec.{eqb}
 use lib.ListN.{length}
 use borrow.Author.Tests.{le-leb, lt-leb, eq-eqb, ne_eqb}
+use Rattle.std.specs.Prelude.{None, Some}
 use Rattle.common.proofs.BelowLaws.{between_below, between_above, between_in}
 use Rattle.charset.specs.Runs.{Range, range, with_number, runs, Apart, covered, Normal, first_run}
 use Rattle.charset.specs.Set.{in_range}
 use Rattle.charset.specs.Sought.{Sought}
-use Rattle.charset.specs.declared.NextRun.TheVariants.{Run, End}
 
 -- ---- reading a run off
 
@@ -85,33 +85,26 @@ module _ (f : ℕ → Bool) where
 -- ---- the first run, from what the two searches found
 
 module _ (limit : ℕ) (f : ℕ → Bool) (from : ℕ) where
-  pub first_run_end : {low : ℕ} → Sought limit f true from low → limit ≤ low → End ≡ first_run (runs f from (limit - from))
+  pub first_run_end : {low : ℕ} → Sought limit f true from low → limit ≤ low → None ≡ first_run (runs f from (limit - from))
   unfolding first_run runs
   first_run_end {low} s h =
       let off : runs f from (limit - from) ≡ [] =
       rw (add-zero (limit - from)) at (runs_skip f (limit - from) from 0 (λ k l m. s.passed k l (omega (arith, s.within)))) in
       rw off refl
 
-  pub stop_above : {low stop : ℕ} → Sought limit f true from low → low < limit → Sought limit f false low stop → low < stop
-  stop_above {low} {stop} s h t =
-      by_cases (dec_lt low stop) (λ l. l)
-      (λ n. let e : low ≡ stop = omega (arith, t.after) in
-      absurd (true≢false (sym (s.found h) ∙ ap f e ∙ t.found (omega arith))))
-
-  pub first_run_lem : {low stop : ℕ} → Sought limit f true from low → low < limit → Sought limit f false low stop
-      → Run low (stop - 1) ≡ first_run (runs f from (limit - from))
+  pub first_run_lem : {low stop : ℕ} → Sought limit f true from low → low < limit → Sought limit f false (low + 1) stop
+      → Some (low, stop - 1) ≡ first_run (runs f from (limit - from))
   unfolding first_run
   first_run_lem {low} {stop} s h t =
-      let above = stop_above s h t in
       let m = low - from in
       let k = stop - suc low in
       let n = limit - stop in
-      let a : limit - from ≡ m + (suc k + n) = omega (arith, s.after, t.within) in
+      let a : limit - from ≡ m + (suc k + n) = omega (arith, s.after, t.after, t.within) in
       let b : from + m ≡ low = omega (arith, s.after) in
       let e : low + k ≡ stop - 1 = omega arith in
       let up : suc (low + k) ≡ stop = omega arith in
       let skip = runs_skip f m from (suc k + n) (λ j l r. s.passed j l (omega arith)) in
-      let take = runs_take f k low n (λ j l r. t.passed j l (omega arith)) (λ p. rw up (t.found (omega arith))) in
+      let take = runs_take f k low n (λ j l r. by_cases (dec_lt low j) (λ o. t.passed j (omega arith) (omega arith)) (λ o. let q : low ≡ j = omega arith in ap f (sym q) ∙ s.found h)) (λ p. rw up (t.found (omega arith))) in
       rw (a, skip, b, take, e) refl
 
 -- ---- `runs` is a normal form of the set

@@ -1,18 +1,20 @@
 -- Laws of equal sets (02, [5]): to be the same set is an equivalence, and the words of two sets are the same exactly if the sets are.
-use Prim.Native.Nat.{ℕ, zero, suc, ◌+◌, ◌*◌, ◌/◌, ◌%◌, ◌^◌, ◌<◌}
+use Prim.Native.Nat.{ℕ, zero, suc, ◌+◌, ◌*◌, ◌/◌, ◌%◌, ◌^◌, ◌≤◌, ◌<◌}
 use mathlib.Core.Path.{◌≡◌, refl, sym, ◌∙◌, ap, ap₂}
 use mathlib.Core.Bool.{Bool, true, beq}
 use mathlib.Core.List.{List}
 use native.Mathlib.Omega.{arith}
 use native.Mathlib.Numerals.{one-add}
 use lib.Dec.{eqb}
-use lib.ListN.{get_or}
-use borrow.Author.Tests.{eqb-true, eq-eqb}
+use lib.ListN.{length, get_or, take}
+use lib.Seq.{length-take-le, get_or-take, ext_get_or}
+use Rattle.std.proofs.lemmas.Slice.Eq.{bytes_eq-Decides}
+use Rattle.std.specs.Str.{bytes_eq}
 use lib.Pow.{shr-shr, shr_lt}
-use Rattle.charset.specs.Set.{characters, word_bits, set_words, bit, has, same_bits, same_set}
+use Rattle.charset.specs.Set.{characters, word_bits, set_words, bit, has, same_set}
 use Rattle.common.proofs.BelowLaws.{all_each, all_here, all_same, bit_test}
 use Rattle.common.proofs.BoolLaws.{beq_true, same_beq, same_test}
-use Rattle.common.specs.Below.{all_below, bit_of}
+use Rattle.common.specs.Below.{bit_of}
 
 -- ---- equal sets
 
@@ -60,32 +62,28 @@ bits_same (suc n) x y l m e =
     bits_same n (x / 2) (y / 2) (shr_lt n 1 (omega arith)) (shr_lt n 1 (omega arith)) (λ b k. bit_next x b ∙ e (suc b) (omega arith) ∙ sym (bit_next y b)) in
     omega (arith, bit_first x ∙ ap bit_of (e 0 (omega arith)) ∙ sym (bit_first y))
 
--- so words have the same bits exactly if they are the same
-pub same_word : (v w : ℕ) → v < 2 ^ word_bits → w < 2 ^ word_bits → eqb v w ≡ same_bits v w
-unfolding same_bits
-same_word v w l m =
-    let test : ℕ → Bool = λ b. beq (bit v b) (bit w b) in
-    same_test (eqb v w) (same_bits v w)
-    (λ e. all_each test word_bits (λ b k. same_beq (bit v b) (bit w b) (ap (λ (x : ℕ). bit x b) (eqb-true v w e))))
-    (λ e. eq-eqb v w (bits_same word_bits v w l m (λ b k. beq_true (bit v b) (bit w b) (all_here test word_bits e b k))))
-
 -- ---- and the words say which set it is
 
-module _ (v w : List ℕ) where
-  -- two sets are the same if each word has the bits of the other's
-  pub same_by_words : same_set (has v) (has w) ≡ all_below set_words (λ i. same_bits (get_or v i 0) (get_or w i 0))
-  unfolding has same_bits
-  same_by_words =
-      let words : ℕ → Bool = λ i. same_bits (get_or v i 0) (get_or w i 0) in
-      same_test (same_set (has v) (has w)) (all_below set_words words)
-      (λ e. all_each words set_words (λ i l. all_each _ word_bits (λ b k.
-      let c = word_bits * i + b in
-      let word : c / word_bits ≡ i = omega arith in
-      let at : c % word_bits ≡ b = omega arith in
-      let own : (u : List ℕ) → bit (get_or u i 0) b ≡ has u c = λ u. ap₂ (λ (m n : ℕ). bit (get_or u m 0) n) (sym word) (sym at) in
-      same_beq _ _ (own v ∙ same_has (has v) (has w) e c (omega arith) ∙ sym (own w)))))
-      (λ e. same_when (has v) (has w) (λ c l. beq_true _ _ (all_here _ word_bits (all_here words set_words e (c / word_bits) (omega arith)) (c % word_bits) (omega arith))))
+-- bit b of word i is that of number 64 i + b
+word_bit : (u : List ℕ) (i b : ℕ) → b < word_bits → bit (get_or u i 0) b ≡ has u (word_bits * i + b)
+unfolding has
+word_bit u i b l =
+    let c = word_bits * i + b in
+    let word : c / word_bits ≡ i = omega arith in
+    let at : c % word_bits ≡ b = omega arith in
+    ap₂ (λ (m n : ℕ). bit (get_or u m 0) n) (sym word) (sym at)
 
-  -- the words of two sets are the same exactly if the sets are
-  pub same_words : ((i : ℕ) → get_or v i 0 < 2 ^ word_bits) → ((i : ℕ) → get_or w i 0 < 2 ^ word_bits) → same_set (has v) (has w) ≡ all_below set_words (λ i. eqb (get_or v i 0) (get_or w i 0))
-  same_words small small' = same_by_words ∙ all_same _ _ set_words (λ i l. sym (same_word (get_or v i 0) (get_or w i 0) (small i) (small' i)))
+-- so the words of two sets, at their fronts, are equal exactly if the sets are
+pub same_words : (v w : List ℕ) → ((i : ℕ) → get_or v i 0 < 2 ^ word_bits) → ((i : ℕ) → get_or w i 0 < 2 ^ word_bits) → set_words ≤ length v → set_words ≤ length w
+    → bytes_eq (take set_words v) (take set_words w) ≡ same_set (has v) (has w)
+unfolding has
+same_words v w small small' l m =
+    let fronts = bytes_eq-Decides (take set_words v) (take set_words w) in
+    let word : (u : List ℕ) (i : ℕ) → i < set_words → get_or (take set_words u) i 0 ≡ get_or u i 0 = λ u i h. get_or-take set_words u i 0 h in
+    same_test (bytes_eq (take set_words v) (take set_words w)) (same_set (has v) (has w))
+    (λ e. same_when (has v) (has w) (λ c h. ap (λ (x : ℕ). bit x (c % word_bits)) (sym (word v (c / word_bits) (omega arith)) ∙ ap (λ (u : List ℕ). get_or u (c / word_bits) 0) (fronts.0 e) ∙ word w (c / word_bits) (omega arith))))
+    (λ e. fronts.1 (ext_get_or 0 (take set_words v) (take set_words w) (length-take-le set_words v l ∙ sym (length-take-le set_words w m))
+    (λ i h. let below : i < set_words = omega (arith, length-take-le set_words v l) in
+    word v i below
+    ∙ bits_same word_bits (get_or v i 0) (get_or w i 0) (small i) (small' i) (λ b k. word_bit v i b k ∙ same_has (has v) (has w) e (word_bits * i + b) (omega arith) ∙ sym (word_bit w i b k))
+    ∙ sym (word w i below))))

@@ -14,9 +14,6 @@ pub record Passed (limit : ℕ) (f : ℕ → Bool) (wanted : Bool) (from at : �
   pub passed : (k : ℕ) → from ≤ k → k < at → f k ≡ not wanted
 
 module _ (limit : ℕ) (f : ℕ → Bool) (wanted : Bool) (from : ℕ) where
-  pub seek_none : Passed limit f wanted from from
-  seek_none = record { after = omega arith; within = omega arith; passed = λ k l h. absurd (omega arith) }
-
   pub seek_more : (at : ℕ) → at < limit → f at ≡ not wanted → Passed limit f wanted from at → Passed limit f wanted from (at + 1)
   seek_more at l e p =
       record {
@@ -27,6 +24,3 @@ module _ (limit : ℕ) (f : ℕ → Bool) (wanted : Bool) (from : ℕ) where
 
   pub seek_found : (at : ℕ) → f at ≡ wanted → Passed limit f wanted from at → Sought limit f wanted from at
   seek_found at e p = record { after = p.after; within = p.within; passed = p.passed; found = λ h. e }
-
-  pub seek_end : (at : ℕ) → limit ≤ at → Passed limit f wanted from at → Sought limit f wanted from at
-  seek_end at l p = record { after = p.after; within = p.within; passed = p.passed; found = λ h. absurd (omega arith) }

@@ -1,8 +1,6 @@
 -- Normal form of a set of numbers: rising ranges that do not touch (01, "The book"; 000, Proposition 3.2).
-use Rattle.std.specs.Prelude.{ℕ, zero, suc, ◌≤◌, ◌<◌, Bool, false, cond, ◌||◌, List, [], ◌∷◌, eqb}
+use Rattle.std.specs.Prelude.{ℕ, zero, suc, ◌≤◌, ◌<◌, Bool, false, cond, ◌||◌, List, [], ◌∷◌, eqb, Option, None, Some}
 use Rattle.charset.specs.Set.{in_range}
-use Rattle.charset.specs.declared.NextRun.{NextRun}
-use Rattle.charset.specs.declared.NextRun.TheVariants.{Run, End}
 
 -- A range: the numbers from low to high, ends included.
 pub record Range : Type 0 where
@@ -38,6 +36,6 @@ Normal [] = Unit {0}
 Normal (r ∷ rs) = (r.low ≤ r.high) × Apart r.high rs × Normal rs
 
 -- What reading the ranges one by one gives: the first, or that none is left.
-unfoldable pub first_run : List Range → NextRun
-first_run [] = End
-first_run (r ∷ rs) = Run r.low r.high
+unfoldable pub first_run : List Range → Option (ℕ × ℕ)
+first_run [] = None
+first_run (r ∷ rs) = Some (r.low, r.high)

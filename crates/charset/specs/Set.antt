@@ -32,10 +32,6 @@ in_range = between
 unfoldable pub spans : ℕ → ℕ → ℕ → Bool
 spans low high = in_range (min low high) (max low high)
 
--- Two words have the same bits.
-unfoldable pub same_bits : ℕ → ℕ → Bool
-same_bits v w = all_below word_bits (λ b. beq (bit v b) (bit w b))
-
 -- Two sets of characters, given by their tests, are the same: no character is in one of them alone. Two sets with no character are (02, [5]).
 unfoldable pub same_set : (ℕ → Bool) → (ℕ → Bool) → Bool
 same_set f g = all_below characters (λ c. beq (f c) (g c))

@@ -2,10 +2,10 @@
 // (01, "The book": a class of characters is a set of bytes held as one record.)
 #![tactic(auto)]
 
-ghost use Rattle.std.specs.Prelude.{◌≡◌, false, ◌||◌, ℕ, ◌+◌, ◌-◌, ◌/◌, ◌%◌, ◌<◌, ◌≤◌, min, length, get_or};
-ghost use Rattle.charset.specs.Set.{characters, word_bits, set_words, bit, has, in_range, spans, same_bits, same_set};
+ghost use Rattle.std.specs.Prelude.{◌≡◌, Bool, false, not, ◌&&◌, ◌*◌, ◌||◌, ℕ, ◌+◌, ◌-◌, ◌/◌, ◌%◌, ◌<◌, ◌≤◌, min, length, get_or};
+ghost use Rattle.charset.specs.Set.{characters, word_bits, set_words, bit, has, in_range, spans, same_set};
 ghost use Rattle.charset.specs.Runs.{runs, first_run};
-ghost use Rattle.charset.specs.Sought.{Sought};
+ghost use Rattle.charset.specs.Sought.{Sought, Computed};
 
 // How many characters there are.
 pub const CHARACTERS: usize = 256;
@@ -13,47 +13,75 @@ pub const CHARACTERS: usize = 256;
 // How many words hold a set of characters.
 pub const SET_WORDS: usize = 4;
 
+// A set of numbers, a bit for each of the 64 of a word.
 #[derive(Clone, Copy)]
-pub struct CharSet {
-    pub words: [u64; SET_WORDS],
+pub struct Bits<const W: usize> {
+    pub words: [u64; W],
 }
 
-// What reading the normal ranges one after the other finds.
-#[derive(Clone, Copy)]
-pub enum NextRun {
-    // The next range, its ends included.
-    Run(usize, usize),
-    End,
-}
+// A set of characters.
+pub type CharSet = Bits<SET_WORDS>;
 
-impl CharSet {
-    // The set with no byte in it.
+impl<const W: usize> Bits<W> {
+    // The set with no number in it.
     pub fn empty() -> Self
-        ensures { (c : ℕ) → c < characters → has result.words c ≡ false }
+        ensures { (c : ℕ) → c < W * word_bits → has result.words c ≡ false }
     {
-        CharSet {
-            words: [0u64; SET_WORDS],
-        }
+        Bits { words: [0; W] }
     }
 
     // The set whose words stand at `at`.
     pub fn read(words: &[u64], at: usize) -> Self
-        requires { at + set_words ≤ length words.now }
-        ensures { (c : ℕ) → c < characters → has result.words c ≡ bit (get_or words.now (at + c / word_bits) 0) (c % word_bits) }
+        requires { at + W ≤ length words.now }
+        ensures { (c : ℕ) → c < W * word_bits → has result.words c ≡ bit (get_or words.now (at + c / word_bits) 0) (c % word_bits) }
     {
-        CharSet {
-            words: [words[at], words[at + 1], words[at + 2], words[at + 3]],
+        let mut own = [0; W];
+        own.copy_from_slice(&words[at..at + W]);
+        Bits { words: own }
+    }
+
+    // The set of the numbers whose entry of the row is set.
+    pub fn of<const N: usize>(row: [bool; N]) -> Self
+        requires { N ≡ W * word_bits }
+        ensures { (c : ℕ) → c < W * word_bits → has result.words c ≡ get_or row.entry c false }
+    {
+        let mut words = [0; W];
+        for k in 0..W {
+            words[k] = word_of(&row, 64 * k);
         }
+        Bits { words }
     }
 
-    // Whether the byte is in the set.
-    pub fn contains(self, c: u8) -> bool
-        ensures { result ≡ has self.words c }
+    // Whether the number is in the set.
+    pub fn contains(self, c: usize) -> bool
+        requires { c < W * word_bits }
+        ensures { result ≡ has self.entry.words c }
     {
-        let at = (c / 64) as usize;
-        (self.words[at] >> (c % 64)) % 2 == 1
+        (self.words[c / 64] >> (c % 64)) % 2 == 1
     }
 
+    // The set without the others, if these are barred.
+    pub fn without(self, barred: bool, others: Self) -> Self
+        ensures { (c : ℕ) → c < W * word_bits → has result.words c ≡ (has self.entry.words c && not (barred && has others.entry.words c)) }
+    {
+        if !barred {
+            return self;
+        }
+        self.minus(others)
+    }
+
+    fn minus(self, others: Self) -> Self
+        ensures { (c : ℕ) → c < W * word_bits → has result.words c ≡ (has self.entry.words c && not (has others.entry.words c)) }
+    {
+        let mut words = self.words;
+        for k in 0..W {
+            words[k] ^= words[k] & others.words[k];
+        }
+        Bits { words }
+    }
+}
+
+impl CharSet {
     // The set with the bytes of a written range more: those from low to high or, if low is above high, from high to low.
     pub fn insert_range(self, low: u8, high: u8) -> Self
         ensures { (b : ℕ) → b < characters → has result.words b ≡ (has self.words b || spans low high b) }
@@ -70,7 +98,7 @@ impl CharSet {
         ensures { (b : ℕ) → b < characters → has result.words b ≡ (has self.words b || in_range low high b) }
     {
         let w = self.words;
-        CharSet {
+        Bits {
             words: [
                 w[0] | range_mask(low, high, 0),
                 w[1] | range_mask(low, high, 64),
@@ -84,47 +112,58 @@ impl CharSet {
     pub fn same(self, other: CharSet) -> bool
         ensures { result ≡ same_set (has self.words) (has other.words) }
     {
-        let mut w = 0;
-        while w < SET_WORDS {
-            if !same_bits(self.words[w], other.words[w]) {
-                return false;
-            }
-            w += 1;
-        }
-        true
-    }
-
-    // The first of the normal ranges of the bytes from `from` on.
-    pub fn next_run(self, from: usize) -> NextRun
-        ensures { result ≡ first_run (runs (has self.words) from (characters - from)) }
-    {
-        let low = self.seek(from, true);
-        if CHARACTERS <= low {
-            return NextRun::End;
-        }
-        NextRun::Run(low, self.seek(low, false) - 1)
-    }
-
-    // The first place from `from` on whose membership is as wanted, 256 if there is none.
-    fn seek(self, from: usize, wanted: bool) -> usize
-        ensures { Sought characters (has self.words) wanted from result }
-    {
-        let mut at = from;
-        while at < CHARACTERS {
-            if self.contains(at as u8) == wanted {
-                return at;
-            }
-            at += 1;
-        }
-        at
+        same_words(&self.words, &other.words)
     }
 }
 
-// Whether the two words have the same bits: whether they are the same.
-fn same_bits(v: u64, w: u64) -> bool
-    ensures { result ≡ same_bits v w }
+// A bit for each of the 64 entries of the row from `at` on.
+fn word_of(row: &[bool], at: usize) -> u64
+    requires { at + word_bits ≤ length row.now }
+    ensures { (b : ℕ) → b < word_bits → bit result b ≡ get_or row.now (at + b) false }
 {
-    v == w
+    let mut word = 0u64;
+    for b in 0..64 {
+        word |= (row[at + b] as u64) << b;
+    }
+    word
+}
+
+// Whether the two sets in words are the same: whether the words are.
+fn same_words(v: &[u64], w: &[u64]) -> bool
+    requires { (set_words ≤ length v.now) × (set_words ≤ length w.now) }
+    ensures { result ≡ same_set (has v.now) (has w.now) }
+{
+    v[..SET_WORDS] == w[..SET_WORDS]
+}
+
+// The first of the normal ranges of the members from `from` on, below the limit.
+pub fn next_run<F: Fn(usize) -> bool>(
+    from: usize,
+    limit: usize,
+    member: &F,
+) -> Option<(usize, usize)>
+    requires { (k : ℕ) → from ≤ k → k < limit → F.pre member.now k }
+    ensures { (f : ℕ → Bool) → Computed F.post member.now from limit f → result ≡ first_run (runs f from (limit - from)) }
+{
+    let low = seek(from, limit, member, true);
+    if limit <= low {
+        return None;
+    }
+    Some((low, seek(low + 1, limit, member, false) - 1))
+}
+
+// The first place from `from` on whose membership is as wanted; past the limit if there is none.
+fn seek<F: Fn(usize) -> bool>(from: usize, limit: usize, member: &F, wanted: bool) -> usize
+    requires { (k : ℕ) → from ≤ k → k < limit → F.pre member.now k }
+    ensures after { from ≤ result }
+    ensures sought { (f : ℕ → Bool) → Computed F.post member.now from limit f → Sought limit f wanted from result }
+{
+    for at in from..limit {
+        if member(at) == wanted {
+            return at;
+        }
+    }
+    from.max(limit)
 }
 
 // The bits of the word of the 64 bytes from `base` on at which a byte of the range stands.
@@ -139,20 +178,7 @@ fn range_mask(low: u8, high: u8, base: u8) -> u64
     if base + 63 < low {
         return 0;
     }
-    let from = above(low, base);
-    let to = at_most_63(high - base);
-    (0xffff_ffff_ffff_ffffu64 >> (63 - (to - from))) << from
-}
-
-// How far x is above y, 0 if it is not.
-fn above(x: u8, y: u8) -> u8
-    ensures { result ≡ x - y }
-{
-    if x < y { 0 } else { x - y }
-}
-
-fn at_most_63(x: u8) -> u8
-    ensures { result ≡ min x (word_bits - 1) }
-{
-    if x < 63 { x } else { 63 }
+    let from = low.saturating_sub(base);
+    let to = (high - base).min(63);
+    (u64::MAX >> (63 - (to - from))) << from
 }

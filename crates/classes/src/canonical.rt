@@ -10,7 +10,7 @@ ghost use Rattle.layout.specs.Limits.{class_limit};
 
 use crate::ranges_set;
 use charset::{CharSet, SET_WORDS};
-use common::{BYTE_VALUES, put_words, wide};
+use common::{BYTE_VALUES, put_words};
 use layout::limits::{CLASS_BASE, CLASS_LIMIT};
 use layout::{class_at, class_count, range_count};
 
@@ -21,14 +21,11 @@ pub fn canonical_arguments(book: &[u8]) -> [u8; BYTE_VALUES]
 {
     let mut table = [0u8; BYTE_VALUES];
     let mut sets = [0u64; CLASS_LIMIT * SET_WORDS];
-    let count = class_count(book);
     let mut at = class_at(book, 0);
-    let mut k = 0;
-    while k < count {
+    for k in 0..class_count(book) {
         hold_set(&mut sets, book, k, at);
         table[CLASS_BASE + k] = (k - lowest_same(&sets, k)) as u8;
         at += 2 * range_count(book, k);
-        k += 1;
     }
     table
 }
@@ -38,7 +35,7 @@ pub fn stands_for(table: &[u8], x: u8) -> u8
     requires { (length table.now ≡ byte_values) × (get_or table.now x 0 ≤ x) }
     ensures { result ≡ stands_for table.now x }
 {
-    x - table[wide(x)]
+    x - table[usize::from(x)]
 }
 
 // Writes the set of class k, whose ranges stand at `at`, behind those of the classes before it.
@@ -49,8 +46,7 @@ fn hold_set(sets: &mut [u64], book: &[u8], k: usize, at: usize)
     requires sets_held { SetsHeld book.now k sets.old }
     ensures { SetsHeld book.now (k + 1) sets.new }
 {
-    let own = ranges_set(book, k, at).words;
-    put_words(sets, SET_WORDS * k, &own);
+    put_words(sets, SET_WORDS * k, &ranges_set(book, k, at).words);
 }
 
 // Set k.
@@ -67,12 +63,10 @@ fn lowest_same(sets: &[u64], k: usize) -> usize
     ensures { LowestSame sets.now k result }
 {
     let own = held_set(sets, k);
-    let mut j = 0;
-    while j < k {
+    for j in 0..k {
         if own.same(held_set(sets, j)) {
             return j;
         }
-        j += 1;
     }
-    j
+    k
 }

@@ -28,12 +28,8 @@ pub fn ranges_set(book: &[u8], k: usize, at: usize) -> CharSet
     ensures { SetOf book.now k result.words }
 {
     let mut set = CharSet::empty();
-    let count = range_count(book, k);
-    let mut r = 0;
-    while r < count {
-        let wider = set.insert_range(book[at + 2 * r], book[at + 2 * r + 1]);
-        set = wider;
-        r += 1;
+    for r in 0..range_count(book, k) {
+        set = set.insert_range(book[at + 2 * r], book[at + 2 * r + 1]);
     }
     set
 }

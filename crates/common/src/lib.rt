@@ -24,7 +24,7 @@ pub fn both(a: bool, b: bool) -> bool
 pub fn wide(x: u8) -> usize
     ensures { result ≡ x }
 {
-    x as usize
+    usize::from(x)
 }
 
 // The number of two bytes, the low one first.
@@ -32,7 +32,7 @@ pub fn two_bytes(bytes: &[u8], at: usize) -> usize
     requires { at + 1 < length bytes.now }
     ensures { result ≡ number_at bytes.now at }
 {
-    wide(bytes[at]) + BYTE_VALUES * wide(bytes[at + 1])
+    usize::from(bytes[at]) + BYTE_VALUES * usize::from(bytes[at + 1])
 }
 
 // Copies words to a place of a longer row of them.
@@ -40,9 +40,5 @@ pub fn put_words(out: &mut [u64], at: usize, words: &[u64])
     requires { at + length words.now ≤ length out.old }
     ensures { Region (λ (k : ℕ) (v : ℕ). v ≡ get_or words.now k 0) 0 at (length words.now) out.old out.new }
 {
-    let mut k = 0;
-    while k < words.len() {
-        out[at + k] = words[k];
-        k += 1;
-    }
+    out[at..at + words.len()].copy_from_slice(words);
 }

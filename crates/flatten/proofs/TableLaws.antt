@@ -11,7 +11,7 @@ use lib.ListN.{set, replicate, length-set, length-replicate, get_or-replicate, l
 use lib.Seq.{get_or-set_same, get_or-set_other, length-take-le, get_or-take, get_or-drop}
 use lib.Dec.{leb, ltb, eqb}
 use borrow.Author.Tests.{le-leb, lt-leb, eq-eqb, lt-ltb, le-ltb, ne_eqb}
-use Rattle.tables.proofs.BitsLaws.{one_bit}
+use Rattle.charset.proofs.BitsLaws.{one_bit}
 use Rattle.charset.proofs.BitLaws.{bit_or_lem, bit_zero}
 use Rattle.charset.specs.Set.{bit, has, word_bits, characters}
 use Rattle.classes.specs.Classes.{is_class, class_has}

@@ -9,14 +9,13 @@ ghost use Rattle.layout.specs.Layout.{byte_at, sorts, productions, classes, decl
 ghost use Rattle.layout.specs.Framed.{Framed};
 
 use crate::limits::{DECLARATION_LENGTH, HEADER_LENGTH};
-use common::wide;
 
 // Byte k as a number.
 pub fn byte_at(book: &[u8], k: usize) -> usize
     requires { k < length book.now }
     ensures { result ≡ byte_at book.now k }
 {
-    wide(book[k])
+    usize::from(book[k])
 }
 
 pub fn sort_count(book: &[u8]) -> usize
@@ -89,10 +88,8 @@ pub fn production_at(book: &[u8], p: usize) -> usize
     ensures { result ≡ production_at book.now p }
 {
     let mut at = bodies_at(book);
-    let mut q = 0;
-    while q < p {
+    for q in 0..p {
         at += 1 + argument_count(book, q);
-        q += 1;
     }
     at
 }
@@ -104,10 +101,8 @@ pub fn class_at(book: &[u8], k: usize) -> usize
     ensures { result ≡ class_at book.now k }
 {
     let mut at = production_at(book, production_count(book));
-    let mut j = 0;
-    while j < k {
+    for j in 0..k {
         at += 2 * range_count(book, j);
-        j += 1;
     }
     at
 }

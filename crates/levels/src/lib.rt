@@ -8,7 +8,6 @@ ghost use Rattle.common.specs.Region.{Region};
 ghost use Rattle.layout.specs.Limits.{production_limit, argument_limit};
 ghost use Rattle.levels.specs.Levels.{level_bytes, written_of, open_byte, DueAt};
 
-use common::wide;
 use layout::limits::ARGUMENT_LIMIT;
 
 // Places where the arguments of a production begin, and where the last one ends.
@@ -52,10 +51,8 @@ pub fn open_level(levels: &mut [u8], k: usize, q: usize, ends: [u8; ENDS])
     requires { ((k + 1) * level_bytes ≤ length levels.old) × (q < production_limit) }
     ensures { Region (λ (b : ℕ) (v : ℕ). v ≡ open_byte q ends b) 0 (k * level_bytes) level_bytes levels.old levels.new }
 {
-    let mut b = 0;
-    while b < LEVEL {
+    for b in 0..LEVEL {
         levels[k * LEVEL + b] = level_byte(q as u8, ends, b);
-        b += 1;
     }
 }
 
@@ -64,12 +61,12 @@ pub fn due_at(levels: &[u8], k: usize) -> Due
     requires { ((k + 1) * level_bytes ≤ length levels.now) × (written_of levels.now k < argument_limit) }
     ensures { DueAt levels.now k result.production result.argument result.from result.to }
 {
-    let d = wide(levels[k * LEVEL + 1]);
+    let d = usize::from(levels[k * LEVEL + 1]);
     Due {
-        production: wide(levels[k * LEVEL]),
+        production: usize::from(levels[k * LEVEL]),
         argument: d,
-        from: wide(levels[k * LEVEL + 2 + d]),
-        to: wide(levels[k * LEVEL + 2 + d + 1]),
+        from: usize::from(levels[k * LEVEL + 2 + d]),
+        to: usize::from(levels[k * LEVEL + 2 + d + 1]),
     }
 }
 
@@ -78,5 +75,5 @@ pub fn count_argument(levels: &mut [u8], k: usize)
     requires { ((k + 1) * level_bytes ≤ length levels.old) × (written_of levels.old k < argument_limit) }
     ensures { levels.new ≡ set levels.old (k * level_bytes + 1) (written_of levels.old k + 1) }
 {
-    levels[k * LEVEL + 1] = levels[k * LEVEL + 1] + 1;
+    levels[k * LEVEL + 1] += 1;
 }

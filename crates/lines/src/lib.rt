@@ -30,11 +30,8 @@ pub fn put_rows(out: &mut [u8], text: &[u8], listing: &[u8], table: &[u64]) -> u
     ensures { Put (page_text text.now (table_rows (numbers_of listing.now) table.now)) out.old 0 out.new result }
 {
     let mut place = 0;
-    let mut k = 0;
-    while k < listing.len() / 2 {
-        let next = put_row(out, place, text, row_at(listing, table, k));
-        place = next;
-        k += 1;
+    for k in 0..listing.len() / 2 {
+        place = put_row(out, place, text, row_at(listing, table, k));
     }
     place
 }
@@ -68,11 +65,8 @@ fn put_text(out: &mut [u8], at: usize, text: &[u8], start: usize, end: usize) ->
     ensures { Put (tabulate text_width (shown text.now start end)) out.old at out.new result }
 {
     let mut place = at;
-    let mut c = 0;
-    while c < TEXT_WIDTH {
-        let next = put(out, place, shown(text, start, end, c));
-        place = next;
-        c += 1;
+    for c in 0..TEXT_WIDTH {
+        place = put(out, place, shown(text, start, end, c));
     }
     place
 }

@@ -7,7 +7,6 @@ ghost use Rattle.layout.specs.Limits.{production_limit};
 ghost use Rattle.order.specs.Order.{OrderIs, counted};
 ghost use Rattle.order.specs.Rows.{Marks, OneAbove, Outweighed, Weighs};
 
-use common::{both, either};
 use layout::limits::PRODUCTION_LIMIT;
 use layout::production_count;
 use priority::{leads_on, merged, priorities};
@@ -37,7 +36,7 @@ pub fn compare_uses(
     let count = production_count(book);
     let more = used_more(first, second, count);
     let less = used_more(second, first, count);
-    if !either(leads_on(more), leads_on(less)) {
+    if !(leads_on(more) | leads_on(less)) {
         return Order::Equal;
     }
     weigh(priorities(book), more, less)
@@ -70,10 +69,8 @@ fn used_more(
     ensures { Marks count (counted counts) (counted others) result }
 {
     let mut more = [false; PRODUCTION_LIMIT];
-    let mut p = 0;
-    while p < count {
+    for p in 0..count {
         more[p] = others[p] < counts[p];
-        p += 1;
     }
     more
 }
@@ -97,13 +94,11 @@ fn lower_than(
     ensures { (p : ℕ) → (get_or result p false ≡ true) ↔ OneAbove higher these p }
 {
     let mut lower = [false; PRODUCTION_LIMIT];
-    let mut q = 0;
-    while q < PRODUCTION_LIMIT {
+    for q in 0..PRODUCTION_LIMIT {
         if these[q] {
             let wider = merged(lower, higher[q]);
             lower = wider;
         }
-        q += 1;
     }
     lower
 }
@@ -112,12 +107,10 @@ fn lower_than(
 fn is_within(these: [bool; PRODUCTION_LIMIT], those: [bool; PRODUCTION_LIMIT]) -> bool
     ensures { (result ≡ true) ↔ ((p : ℕ) → get_or these p false ≡ true → get_or those p false ≡ true) }
 {
-    let mut p = 0;
-    while p < PRODUCTION_LIMIT {
-        if both(these[p], !those[p]) {
+    for p in 0..PRODUCTION_LIMIT {
+        if these[p] && !those[p] {
             return false;
         }
-        p += 1;
     }
     true
 }

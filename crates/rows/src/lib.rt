@@ -53,21 +53,15 @@ pub fn place_tree(
             byte: place + 1,
         };
     }
-    let count = argument_count(book, n - FIRST_PRODUCTION);
-    let mut number = at + 1;
-    let mut byte = place;
-    let mut d = 0;
-    while d < count {
-        let next = place_tree(book, listing, table, depth + 1, number, byte);
-        number = next.number;
-        byte = next.byte;
-        d += 1;
+    let mut next = Next {
+        number: at + 1,
+        byte: place,
+    };
+    for _ in 0..argument_count(book, n - FIRST_PRODUCTION) {
+        next = place_tree(book, listing, table, depth + 1, next.number, next.byte);
     }
-    put_row(table, at, depth, place, byte);
-    Next {
-        number: number,
-        byte: byte,
-    }
+    put_row(table, at, depth, place, next.byte);
+    next
 }
 
 // Puts a row into the table.

@@ -11,7 +11,6 @@ ghost use Rattle.priority.specs.Priorities.{Higher};
 ghost use Rattle.shortest.specs.Search.{far, RoundMore, way, Steps};
 ghost use Rattle.shortest.specs.Written.{chain_after, ShortestWritten};
 
-use common::{both, wide};
 use layout::limits::PRODUCTION_LIMIT;
 use layout::{declaration_at, declaration_count};
 use priority::{HIGHER, read_declaration};
@@ -44,20 +43,14 @@ fn round(book: &[u8], start: usize, k: usize, distance: &mut [usize], next: &mut
     requires distance_len { (length distance.old ≡ production_limit) × (length next.old ≡ production_limit) }
     ensures { RoundMore book.now k distance.old next.old distance.new next.new }
 {
-    let count = declaration_count(book);
-    let mut d = 0;
-    while d < count {
+    for d in 0..declaration_count(book) {
         let own = read_declaration(book, start, d);
         let first = own.first;
         let second = own.second;
-        if both(
-            own.kind == HIGHER,
-            both(distance[first] == FAR, distance[second] == k),
-        ) {
+        if own.kind == HIGHER && distance[first] == FAR && distance[second] == k {
             distance[first] = k + 1;
             next[first] = d as u8;
         }
-        d += 1;
     }
 }
 
@@ -68,12 +61,9 @@ fn follow(book: &[u8], start: usize, p: usize, count: usize, next: &[u8], out: &
     ensures { out.new ≡ chain_after (way book.now next.now p count) out.old }
 {
     let mut x = p;
-    let mut k = 0;
-    while both(k < count, k < out.len()) {
-        let d = wide(next[x]);
+    for k in 0..count.min(out.len()) {
         out[k] = next[x];
-        let own = read_declaration(book, start, d);
+        let own = read_declaration(book, start, usize::from(next[x]));
         x = own.second;
-        k += 1;
     }
 }

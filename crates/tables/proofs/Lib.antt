@@ -1,5 +1,4 @@
 -- Laws of the flat tables.
-pub mod BitsLaws
 pub mod LayoutLaws
 pub mod PutLaws
 pub mod MemberLaws

@@ -13,7 +13,7 @@ use lib.Seq.{get_or-set_same, get_or-set_other}
 use borrow.Author.Tests.{le-leb, lt-leb, lt-ltb, le-ltb, eq-eqb, ne_eqb}
 use Rattle.charset.proofs.BitLaws.{bit_or_lem}
 use Rattle.charset.specs.Set.{characters, bit, word_bits, set_words}
-use Rattle.tables.proofs.BitsLaws.{one_bit}
+use Rattle.charset.proofs.BitsLaws.{one_bit}
 use Rattle.tables.specs.Layout.{slots, slot_at, class_bits, class_bit, table_words, takes_char, takes_production}
 use Rattle.tables.specs.Put.{MemberAdded}
 

@@ -2,16 +2,15 @@
 // First how many productions there are; then for each how many arguments it has; for each its first row; and a class for each slot.
 #![tactic(auto)]
 
-ghost use Rattle.std.specs.Prelude.{◌≡◌, false, not, ◌&&◌, ℕ, ◌+◌, ◌*◌, ◌/◌, ◌%◌, ◌<◌, ◌≤◌, length, get_or};
-ghost use Rattle.charset.specs.Set.{characters, word_bits, bit, has};
-ghost use Rattle.common.specs.Bytes.{byte_values};
+ghost use Rattle.std.specs.Prelude.{◌≡◌, ℕ, ◌+◌, ◌*◌, ◌/◌, ◌%◌, ◌<◌, ◌≤◌, length, get_or};
+ghost use Rattle.charset.specs.Set.{characters, has};
 ghost use Rattle.common.specs.Zeros.{AllZero};
 ghost use Rattle.layout.specs.Limits.{production_limit};
-ghost use Rattle.tables.specs.Layout.{slots, counts_of, arity_in, row_count, slot_at, production_words, class_bits, production_octets, production_octet, table_words, takes_char, takes_production, ParserTables};
+ghost use Rattle.tables.specs.Layout.{slots, counts_of, arity_in, row_count, slot_at, class_words, class_bits, production_octets, production_octet, table_words, takes_char, takes_production, ParserTables};
 ghost use Rattle.tables.specs.Put.{CountsPut, ClassesKept, ClassPut, MemberAdded};
 
-use charset::{CharSet, SET_WORDS};
-use common::{put_words, wide};
+use charset::{Bits, CharSet, SET_WORDS};
+use common::put_words;
 use layout::limits::{ARGUMENT_LIMIT, PRODUCTION_LIMIT};
 
 // The number of production 0.
@@ -44,31 +43,11 @@ pub fn zero_tables() -> [u64; TABLE_WORDS]
 
 // ---- reading
 
-// A word as a number.
-fn number(word: u64) -> usize
-    ensures { result ≡ word }
-{
-    word as usize
-}
-
-fn word(n: usize) -> u64
-    ensures { result ≡ n }
-{
-    n as u64
-}
-
-// A small number as a byte.
-fn byte(n: usize) -> u8
-    requires { n < byte_values }
-    ensures { result ≡ n }
-{
-    n as u8
-}
-
 // The first word of a slot's class.
 fn slot_at(s: usize) -> usize
     requires { s ≤ slots }
-    ensures { result ≡ slot_at s }
+    ensures place { result ≡ slot_at s }
+    ensures within { result + class_words ≤ table_words }
 {
     CLASSES_AT + s * CLASS_WORDS
 }
@@ -78,7 +57,7 @@ pub fn production_count(tables: &[u64]) -> usize
     requires { ParserTables tables.now }
     ensures { result ≡ length (counts_of tables.now) }
 {
-    number(tables[0])
+    tables[0] as usize
 }
 
 // How many arguments production p has.
@@ -86,7 +65,7 @@ pub fn argument_count(tables: &[u64], p: usize) -> usize
     requires { ParserTables tables.now × (p < length (counts_of tables.now)) }
     ensures { result ≡ arity_in (counts_of tables.now) p }
 {
-    number(tables[COUNTS_AT + p])
+    tables[COUNTS_AT + p] as usize
 }
 
 // The first row of production p; for p past them all, the count of rows.
@@ -94,7 +73,7 @@ pub fn first_row(tables: &[u64], p: usize) -> usize
     requires { ParserTables tables.now × (p ≤ length (counts_of tables.now)) }
     ensures { result ≡ row_count (arity_in (counts_of tables.now)) p }
 {
-    number(tables[ROWS_AT + p])
+    tables[ROWS_AT + p] as usize
 }
 
 // How many rows there are.
@@ -111,11 +90,8 @@ pub fn argument_counts(tables: &[u64]) -> [u8; PRODUCTION_LIMIT]
     ensures { (p : ℕ) → p < length (counts_of tables.now) → get_or result p 0 ≡ arity_in (counts_of tables.now) p }
 {
     let mut counts = [0; PRODUCTION_LIMIT];
-    let count = production_count(tables);
-    let mut p = 0;
-    while p < count {
-        counts[p] = byte(argument_count(tables, p));
-        p += 1;
+    for p in 0..production_count(tables) {
+        counts[p] = argument_count(tables, p) as u8;
     }
     counts
 }
@@ -125,7 +101,7 @@ pub fn takes_char(tables: &[u64], s: usize, c: u8) -> bool
     requires { (length tables.now ≡ table_words) × (s ≤ slots) }
     ensures { result ≡ takes_char tables.now s c }
 {
-    (tables[slot_at(s) + wide(c / 64)] >> (c % 64)) % 2 == 1
+    (tables[slot_at(s) + usize::from(c / 64)] >> (c % 64)) % 2 == 1
 }
 
 // Whether production q may stand at slot s.
@@ -144,6 +120,14 @@ pub fn class_chars(tables: &[u64], s: usize) -> CharSet
     CharSet::read(tables, slot_at(s))
 }
 
+// The productions that may stand at slot s.
+pub fn class_productions(tables: &[u64], s: usize) -> ProductionSet
+    requires { (length tables.now ≡ table_words) × (s ≤ slots) }
+    ensures { (q : ℕ) → q < production_limit → has result.words q ≡ takes_production tables.now s q }
+{
+    ProductionSet::read(tables, slot_at(s) + SET_WORDS)
+}
+
 // Eight of the productions that may stand at slot s, from 8 k on: a bit for each.
 pub fn class_octet(tables: &[u64], s: usize, k: usize) -> u8
     requires { (length tables.now ≡ table_words) × (s ≤ slots) × (k < production_octets) }
@@ -151,7 +135,7 @@ pub fn class_octet(tables: &[u64], s: usize, k: usize) -> u8
 {
     let first = k * OCTET_BITS;
     let own = tables[slot_at(s) + SET_WORDS + first / 64];
-    byte(number((own >> (first % 64)) % 256))
+    ((own >> (first % 64)) % 256) as u8
 }
 
 // ---- writing
@@ -162,17 +146,18 @@ pub fn put_counts(tables: &mut [u64], counts: &[u8])
     ensures counts_put { CountsPut counts.now (length counts.now) tables.new }
     ensures classes_kept { ClassesKept tables.old tables.new }
 {
-    tables[0] = word(counts.len());
+    tables[0] = counts.len() as u64;
     tables[ROWS_AT] = 0;
     let mut row = 0;
-    let mut p = 0;
-    while p < counts.len() {
-        row += wide(counts[p]) + 1;
-        tables[COUNTS_AT + p] = word(wide(counts[p]));
-        tables[ROWS_AT + p + 1] = word(row);
-        p += 1;
+    for p in 0..counts.len() {
+        row += u64::from(counts[p]) + 1;
+        tables[COUNTS_AT + p] = u64::from(counts[p]);
+        tables[ROWS_AT + p + 1] = row;
     }
 }
+
+// A set of productions.
+pub type ProductionSet = Bits<PRODUCTION_WORDS>;
 
 // Writes the class of slot s.
 pub fn put_class(tables: &mut [u64], s: usize, chars: CharSet, productions: ProductionSet)
@@ -180,10 +165,8 @@ pub fn put_class(tables: &mut [u64], s: usize, chars: CharSet, productions: Prod
     ensures { ClassPut s (has chars.words) (has productions.words) tables.old tables.new }
 {
     let at = slot_at(s);
-    let characters = chars.words;
-    let numbers = productions.words;
-    put_words(tables, at, &characters);
-    put_words(tables, at + SET_WORDS, &numbers);
+    put_words(tables, at, &chars.words);
+    put_words(tables, at + SET_WORDS, &productions.words);
 }
 
 // Adds one member to the class of slot s: a character, or behind all of these a production.
@@ -192,88 +175,5 @@ pub fn add_member(tables: &mut [u64], s: usize, x: usize)
     ensures { MemberAdded s x tables.old tables.new }
 {
     let at = slot_at(s) + x / 64;
-    tables[at] = tables[at] | 1u64 << (x % 64);
-}
-
-// ---- sets of productions
-
-// A bit for each production.
-#[derive(Clone, Copy)]
-pub struct ProductionSet {
-    pub words: [u64; PRODUCTION_WORDS],
-}
-
-impl ProductionSet {
-    pub fn empty() -> Self
-        ensures { (q : ℕ) → q < production_limit → has result.words q ≡ false }
-    {
-        ProductionSet {
-            words: [0; PRODUCTION_WORDS],
-        }
-    }
-
-    // The productions whose entry of the row is set.
-    pub fn of(row: [bool; PRODUCTION_LIMIT]) -> Self
-        ensures { (q : ℕ) → q < production_limit → has result.words q ≡ get_or row q false }
-    {
-        let mut words = [0; PRODUCTION_WORDS];
-        let mut k = 0;
-        while k < PRODUCTION_WORDS {
-            words[k] = production_word(row, k);
-            k += 1;
-        }
-        ProductionSet { words }
-    }
-
-    // The set whose words stand at `at`.
-    pub fn read(words: &[u64], at: usize) -> Self
-        requires { at + production_words ≤ length words.now }
-        ensures { (q : ℕ) → q < production_limit → has result.words q ≡ bit (get_or words.now (at + q / word_bits) 0) (q % word_bits) }
-    {
-        let mut own = [0; PRODUCTION_WORDS];
-        let mut k = 0;
-        while k < PRODUCTION_WORDS {
-            own[k] = words[at + k];
-            k += 1;
-        }
-        ProductionSet { words: own }
-    }
-
-    // The set without the others, if these are barred.
-    pub fn without(self, barred: bool, others: ProductionSet) -> Self
-        ensures { (q : ℕ) → q < production_limit → has result.words q ≡ (has self.words q && not (barred && has others.words q)) }
-    {
-        if !barred {
-            return self;
-        }
-        self.minus(others)
-    }
-
-    fn minus(self, others: ProductionSet) -> Self
-        ensures { (q : ℕ) → q < production_limit → has result.words q ≡ (has self.words q && not (has others.words q)) }
-    {
-        let own = self.words;
-        let taken = others.words;
-        let mut words = [0; PRODUCTION_WORDS];
-        let mut k = 0;
-        while k < PRODUCTION_WORDS {
-            words[k] = own[k] ^ (own[k] & taken[k]);
-            k += 1;
-        }
-        ProductionSet { words }
-    }
-}
-
-// A bit for each of the 64 productions of word k.
-fn production_word(productions: [bool; PRODUCTION_LIMIT], k: usize) -> u64
-    requires { k < production_words }
-    ensures { (b : ℕ) → b < word_bits → bit result b ≡ get_or productions (k * word_bits + b) false }
-{
-    let mut word = 0u64;
-    let mut b = 0usize;
-    while b < 64 {
-        word = word | (productions[k * 64 + b] as u64) << b;
-        b += 1;
-    }
-    word
+    tables[at] |= 1u64 << (x % 64);
 }

@@ -14,7 +14,6 @@ pub fn put(out: &mut [u8], at: usize, byte: u8) -> usize
 {
     if at < out.len() {
         out[at] = byte;
-        return at + 1;
     }
     at + 1
 }
@@ -43,11 +42,9 @@ pub fn put_right(out: &mut [u8], at: usize, width: usize, n: usize) -> usize
     requires { at + length (set_right width n) ≤ farthest }
     ensures { Put (set_right width n) out.old at out.new result }
 {
-    let digits = numeral_length(n);
     let mut place = at;
-    while place + digits < at + width {
-        let next = put(out, place, b' ');
-        place = next;
+    for _ in 0..width.saturating_sub(numeral_length(n)) {
+        place = put(out, place, b' ');
     }
     put_numeral(out, place, n)
 }

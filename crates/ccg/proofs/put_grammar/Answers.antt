@@ -13,7 +13,7 @@ use Rattle.common.specs.Lists.{tabulate}
 use Rattle.layout.specs.Limits.{production_limit, argument_limit}
 use Rattle.tables.proofs.LayoutLaws.{counts_long}
 use Rattle.tables.specs.Layout.{slot, counts_of, arity_in, ParserTables}
-use Rattle.writing.proofs.PutLaws.{put_none, put_append, put_long, put_same}
+use Rattle.writing.proofs.PutLaws.{put_none, put_append, put_same}
 use Rattle.ccg.proofs.put_grammar.Goals as goal
 
 module _ (t : List ℕ) (tables : ParserTables t) where
@@ -29,33 +29,27 @@ module _ (t : List ℕ) (tables : ParserTables t) where
       let few : n ≤ production_limit = omega (arith, counts_long t tables.long tables.few_productions, tables.few_productions) in
       tabulate_text_short n (table_line t) few (λ p h. few_arguments p)
 
-pub production_count-count-requires : goal.production_count-count-requires
-production_count-count-requires c = c.requires
-
 pub loop-p-init : goal.loop-p-init
 loop-p-init c =
     let start = c in
-    (put_same _ _ _ _ _ _ (sym (lines_text_none (table_line start.args.tables.now))) (put_none start.args.out.now 0), omega arith)
+    put_same _ _ _ _ _ _ (sym (lines_text_none (table_line start.args.tables.now))) (put_none start.args.out.now 0)
 
-pub put_line-next-requires : goal.put_line-next-requires
-put_line-next-requires c = let start = c in
+pub put_line-place-requires-clause-p_bound : goal.put_line-place-requires-clause-p_bound
+put_line-place-requires-clause-p_bound c = let start = c in
     let turn = c.loop-p in
     let t = start.args.tables.now in
     let p = turn.p in
-    let count = c.production_count-count.ensures in
-    record { parser_tables = (start.requires, omega (arith, c.loop-p-test.true)); p_bound = omega (arith, turn.invariant.0.next, lines_short t start.requires p (omega (arith, c.loop-p-test.true)), line_short t start.requires p) }
+    let count = c.production_count-p-end.ensures in
+    omega (arith, turn.invariant.next, lines_short t start.requires p (omega (arith, c.loop-p-test.true)), line_short t start.requires p)
 
 pub loop-p-preserved : goal.loop-p-preserved
 loop-p-preserved c =
     let turn = c.loop-p in
-    (put_same _ _ _ _ _ _ (sym (lines_text_next (table_line c.args.tables.now) turn.p)) (put_append _ _ _ _ _ _ _ _ turn.invariant.0 c.put_line-next.ensures), omega arith)
-
-pub shape_of-out : goal.shape_of-out
-shape_of-out c = put_long _ _ _ _ _ c.loop-p.invariant.0
+    put_same _ _ _ _ _ _ (sym (lines_text_next (table_line c.args.tables.now) turn.p)) (put_append _ _ _ _ _ _ _ _ turn.invariant c.put_line-place.ensures)
 
 pub returns : goal.returns
 unfolding table_grammar
 returns c =
     let t = c.args.tables.now in
-    let e : c.loop-p.p ≡ length (counts_of t) = omega (arith, c.production_count-count.ensures) in
-    put_same _ _ _ _ _ _ (ap (λ (n : ℕ). grammar_text (tabulate n (table_line t))) e) c.loop-p.invariant.0
+    let e : c.loop-p.p ≡ length (counts_of t) = omega (arith, c.production_count-p-end.ensures) in
+    put_same _ _ _ _ _ _ (ap (λ (n : ℕ). grammar_text (tabulate n (table_line t))) e) c.loop-p.invariant

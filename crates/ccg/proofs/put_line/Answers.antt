@@ -11,7 +11,7 @@ use Rattle.layout.specs.Limits.{production_limit}
 use Rattle.tables.proofs.LayoutLaws.{counts_long}
 use Rattle.tables.specs.Layout.{slot, counts_of, arity_in, ParserTables}
 use Rattle.theory.specs.Tree.{production_number}
-use Rattle.writing.proofs.PutLaws.{put_none, put_append, put_long, put_same}
+use Rattle.writing.proofs.PutLaws.{put_none, put_append, put_same}
 use Rattle.ccg.proofs.put_line.Invariants.{classes, arguments_below}
 use Rattle.ccg.proofs.put_line.Goals as goal
 
@@ -26,14 +26,11 @@ module _ (t : List ℕ) (p count : ℕ) (e : count ≡ arity_in (counts_of t) p)
 few_productions : (t : List ℕ) (p : ℕ) → ParserTables t → p < length (counts_of t) → p < production_limit
 few_productions t p tables l = omega (arith, counts_long t tables.long tables.few_productions, tables.few_productions)
 
-pub argument_count-count-requires : goal.argument_count-count-requires
-argument_count-count-requires c = c.requires.parser_tables
-
 pub loop-i-init : goal.loop-i-init
 unfolding arguments_below
 loop-i-init c =
     let start = c in
-    (put_same _ _ _ _ _ _ (sym (arguments_text_none (classes start.args.tables.now start.args.p))) (put_none start.args.out.now start.args.at), omega arith)
+    put_same _ _ _ _ _ _ (sym (arguments_text_none (classes start.args.tables.now start.args.p))) (put_none start.args.out.now start.args.at)
 
 pub overflow_mul-p : goal.overflow_mul-p
 overflow_mul-p c =
@@ -43,56 +40,64 @@ overflow_mul-p c =
 pub overflow_add-p : goal.overflow_add-p
 overflow_add-p c =
     let start = c in
-    omega (arith, few_productions start.args.tables.now start.args.p start.requires.parser_tables.0 start.requires.parser_tables.1, c.argument_count-count.ensures, start.requires.parser_tables.0.few_arguments start.args.p)
+    omega (arith, few_productions start.args.tables.now start.args.p start.requires.parser_tables.0 start.requires.parser_tables.1, c.argument_count-i-end.ensures, start.requires.parser_tables.0.few_arguments start.args.p)
 
 pub put_class-class-requires : goal.put_class-class-requires
 unfolding arguments_below classes slot
 put_class-class-requires c = let start = c in
-    let argument-count = c.argument_count-count in
+    let argument-count = c.argument_count-i-end in
     let turn = c.loop-i in
     let t = start.args.tables.now in
     let p = start.args.p in
-    let line = line_long t p argument-count.result argument-count.ensures in record { tables_len = (start.requires.parser_tables.0.long, omega (arith, few_productions t p start.requires.parser_tables.0 start.requires.parser_tables.1, argument-count.ensures, start.requires.parser_tables.0.few_arguments p)); s_bound = omega (arith, start.requires.p_bound, turn.invariant.0.next, line, arguments_text_room (classes t p) turn.i argument-count.result c.loop-i-test.true) }
+    let line = line_long t p argument-count.result argument-count.ensures in record { tables_len = (start.requires.parser_tables.0.long, omega (arith, few_productions t p start.requires.parser_tables.0 start.requires.parser_tables.1, argument-count.ensures, start.requires.parser_tables.0.few_arguments p)); s_bound = omega (arith, start.requires.p_bound, turn.invariant.next, line, arguments_text_room (classes t p) turn.i argument-count.result c.loop-i-test.true) }
 
-pub put-space-requires : goal.put-space-requires
+pub put-place-requires : goal.put-place-requires
 unfolding arguments_below classes slot
-put-space-requires c =
+put-place-requires c =
     let start = c in
-    let argument-count = c.argument_count-count in
+    let argument-count = c.argument_count-i-end in
     let turn = c.loop-i in
     let t = start.args.tables.now in
     let p = start.args.p in
     let line = line_long t p argument-count.result argument-count.ensures in
-    omega (arith, start.requires.p_bound, turn.invariant.0.next, c.put_class-class.ensures.next, line, arguments_text_room (classes t p) turn.i argument-count.result c.loop-i-test.true)
+    omega (arith, start.requires.p_bound, turn.invariant.next, c.put_class-class.ensures.next, line, arguments_text_room (classes t p) turn.i argument-count.result c.loop-i-test.true)
 
 pub loop-i-preserved : goal.loop-i-preserved
 unfolding arguments_below classes slot
 loop-i-preserved c =
     let start = c in
     let turn = c.loop-i in
-    (put_same _ _ _ _ _ _ (sym (arguments_text_next (classes start.args.tables.now start.args.p) turn.i)) (put_append _ _ _ _ _ _ _ _ turn.invariant.0 (put_append _ _ _ _ _ _ _ _ c.put_class-class.ensures c.put-space.ensures)), omega arith)
+    put_same _ _ _ _ _ _ (sym (arguments_text_next (classes start.args.tables.now start.args.p) turn.i)) (put_append _ _ _ _ _ _ _ _ turn.invariant (put_append _ _ _ _ _ _ _ _ c.put_class-class.ensures c.put-place.ensures))
 
-pub put_result-requires : goal.put_result-requires
-put_result-requires c = let start = c in
-    let argument-count = c.argument_count-count in
+pub put_result-requires-clause-p_lt_production_limit : goal.put_result-requires-clause-p_lt_production_limit
+put_result-requires-clause-p_lt_production_limit c = let start = c in
+    let argument-count = c.argument_count-i-end in
     let turn = c.loop-i in
     let t = start.args.tables.now in
     let p = start.args.p in
     let line = line_long t p argument-count.result argument-count.ensures in
     let e : turn.i ≡ argument-count.result = omega arith in
     let n = ap (λ (k : ℕ). length (arguments_below t p k)) e in
-    record { p_lt_production_limit = few_productions t p start.requires.parser_tables.0 start.requires.parser_tables.1; p_bound = omega (arith, start.requires.p_bound, turn.invariant.0.next) }
+    few_productions t p start.requires.parser_tables.0 start.requires.parser_tables.1
 
-pub shape_of-out : goal.shape_of-out
-shape_of-out c = put_long _ _ _ _ _ c.put_result.ensures ∙ put_long _ _ _ _ _ c.loop-i.invariant.0
+pub put_result-requires-clause-p_bound : goal.put_result-requires-clause-p_bound
+put_result-requires-clause-p_bound c = let start = c in
+    let argument-count = c.argument_count-i-end in
+    let turn = c.loop-i in
+    let t = start.args.tables.now in
+    let p = start.args.p in
+    let line = line_long t p argument-count.result argument-count.ensures in
+    let e : turn.i ≡ argument-count.result = omega arith in
+    let n = ap (λ (k : ℕ). length (arguments_below t p k)) e in
+    omega (arith, start.requires.p_bound, turn.invariant.next)
 
 pub returns : goal.returns
 returns c =
     let start = c in
     let turn = c.loop-i in
-    let argument-count = c.argument_count-count in
+    let argument-count = c.argument_count-i-end in
     let t = start.args.tables.now in
     let p = start.args.p in
     let e : turn.i ≡ argument-count.result = omega arith in
     put_same _ _ _ _ _ _ (ap (λ (k : ℕ). arguments_below t p k ++ result_text (production_number p)) e ∙ line_is t p argument-count.result argument-count.ensures)
-    (put_append _ _ _ _ _ _ _ _ turn.invariant.0 c.put_result.ensures)
+    (put_append _ _ _ _ _ _ _ _ turn.invariant c.put_result.ensures)

@@ -1,5 +1,5 @@
 -- `put_line` meets its contract: the arguments passed are put, each with a space behind it.
-use Prim.Native.Nat.{ℕ, ◌-◌, ◌≤◌}
+use Prim.Native.Nat.{ℕ}
 use mathlib.Core.List.{List}
 use Rattle.ccg.specs.Ccg.{Class}
 use Rattle.ccg.specs.Tables.{table_class}
@@ -17,7 +17,4 @@ unfoldable pub arguments_below : List ℕ → ℕ → ℕ → List ℕ
 arguments_below t p n = arguments_text (tabulate n (classes t p))
 
 abbrev pub invariant-loop-i : goal.invariant-loop-i
-invariant-loop-i l = Put (arguments_below l.tables l.p l.i) l.initial.out l.at l.out l.place × (l.i ≤ l.count)
-
-abbrev pub decreases-loop-i : goal.decreases-loop-i
-decreases-loop-i l = l.count - l.i
+invariant-loop-i l = Put (arguments_below l.tables l.p l.i) l.initial.out l.at l.out l.place

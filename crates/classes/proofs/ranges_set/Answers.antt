@@ -18,35 +18,29 @@ next_range : (b : List ℕ) (k r c : ℕ) → in_ranges b k (r + 1) c ≡ (in_ra
 unfolding in_ranges
 next_range b k r c = any_next (λ j. spans (low b k j) (high b k j) c) r
 
-pub range_count-count-requires : goal.range_count-count-requires
-range_count-count-requires c = record { book_in_bounds = bodies_in c.args.book.now c.requires.framed; k_bound = c.requires.k_bound }
+pub range_count-r-end-requires-clause-book_in_bounds : goal.range_count-r-end-requires-clause-book_in_bounds
+range_count-r-end-requires-clause-book_in_bounds c = bodies_in c.args.book.now c.requires.framed
 
 pub loop-r-init : goal.loop-r-init
 unfolding in_ranges
 loop-r-init c =
     let a = c.args in
-    (omega arith, λ x l. c.empty-set.ensures x l ∙ sym (any_none (λ j. spans (low a.book.now a.k j) (high a.book.now a.k j) x)))
-
-pub overflow_mul-r : goal.overflow_mul-r
-overflow_mul-r c = let s = c in omega (arith, c.range_count-count.ensures, s.requires.at_value, class_in s.args.book.now s.requires.framed s.args.k s.requires.k_bound)
+    λ x l. c.empty-set.ensures x l ∙ sym (any_none (λ j. spans (low a.book.now a.k j) (high a.book.now a.k j) x))
 
 pub overflow_add-at : goal.overflow_add-at
-overflow_add-at c = let s = c in omega (arith, c.range_count-count.ensures, s.requires.at_value, class_in s.args.book.now s.requires.framed s.args.k s.requires.k_bound)
+overflow_add-at c = let s = c in omega (arith, c.range_count-r-end.ensures, s.requires.at_value, class_in s.args.book.now s.requires.framed s.args.k s.requires.k_bound)
 
 pub bounds-book-at : goal.bounds-book-at
-bounds-book-at c = let s = c in omega (arith, c.range_count-count.ensures, s.requires.at_value, class_in s.args.book.now s.requires.framed s.args.k s.requires.k_bound)
-
-pub overflow_mul-r-in-loop-r : goal.overflow_mul-r-in-loop-r
-overflow_mul-r-in-loop-r c = let s = c in omega (arith, c.range_count-count.ensures, s.requires.at_value, class_in s.args.book.now s.requires.framed s.args.k s.requires.k_bound)
+bounds-book-at c = let s = c in omega (arith, c.range_count-r-end.ensures, s.requires.at_value, class_in s.args.book.now s.requires.framed s.args.k s.requires.k_bound)
 
 pub overflow_add-at-in-loop-r : goal.overflow_add-at-in-loop-r
-overflow_add-at-in-loop-r c = let s = c in omega (arith, c.range_count-count.ensures, s.requires.at_value, class_in s.args.book.now s.requires.framed s.args.k s.requires.k_bound)
+overflow_add-at-in-loop-r c = let s = c in omega (arith, c.range_count-r-end.ensures, s.requires.at_value, class_in s.args.book.now s.requires.framed s.args.k s.requires.k_bound)
 
 pub overflow_add-at-in-loop-r-2 : goal.overflow_add-at-in-loop-r-2
-overflow_add-at-in-loop-r-2 c = let s = c in omega (arith, c.range_count-count.ensures, s.requires.at_value, class_in s.args.book.now s.requires.framed s.args.k s.requires.k_bound)
+overflow_add-at-in-loop-r-2 c = let s = c in omega (arith, c.range_count-r-end.ensures, s.requires.at_value, class_in s.args.book.now s.requires.framed s.args.k s.requires.k_bound)
 
 pub bounds-book-at-in-loop-r : goal.bounds-book-at-in-loop-r
-bounds-book-at-in-loop-r c = let s = c in omega (arith, c.range_count-count.ensures, s.requires.at_value, class_in s.args.book.now s.requires.framed s.args.k s.requires.k_bound)
+bounds-book-at-in-loop-r c = let s = c in omega (arith, c.range_count-r-end.ensures, s.requires.at_value, class_in s.args.book.now s.requires.framed s.args.k s.requires.k_bound)
 
 pub loop-r-preserved : goal.loop-r-preserved
 loop-r-preserved c =
@@ -57,11 +51,11 @@ loop-r-preserved c =
     let r = c.loop-r.r in
     let ends : (x : ℕ) → spans (byte_at b (at + 2 * r)) (byte_at b (at + 2 * r + 1)) x ≡ spans (low b k r) (high b k r) x =
     λ x. ap₂ (λ (y z : ℕ). spans y z x) (low_read b k at r s.requires.at_value) (high_read b k at r s.requires.at_value) in
-    (omega arith, λ x l. c.insert_range-wider.ensures x l ∙ ap₂ ◌||◌ (c.loop-r.invariant.1 x l) (ends x) ∙ sym (next_range b k r x))
+    λ x l. c.insert_range-set.ensures x l ∙ ap₂ ◌||◌ (c.loop-r.invariant x l) (ends x) ∙ sym (next_range b k r x)
 
 pub returns : goal.returns
 unfolding class_has in_ranges
 returns c x l =
     let a = c.args in
-    let e : c.loop-r.r ≡ range_count a.book.now a.k = omega (arith, c.range_count-count.ensures) in
-    c.loop-r.invariant.1 x l ∙ ap (λ (n : ℕ). in_ranges a.book.now a.k n x) e
+    let e : c.loop-r.r ≡ range_count a.book.now a.k = omega (arith, c.range_count-r-end.ensures) in
+    c.loop-r.invariant x l ∙ ap (λ (n : ℕ). in_ranges a.book.now a.k n x) e

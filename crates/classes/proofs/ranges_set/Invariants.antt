@@ -1,5 +1,5 @@
 -- `ranges_set` meets its contract: the set holds the characters of the ranges passed.
-use Prim.Native.Nat.{ℕ, ◌-◌, ◌≤◌, ◌<◌}
+use Prim.Native.Nat.{ℕ, ◌<◌}
 use mathlib.Core.Path.{◌≡◌}
 use mathlib.Core.Bool.{Bool}
 use mathlib.Core.List.{List}
@@ -13,7 +13,4 @@ unfoldable pub in_ranges : List ℕ → ℕ → ℕ → ℕ → Bool
 in_ranges b k r c = any_below r (λ j. spans (low b k j) (high b k j) c)
 
 abbrev pub invariant-loop-r : goal.invariant-loop-r
-invariant-loop-r l = (l.r ≤ l.count) × ((c : ℕ) → c < characters → has l.set.words c ≡ in_ranges l.book l.k l.r c)
-
-abbrev pub decreases-loop-r : goal.decreases-loop-r
-decreases-loop-r l = l.count - l.r
+invariant-loop-r l = (c : ℕ) → c < characters → has l.set.words c ≡ in_ranges l.book l.k l.r c

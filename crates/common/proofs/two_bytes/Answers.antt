@@ -5,4 +5,4 @@ use Rattle.common.proofs.two_bytes.Goals as goal
 
 pub returns : goal.returns
 unfolding number_at
-returns c = omega (arith, c.wide.ensures, c.wide-2.ensures)
+returns c = omega arith

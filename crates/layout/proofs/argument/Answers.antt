@@ -7,8 +7,8 @@ use Rattle.layout.proofs.FramedLaws.{production_in, bodies_in}
 use Rattle.layout.specs.Layout.{argument}
 use Rattle.layout.proofs.argument.Goals as goal
 
-pub production_at-requires : goal.production_at-requires
-production_at-requires c = record { book_in_bounds = bodies_in c.args.book.now c.requires.framed; p_bound = omega arith }
+pub production_at-requires-clause-book_in_bounds : goal.production_at-requires-clause-book_in_bounds
+production_at-requires-clause-book_in_bounds c = bodies_in c.args.book.now c.requires.framed
 
 pub overflow_add-production_at : goal.overflow_add-production_at
 overflow_add-production_at c = omega (arith, c.production_at.ensures, production_in c.args.book.now c.requires.framed c.args.p (omega arith))

@@ -1,11 +1,7 @@
 -- `class_at` meets its contract: before class j is where class j stands.
-use Prim.Native.Nat.{◌-◌, ◌≤◌}
 use mathlib.Core.Path.{◌≡◌}
 use Rattle.layout.specs.Layout.{class_at}
 use Rattle.layout.proofs.class_at.Given as goal
 
 abbrev pub invariant-loop-j : goal.invariant-loop-j
-invariant-loop-j l = (l.at ≡ class_at l.book l.j) × (l.j ≤ l.k)
-
-abbrev pub decreases-loop-j : goal.decreases-loop-j
-decreases-loop-j l = l.k - l.j
+invariant-loop-j l = l.at ≡ class_at l.book l.j

@@ -7,9 +7,6 @@ use Rattle.layout.proofs.LayoutLaws.{class_small}
 use Rattle.layout.specs.Layout.{byte_at, class_at, declaration_at}
 use Rattle.layout.proofs.declaration_at.Goals as goal
 
-pub overflow_mul-result : goal.overflow_mul-result
-overflow_mul-result c = omega (arith, c.type_inv.book 3)
-
 pub overflow_add-result : goal.overflow_add-result
 overflow_add-result c =
     let b = c.args.book.now in

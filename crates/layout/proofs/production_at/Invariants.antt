@@ -1,11 +1,7 @@
 -- `production_at` meets its contract: before production q is where production q stands.
-use Prim.Native.Nat.{◌-◌, ◌≤◌}
 use mathlib.Core.Path.{◌≡◌}
 use Rattle.layout.specs.Layout.{production_at}
 use Rattle.layout.proofs.production_at.Given as goal
 
 abbrev pub invariant-loop-q : goal.invariant-loop-q
-invariant-loop-q l = (l.at ≡ production_at l.book l.q) × (l.q ≤ l.p)
-
-abbrev pub decreases-loop-q : goal.decreases-loop-q
-decreases-loop-q l = l.p - l.q
+invariant-loop-q l = l.at ≡ production_at l.book l.q

@@ -7,8 +7,8 @@ use Rattle.layout.proofs.FramedLaws.{production_in, bodies_in}
 use Rattle.layout.specs.Layout.{result_sort}
 use Rattle.layout.proofs.result.Goals as goal
 
-pub production_at-requires : goal.production_at-requires
-production_at-requires c = record { book_in_bounds = bodies_in c.args.book.now c.requires.framed; p_bound = omega arith }
+pub production_at-requires-clause-book_in_bounds : goal.production_at-requires-clause-book_in_bounds
+production_at-requires-clause-book_in_bounds c = bodies_in c.args.book.now c.requires.framed
 
 pub byte_at-requires : goal.byte_at-requires
 byte_at-requires c = omega (arith, c.production_at.ensures, production_in c.args.book.now c.requires.framed c.args.p (omega arith))

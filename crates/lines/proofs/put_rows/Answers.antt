@@ -11,32 +11,30 @@ use Rattle.lines.proofs.TextLaws.{row_length}
 use Rattle.lines.specs.Text.{page_text, row_text, RowFits}
 use Rattle.rows.specs.Table.{unpacked, table_rows}
 use Rattle.rows.specs.declared.Row.{Row}
-use Rattle.writing.proofs.PutLaws.{put_none, put_append, put_same, put_long}
+use Rattle.writing.proofs.PutLaws.{put_none, put_append, put_same}
 use Rattle.lines.proofs.put_rows.Invariants.{rows_below}
 use Rattle.lines.proofs.put_rows.Goals as goal
 
 pub loop-k-init : goal.loop-k-init
 unfolding page_text joined tabulate
-loop-k-init c = (put_none c.args.out.now 0, refl, omega arith)
+loop-k-init c = (put_none c.args.out.now 0, refl)
 
 pub row_at-requires : goal.row_at-requires
 row_at-requires c =
     let start = c in
     (omega (arith, numbers_length start.args.listing.now), omega (arith, start.requires.listing_in_bounds.0, numbers_length start.args.listing.now))
 
-pub put_row-next-requires : goal.put_row-next-requires
-put_row-next-requires c = let start = c in
+pub put_row-place-requires-clause-row_fits : goal.put_row-place-requires-clause-row_fits
+put_row-place-requires-clause-row_fits c = let start = c in
     let turn = c.loop-k in
     let a = start.args in
-    record { row_fits = subst (RowFits a.text.now) (sym c.row_at.ensures) (start.requires.by_index turn.k (omega (arith, numbers_length a.listing.now))); line_length_bound = omega (arith, turn.invariant.1, turn.invariant.2, start.requires.listing_in_bounds.0, start.requires.listing_in_bounds.1) }
+    subst (RowFits a.text.now) (sym c.row_at.ensures) (start.requires.by_index turn.k (omega (arith, numbers_length a.listing.now)))
 
-pub overflow_add-k : goal.overflow_add-k
-overflow_add-k c =
-    let start = c in
-    omega (arith, c.loop-k.invariant.2, start.requires.listing_in_bounds.0, start.requires.listing_in_bounds.1)
-
-pub loop-k-smaller : goal.loop-k-smaller
-loop-k-smaller c = omega (arith, numbers_length c.args.listing.now)
+pub put_row-place-requires-clause-line_length_bound : goal.put_row-place-requires-clause-line_length_bound
+put_row-place-requires-clause-line_length_bound c = let start = c in
+    let turn = c.loop-k in
+    let a = start.args in
+    omega (arith, turn.invariant.1, numbers_length a.listing.now, start.requires.listing_in_bounds.0, start.requires.listing_in_bounds.1)
 
 pub loop-k-preserved : goal.loop-k-preserved
 unfolding page_text
@@ -46,18 +44,14 @@ loop-k-preserved c =
     let a = start.args in
     let row : ℕ → Row = λ j. unpacked (get_or (numbers_of a.listing.now) j 0) (get_or a.table.now j 0) in
     let fits = start.requires.by_index turn.k (omega (arith, numbers_length a.listing.now)) in
-    let put = put_same _ _ _ _ _ _ (ap (row_text a.text.now) c.row_at.ensures) c.put_row-next.ensures in (
+    let put = put_same _ _ _ _ _ _ (ap (row_text a.text.now) c.row_at.ensures) c.put_row-place.ensures in (
       put_same _ _ _ _ _ _ (sym (joined_tabulate_next (row_text a.text.now) turn.k row)) (put_append _ _ _ _ _ _ _ _ turn.invariant.0 put),
       omega (arith, put.next, turn.invariant.1, row_length a.text.now (row turn.k) fits),
-      omega (arith, numbers_length a.listing.now),
     )
-
-pub shape_of-out : goal.shape_of-out
-shape_of-out c = put_long _ _ _ _ _ c.loop-k.invariant.0
 
 pub returns : goal.returns
 unfolding table_rows
 returns c =
     let a = c.args in
-    let all : c.loop-k.k ≡ length (numbers_of a.listing.now) = omega (arith, c.loop-k.invariant.2, numbers_length a.listing.now) in
+    let all : c.loop-k.k ≡ length (numbers_of a.listing.now) = omega (arith, numbers_length a.listing.now) in
     put_same _ _ _ _ _ _ (ap (λ (j : ℕ). page_text a.text.now (rows_below a.listing.now a.table.now j)) all) c.loop-k.invariant.0

@@ -1,8 +1,8 @@
 -- `put_rows` meets its contract: the lines of the numbers passed are put.
-use Prim.Native.Nat.{ℕ, ◌*◌, ◌-◌, ◌≤◌}
+use Prim.Native.Nat.{ℕ, ◌*◌}
 use mathlib.Core.List.{List}
 use mathlib.Core.Path.{◌≡◌}
-use lib.ListN.{length, get_or}
+use lib.ListN.{get_or}
 use Rattle.common.specs.Lists.{tabulate}
 use Rattle.numbers.specs.Numbers.{numbers_of}
 use Rattle.lines.specs.Text.{page_text, line_length}
@@ -16,7 +16,4 @@ abbrev pub rows_below : (listing table : List ℕ) (k : ℕ) → List Row
 rows_below listing table k = tabulate k (λ j. unpacked (get_or (numbers_of listing) j 0) (get_or table j 0))
 
 abbrev pub invariant-loop-k : goal.invariant-loop-k
-invariant-loop-k l = Put (page_text l.text (rows_below l.listing l.table l.k)) l.initial.out 0 l.out l.place × (l.place ≡ line_length * l.k) × (l.k ≤ length (numbers_of l.listing))
-
-abbrev pub decreases-loop-k : goal.decreases-loop-k
-decreases-loop-k l = length (numbers_of l.listing) - l.k
+invariant-loop-k l = Put (page_text l.text (rows_below l.listing l.table l.k)) l.initial.out 0 l.out l.place × (l.place ≡ line_length * l.k)

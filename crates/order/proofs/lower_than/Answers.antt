@@ -43,7 +43,7 @@ module _ (higher : List (List Bool)) (these : List Bool) (n p : ℕ) where
 
 pub loop-q-init : goal.loop-q-init
 unfolding OneOf
-loop-q-init c = (omega arith, λ p. ((λ e. absurd (false≢true (sym (get_d_all production_limit false p) ∙ e))), (λ (q, l, h, above). absurd (omega arith))))
+loop-q-init c = λ p. ((λ e. absurd (false≢true (sym (get_d_all production_limit false p) ∙ e))), (λ (q, l, h, above). absurd (omega arith)))
 
 pub loop-q-preserved : goal.loop-q-preserved
 unfolding entry
@@ -53,14 +53,11 @@ loop-q-preserved c =
     let these = l.args.these in
     let q = l.loop-q.q in
     elim c.if-these-q.branch [
-      | then-these-q w ↦ (omega arith, λ p. rw w.lower-is (joined higher these q p w.if-these-q.true _ _ (l.loop-q.invariant.1 p) (w.merged-wider.ensures p)))
-      | else-these-q w ↦ (
-        omega arith,
-        λ p. rw w.lower-is (
-          (λ e. wider higher these q p ((l.loop-q.invariant.1 p).0 e)),
-          (λ h. (l.loop-q.invariant.1 p).1 (passed higher these q p w.if-these-q.false h)),
-        ),
-      )
+      | then-these-q w ↦ (λ p. rw w.lower-is (joined higher these q p w.if-these-q.true _ _ (l.loop-q.invariant p) (w.merged-wider.ensures p)))
+      | else-these-q w ↦ (λ p. rw w.lower-is (
+        (λ e. wider higher these q p ((l.loop-q.invariant p).0 e)),
+        (λ h. (l.loop-q.invariant p).1 (passed higher these q p w.if-these-q.false h)),
+      ))
     ]
 
 pub returns : goal.returns
@@ -68,7 +65,7 @@ unfolding OneOf
 returns c p =
     let these = c.args.these in
     let n : length these ≡ production_limit = search rules in
-    let inv = c.loop-q.invariant.1 p in (
+    let inv = c.loop-q.invariant p in (
       (λ e. let (q, l, marked, above) = inv.0 e in (q, marked, above)),
       (λ (q, marked, above). by_cases (dec_lt q production_limit)
           (λ l. inv.1 (q, omega arith, marked, above))

@@ -6,29 +6,26 @@ use native.Mathlib.Decide.{dec_lt}
 use native.Mathlib.Omega.{arith}
 use lib.ListN.{replicate, length-replicate}
 use borrow.Author.Tests.{ltb-true, lt-ltb}
-use Rattle.common.proofs.FillLaws.{filled_none, filled_more}
+use Rattle.common.proofs.FillLaws.{filled_more}
 use Rattle.common.proofs.ListLaws.{get_d_all}
 use Rattle.layout.specs.Limits.{production_limit}
 use Rattle.order.proofs.used_more.Invariants.{Marked}
 use Rattle.order.proofs.used_more.Goals as goal
-
-pub loop-p-init : goal.loop-p-init
-loop-p-init c = (filled_none (Marked c.args.counts c.args.others c.args.count) false (replicate production_limit false), omega arith)
 
 pub loop-p-preserved : goal.loop-p-preserved
 unfolding Marked
 loop-p-preserved c =
     let start = c in
     let p = c.loop-p.p in
-    (filled_more (Marked start.args.counts start.args.others start.args.count) false (replicate production_limit false) p c.loop-p.more _ (omega (arith, length-replicate production_limit false)) c.loop-p.invariant.0 ((λ e. (omega arith, ltb-true _ _ e)), (λ (l, h). lt-ltb _ _ h)), omega arith)
+    filled_more (Marked start.args.counts start.args.others start.args.count) false (replicate production_limit false) p c.loop-p.more _ (omega (arith, length-replicate production_limit false)) c.loop-p.invariant ((λ e. (omega arith, ltb-true _ _ e)), (λ (l, h). lt-ltb _ _ h))
 
 pub returns : goal.returns
 unfolding Marked
 returns c p =
     let start = c in
     by_cases (dec_lt p start.args.count)
-    (λ l. c.loop-p.invariant.0.done p (omega arith))
+    (λ l. c.loop-p.invariant.done p (omega arith))
     (λ l. (
-      (λ e. absurd (false≢true (sym (c.loop-p.invariant.0.rest p (omega arith) ∙ get_d_all production_limit false p) ∙ e))),
+      (λ e. absurd (false≢true (sym (c.loop-p.invariant.rest p (omega arith) ∙ get_d_all production_limit false p) ∙ e))),
       (λ (k, h). absurd (omega arith)),
     ))

@@ -1,5 +1,5 @@
 -- `used_more` meets its contract: the places below p are marked as the counts there say, the rest is as it was.
-use Prim.Native.Nat.{ℕ, ◌-◌, ◌≤◌, ◌<◌}
+use Prim.Native.Nat.{ℕ, ◌<◌}
 use mathlib.Core.Bool.{Bool, false, true}
 use mathlib.Core.List.{List}
 use mathlib.Core.Logic.{◌↔◌}
@@ -15,7 +15,4 @@ unfoldable pub Marked : (counts others : List ℕ) → ℕ → ℕ → Bool → 
 Marked counts others count k v = (v ≡ true) ↔ ((k < count) × (counted others k < counted counts k))
 
 abbrev pub invariant-loop-p : goal.invariant-loop-p
-invariant-loop-p l = Filled (Marked l.counts l.others l.count) false (replicate production_limit false) l.p l.more × (l.p ≤ l.count)
-
-abbrev pub decreases-loop-p : goal.decreases-loop-p
-decreases-loop-p l = l.count - l.p
+invariant-loop-p l = Filled (Marked l.counts l.others l.count) false (replicate production_limit false) l.p l.more

@@ -1,8 +1,7 @@
 -- `follow` meets its contract.
-use Prim.Native.Nat.{ℕ, ◌-◌, ◌≤◌, ◌<◌}
+use Prim.Native.Nat.{ℕ, ◌<◌}
 use mathlib.Core.Path.{◌≡◌}
 use mathlib.Core.List.{List}
-use lib.ListN.{length}
 use Rattle.common.proofs.FillLaws.{Filled}
 use Rattle.layout.specs.Limits.{production_limit}
 use Rattle.shortest.proofs.WrittenLaws.{Entry}
@@ -14,11 +13,6 @@ pub record Walked (b next : List ℕ) (p count : ℕ) (out₀ out : List ℕ) (x
   pub written : Filled (Entry (way b next p count)) 0 out₀ k out
   pub here : x ≡ reached b next p k
   pub there : x < production_limit
-  pub in_chain : k ≤ count
-  pub in_buffer : k ≤ length out₀
 
-abbrev pub invariant-loop-d : goal.invariant-loop-d
-invariant-loop-d l = Walked l.book l.next l.p l.count l.initial.out l.out l.x l.k
-
-abbrev pub decreases-loop-d : goal.decreases-loop-d
-decreases-loop-d l = l.count - l.k
+abbrev pub invariant-loop-k : goal.invariant-loop-k
+invariant-loop-k l = Walked l.book l.next l.p l.count l.initial.out l.out l.x l.k

@@ -1,100 +1,41 @@
 -- `round` meets its contract.
-use Prim.Native.Nat.{ℕ, ◌+◌, ◌<◌}
-use mathlib.Core.Path.{◌≡◌, refl, sym, ◌∙◌, ap, subst}
+use Prim.Native.Nat.{◌+◌, ◌<◌}
+use mathlib.Core.Path.{◌≡◌, refl, sym, ◌∙◌, ap}
 use native.Mathlib.Omega.{arith}
-use lib.ListN.{length-set}
+use lib.ListN.{get_or}
+use lib.Dec.{eqb}
+use mathlib.Core.Bool.{false, ◌&&◌}
+use borrow.Author.Tests.{eq-eqb, ne_eqb}
+use Rattle.shortest.specs.Search.{far}
 use Rattle.layout.specs.Layout.{declarations, first, second}
 use Rattle.priority.specs.Priorities.{kind_number, declaration_of}
-use Rattle.shortest.proofs.RoundLaws.{Midway, leads_back, test_made, test_new, test_old, round_begins, round_passes, round_finds, round_ends}
+use Rattle.shortest.proofs.RoundLaws.{Midway, leads_back, test_made, test_new, test_old, round_passes, round_finds}
 use Rattle.shortest.proofs.round.Goals as goal
-use Rattle.shortest.proofs.round.Goals.{then-both, else-both}
-
-pub declaration_count-count-requires : goal.declaration_count-count-requires
-declaration_count-count-requires c = c.requires.well_formed.0.framed.header
-
-pub loop-d-init : goal.loop-d-init
-loop-d-init c = let start = c in
-    record {
-      distances = start.requires.distance_len.0;
-      nexts = start.requires.distance_len.1;
-      within = omega arith;
-      midway = λ y r. round_begins start.args.book.now y start.args.k start.args.distance.now start.args.next.now r;
-    }
-
-pub read_declaration-own-requires : goal.read_declaration-own-requires
-read_declaration-own-requires c = let start = c in record { well_formed = start.requires.well_formed.0; d_bound = (omega (arith, c.declaration_count-count.ensures), start.requires.well_formed.1) }
-
-pub offset_bounds-distance-first : goal.offset_bounds-distance-first
-offset_bounds-distance-first c = omega (arith, c.read_declaration-own.ensures.first_lt_production_limit)
-
-pub bounds-distance-first : goal.bounds-distance-first
-bounds-distance-first c = omega (arith, c.read_declaration-own.ensures.first_lt_production_limit, c.loop-d.invariant.distances)
-
-pub offset_bounds-distance-second : goal.offset_bounds-distance-second
-offset_bounds-distance-second c = omega (arith, c.read_declaration-own.ensures.first_lt_production_limit)
-
-pub bounds-distance-second : goal.bounds-distance-second
-bounds-distance-second c = omega (arith, c.read_declaration-own.ensures.first_lt_production_limit, c.loop-d.invariant.distances)
-
-pub overflow_add-distance : goal.overflow_add-distance
-overflow_add-distance c = omega (arith, c.requires.well_formed.2)
-
-pub offset_bounds-distance-first-then-both : goal.offset_bounds-distance-first-then-both
-offset_bounds-distance-first-then-both c = omega (arith, c.read_declaration-own.ensures.first_lt_production_limit)
-
-pub bounds-distance-first-then-both : goal.bounds-distance-first-then-both
-bounds-distance-first-then-both c = omega (arith, c.read_declaration-own.ensures.first_lt_production_limit, c.loop-d.invariant.distances)
-
-pub overflow_cast-next : goal.overflow_cast-next
-overflow_cast-next c = omega (arith, c.declaration_count-count.ensures, c.type_inv.book 3)
-
-pub bounds-next-first : goal.bounds-next-first
-bounds-next-first c = omega (arith, c.read_declaration-own.ensures.first_lt_production_limit, c.loop-d.invariant.nexts)
+use Rattle.shortest.proofs.round.Goals.{then-own-eq-HIGHER+then-distance-first-eq-FAR+then-distance-second, else-own-eq-HIGHER-via-then-own-eq-HIGHER+else-distance-first-eq-FAR, else-own-eq-HIGHER-via-then-own-eq-HIGHER+then-distance-first-eq-FAR+else-distance-second, else-own-eq-HIGHER, else-own-eq-HIGHER-via-else-own-eq-HIGHER}
 
 pub loop-d-preserved : goal.loop-d-preserved
 unfolding kind_number declaration_of
-loop-d-preserved c =
-    let start = c in
+loop-d-preserved c y r =
     let turn = c.loop-d in
-    let b = start.args.book.now in
+    let b = c.args.book.now in
+    let k = c.args.k in
+    let n = turn.d in
     let l = c.read_declaration-own.result in
-    let own : l ≡ declaration_of b turn.d = c.read_declaration-own.ensures.value in
+    let own : l ≡ declaration_of b n = c.read_declaration-own.ensures.value in
     let (hf, hs) = c.read_declaration-own.ensures.first_lt_production_limit in
-    let same : l.first ≡ first b turn.d = rw own refl in
-    let few : turn.d < declarations b = omega (arith, c.declaration_count-count.ensures) in
-    let on : c.both-in-loop-d.result ≡ leads_back start.args.k turn.distance (declaration_of b turn.d) =
-    test_made start.args.k turn.distance l c.both.result c.both-in-loop-d.result (omega (arith, hf, turn.invariant.distances)) (omega (arith, hs, turn.invariant.distances))
-    c.both.ensures c.both-in-loop-d.ensures
-    ∙ ap (leads_back start.args.k turn.distance) own in
-    let k = start.args.k in
-    elim c.if-both.branch [
-      | then-both u ↦ let (says, new, at) = test_new b k turn.distance turn.d few (sym on ∙ u.if-both.true) in
-          rw (u.distance-is, u.next-is)
-          (record {
-            distances = length-set turn.distance l.first (k + 1) ∙ turn.invariant.distances;
-            nexts = length-set turn.next l.first turn.d ∙ turn.invariant.nexts;
-            within = omega arith;
-            midway = λ y r. rw same
-                (round_finds b y k turn.distance turn.next turn.d (turn.invariant.midway y r) (first b turn.d) (second b turn.d) says (omega (arith, hf, same)) start.requires.well_formed.2 new at);
-          })
-      | else-both u ↦ rw (u.distance-is, u.next-is)
-          (record {
-            distances = turn.invariant.distances;
-            nexts = turn.invariant.nexts;
-            within = omega arith;
-            midway = λ y r. round_passes b y k turn.distance turn.next turn.d (turn.invariant.midway y r) (test_old b k turn.distance turn.d (sym on ∙ u.if-both.false));
-          })
+    let same : l.first ≡ first b n = rw own refl in
+    let few : n < declarations b = omega (arith, c.declaration_count-d-end.ensures) in
+    let read : leads_back k turn.distance (declaration_of b n) ≡ (eqb l.kind 1 && (eqb (get_or turn.distance l.first 0) far && eqb (get_or turn.distance l.second 0) k)) =
+    ap (leads_back k turn.distance) (sym own) ∙ sym (test_made k turn.distance l _ _ (omega (arith, hf)) (omega (arith, hs)) refl refl) in
+    let passes : leads_back k turn.distance (declaration_of b n) ≡ false → Midway b y k (n + 1) turn.distance turn.next =
+    λ e. round_passes b y k turn.distance turn.next n (turn.invariant y r) (test_old b k turn.distance n e) in
+    elim c.if-own-eq-HIGHER.branch [
+      | then-own-eq-HIGHER+then-distance-first-eq-FAR+then-distance-second w ↦
+          let (says, new, at) = test_new b k turn.distance n few (read ∙ rw (eq-eqb _ _ w.if-own-eq-HIGHER.true, eq-eqb _ _ w.if-distance-first-eq-FAR.true, eq-eqb _ _ w.if-distance-second.true) refl) in
+          rw (w.distance-is, w.next-is, same) (round_finds b y k turn.distance turn.next n (turn.invariant y r) (first b n) (second b n) says (omega (arith, hf, same)) c.requires.well_formed.2 new at)
+      | else-own-eq-HIGHER w ↦ rw (w.distance-is, w.next-is) (passes (elim w.else-own-eq-HIGHER.branch [
+        | else-own-eq-HIGHER-via-then-own-eq-HIGHER+then-distance-first-eq-FAR+else-distance-second v ↦ (read ∙ rw (eq-eqb _ _ v.if-own-eq-HIGHER.true, eq-eqb _ _ v.if-distance-first-eq-FAR.true, ne_eqb _ _ v.if-distance-second.false) refl)
+        | else-own-eq-HIGHER-via-then-own-eq-HIGHER+else-distance-first-eq-FAR v ↦ (read ∙ rw (eq-eqb _ _ v.if-own-eq-HIGHER.true, ne_eqb _ _ v.if-distance-first-eq-FAR.false) refl)
+        | else-own-eq-HIGHER-via-else-own-eq-HIGHER v ↦ (read ∙ rw (ne_eqb _ _ v.if-own-eq-HIGHER.false) refl)
+      ]))
     ]
-
-pub shape_of-distance : goal.shape_of-distance
-shape_of-distance c = let start = c in c.loop-d.invariant.distances ∙ sym start.requires.distance_len.0
-
-pub shape_of-next : goal.shape_of-next
-shape_of-next c = let start = c in c.loop-d.invariant.nexts ∙ sym start.requires.distance_len.1
-
-pub returns : goal.returns
-returns c y r =
-    let start = c in
-    let all : c.loop-d.d ≡ declarations start.args.book.now = omega (arith, c.loop-d.invariant.within, c.declaration_count-count.ensures) in
-    round_ends start.args.book.now y start.args.k c.loop-d.distance c.loop-d.next
-    (subst (λ (n : ℕ). Midway start.args.book.now y start.args.k n c.loop-d.distance c.loop-d.next) all (c.loop-d.invariant.midway y r))

@@ -40,8 +40,8 @@ module _ (b : List ℕ) (p q : ℕ) (e : checked b ≡ accepted) (h : Higher b p
       let near : away distance p < far = ⊎_elim (λ l. omega arith) (λ l. absurd (ended (read ∙ l))) (r.within p) in
       rw read (found_steps b q k distance next r e p h near, way_shortest b q k distance next r e p h near, way_length b q k distance next r e p h near)
 
-pub declaration_at-start-requires : goal.declaration_at-start-requires
-declaration_at-start-requires c = let start = c in record { book_in_bounds = bodies_in start.args.book.now (accepted_formed start.args.book.now start.requires.0).framed; d_bound = omega arith }
+pub declaration_at-start-requires-clause-book_in_bounds : goal.declaration_at-start-requires-clause-book_in_bounds
+declaration_at-start-requires-clause-book_in_bounds c = let start = c in bodies_in start.args.book.now (accepted_formed start.args.book.now start.requires.0).framed
 
 pub offset_bounds-distance-q : goal.offset_bounds-distance-q
 offset_bounds-distance-q c = let known = there _ _ _ c.requires.0 c.requires.1 in omega (arith, known)
@@ -58,27 +58,9 @@ offset_bounds-distance-p c = let known = there _ _ _ c.requires.0 c.requires.1 i
 pub bounds-distance-p : goal.bounds-distance-p
 bounds-distance-p c = (there _ _ _ c.requires.0 c.requires.1).0
 
-pub slice_bounds-round-end : goal.slice_bounds-round-end
-slice_bounds-round-end c = sym c.loop-distance.invariant.0.sound.distances
-
-pub slice_bounds-round-end-in-loop-distance : goal.slice_bounds-round-end-in-loop-distance
-slice_bounds-round-end-in-loop-distance c = sym c.loop-distance.invariant.0.sound.nexts
-
-pub round-requires : goal.round-requires
-round-requires c = let start = c in
-    let rounds = c.loop-distance.invariant.0 in record { well_formed = (accepted_formed start.args.book.now start.requires.0, c.declaration_at-start.ensures, still _ _ _ start.requires.0 start.requires.1 _ _ _ c.loop-distance.invariant.0 c.loop-distance-test.true); distance_len = (rounds.sound.distances, rounds.sound.nexts) }
-
-pub overflow_add-k : goal.overflow_add-k
-overflow_add-k c =
-    let start = c in
-    let more : c.loop-distance.k + 1 < far = still _ _ _ start.requires.0 start.requires.1 _ _ _ c.loop-distance.invariant.0 c.loop-distance-test.true in
-    omega (arith, more)
-
-pub loop-distance-smaller : goal.loop-distance-smaller
-loop-distance-smaller c =
-    let start = c in
-    let more : c.loop-distance.k + 1 < far = still _ _ _ start.requires.0 start.requires.1 _ _ _ c.loop-distance.invariant.0 c.loop-distance-test.true in
-    omega (arith, more)
+pub round-requires-clause-well_formed : goal.round-requires-clause-well_formed
+round-requires-clause-well_formed c = let start = c in
+    let rounds = c.loop-distance.invariant.0 in (accepted_formed start.args.book.now start.requires.0, c.declaration_at-start.ensures, still _ _ _ start.requires.0 start.requires.1 _ _ _ c.loop-distance.invariant.0 c.loop-distance-test.true)
 
 pub loop-distance-preserved : goal.loop-distance-preserved
 loop-distance-preserved c =
@@ -91,11 +73,11 @@ offset_bounds-distance-p-2 c = let known = there _ _ _ c.requires.0 c.requires.1
 pub bounds-distance-p-2 : goal.bounds-distance-p-2
 bounds-distance-p-2 c = (there _ _ _ c.requires.0 c.requires.1).0
 
-pub slice_bounds-follow-end : goal.slice_bounds-follow-end
-slice_bounds-follow-end c = sym c.loop-distance.invariant.0.sound.nexts
+pub follow-requires-clause-well_formed : goal.follow-requires-clause-well_formed
+follow-requires-clause-well_formed c = let start = c in (accepted_formed start.args.book.now start.requires.0, c.declaration_at-start.ensures)
 
-pub follow-requires : goal.follow-requires
-follow-requires c = let start = c in record { well_formed = (accepted_formed start.args.book.now start.requires.0, c.declaration_at-start.ensures); next_len = (c.loop-distance.invariant.0.sound.nexts, (there _ _ _ start.requires.0 start.requires.1).0, (found _ _ _ start.requires.0 start.requires.1 _ _ _ c.loop-distance.invariant.0 c.loop-distance.invariant.1 c.loop-distance-test.false).0) }
+pub follow-requires-clause-next_len : goal.follow-requires-clause-next_len
+follow-requires-clause-next_len c = let start = c in (c.loop-distance.invariant.0.sound.nexts, (there _ _ _ start.requires.0 start.requires.1).0, (found _ _ _ start.requires.0 start.requires.1 _ _ _ c.loop-distance.invariant.0 c.loop-distance.invariant.1 c.loop-distance-test.false).0)
 
 pub returns : goal.returns
 returns c =

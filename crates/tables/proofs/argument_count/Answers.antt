@@ -1,11 +1,11 @@
 -- `argument_count` meets its contract: it is the word of production p.
-use mathlib.Core.Path.{sym, ◌∙◌}
+use mathlib.Core.Path.{sym}
 use native.Mathlib.Omega.{arith}
 use Rattle.tables.proofs.LayoutLaws.{counts_long, count_at}
 use Rattle.tables.proofs.argument_count.Goals as goal
 
-pub overflow_add-p : goal.overflow_add-p
-overflow_add-p c =
+pub overflow_add-result : goal.overflow_add-result
+overflow_add-result c =
     let start = c in
     omega (arith, counts_long start.args.tables.now start.requires.0.long start.requires.0.few_productions)
 
@@ -22,4 +22,4 @@ bounds-tables-p c =
 pub returns : goal.returns
 returns c =
     let start = c in
-    c.number.ensures ∙ sym (count_at start.args.tables.now start.args.p (omega (arith, counts_long start.args.tables.now start.requires.0.long start.requires.0.few_productions)))
+    sym (count_at start.args.tables.now start.args.p (omega (arith, counts_long start.args.tables.now start.requires.0.long start.requires.0.few_productions)))

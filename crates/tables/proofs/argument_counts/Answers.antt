@@ -1,6 +1,6 @@
 -- `argument_counts` meets its contract: the counts of the productions passed are copied.
 use Prim.Native.Nat.{◌<◌}
-use mathlib.Core.Path.{◌∙◌, refl}
+use mathlib.Core.Path.{◌∙◌}
 use native.Mathlib.Decide.{ℕ_discrete}
 use native.Mathlib.Omega.{arith}
 use lib.ListN.{length-set}
@@ -9,35 +9,20 @@ use Rattle.layout.specs.Limits.{production_limit}
 use Rattle.tables.proofs.LayoutLaws.{counts_long}
 use Rattle.tables.proofs.argument_counts.Goals as goal
 
-pub production_count-count-requires : goal.production_count-count-requires
-production_count-count-requires c = c.requires
-
-pub loop-p-init : goal.loop-p-init
-loop-p-init c = (λ k l. absurd (omega arith), (refl, omega arith))
-
-pub argument_count-requires : goal.argument_count-requires
-argument_count-requires c = (c.requires, omega (arith, c.production_count-count.ensures))
-
-pub byte-requires : goal.byte-requires
-byte-requires c = omega (arith, c.argument_count.ensures, c.requires.few_arguments c.loop-p.p)
-
 pub bounds-counts-p : goal.bounds-counts-p
 bounds-counts-p c =
     let start = c in
-    omega (arith, c.production_count-count.ensures, counts_long start.args.tables.now start.requires.long start.requires.few_productions, start.requires.few_productions)
+    omega (arith, c.production_count-p-end.ensures, counts_long start.args.tables.now start.requires.long start.requires.few_productions, start.requires.few_productions)
 
 pub loop-p-preserved : goal.loop-p-preserved
 loop-p-preserved c =
     let start = c in
     let turn = c.loop-p in
-    let few : turn.p < production_limit = omega (arith, c.production_count-count.ensures, counts_long start.args.tables.now start.requires.long start.requires.few_productions, start.requires.few_productions) in
-    let e = c.byte.ensures ∙ c.argument_count.ensures in (
+    let few : turn.p < production_limit = omega (arith, c.production_count-p-end.ensures, counts_long start.args.tables.now start.requires.long start.requires.few_productions, start.requires.few_productions) in
+    let e = c.argument_count.ensures in (
       λ k l. elim (ℕ_discrete k turn.p) [
-        | yes z ↦ rw (z, get_or-set_same turn.counts turn.p c.byte.result 0 (omega (arith, turn.invariant.1.0))) e
-        | no z ↦ (get_or-set_other turn.counts turn.p k c.byte.result 0 z ∙ turn.invariant.0 k (omega arith))
+        | yes z ↦ rw (z, get_or-set_same turn.counts turn.p c.argument_count.result 0 (omega (arith, turn.invariant.1))) e
+        | no z ↦ (get_or-set_other turn.counts turn.p k c.argument_count.result 0 z ∙ turn.invariant.0 k (omega arith))
       ],
-      (length-set turn.counts turn.p c.byte.result ∙ turn.invariant.1.0, omega arith),
+      length-set turn.counts turn.p c.argument_count.result ∙ turn.invariant.1,
     )
-
-pub returns : goal.returns
-returns c = λ p l. c.loop-p.invariant.0 p (omega (arith, c.production_count-count.ensures))

@@ -1,11 +1,10 @@
 -- `first_row` meets its contract: it is the word of production p.
-use mathlib.Core.Path.{◌∙◌}
 use native.Mathlib.Omega.{arith}
 use Rattle.tables.proofs.LayoutLaws.{counts_long}
 use Rattle.tables.proofs.first_row.Goals as goal
 
-pub overflow_add-p : goal.overflow_add-p
-overflow_add-p c =
+pub overflow_add-result : goal.overflow_add-result
+overflow_add-result c =
     let start = c in
     omega (arith, counts_long start.args.tables.now start.requires.0.long start.requires.0.few_productions)
 
@@ -22,4 +21,4 @@ bounds-tables-p c =
 pub returns : goal.returns
 returns c =
     let start = c in
-    c.number.ensures ∙ start.requires.0.rows start.args.p (omega (arith, counts_long start.args.tables.now start.requires.0.long start.requires.0.few_productions))
+    start.requires.0.rows start.args.p (omega (arith, counts_long start.args.tables.now start.requires.0.long start.requires.0.few_productions))

@@ -1,30 +1,11 @@
 -- `put_class` meets its contract: the words of the characters, and then those of the productions.
 use mathlib.Core.Path.{◌≡◌}
-use native.Mathlib.Omega.{arith}
 use lib.ListN.{length}
 use borrow.Author.Rules.{rules}
 use Rattle.charset.specs.Set.{set_words}
-use Rattle.tables.proofs.LayoutLaws.{class_in}
 use Rattle.tables.proofs.PutLaws.{class_put}
 use Rattle.tables.specs.Layout.{production_words}
 use Rattle.tables.proofs.put_class.Goals as goal
-
-pub put_words-requires : goal.put_words-requires
-put_words-requires c =
-    let start = c in
-    let four : length start.args.chars.words ≡ set_words = search rules in
-    omega (arith, c.slot_at-at.ensures, class_in start.args.s start.requires.1, start.requires.0)
-
-pub overflow_add-at : goal.overflow_add-at
-overflow_add-at c =
-    let start = c in
-    omega (arith, c.slot_at-at.ensures, class_in start.args.s start.requires.1, start.requires.0)
-
-pub put_words-requires-2 : goal.put_words-requires-2
-put_words-requires-2 c =
-    let start = c in
-    let words : length start.args.productions.words ≡ production_words = search rules in
-    omega (arith, c.slot_at-at.ensures, class_in start.args.s start.requires.1, start.requires.0, c.put_words.ensures.long)
 
 pub returns : goal.returns
 returns c =
@@ -34,4 +15,4 @@ returns c =
     let put-words2 = c.put_words-2 in
     let four : length start.args.chars.words ≡ set_words = search rules in
     let words : length start.args.productions.words ≡ production_words = search rules in
-    class_put start.args.s slot_at.result slot_at.ensures start.args.chars.words start.args.productions.words start.args.tables.now put-words.new.out put-words2.new.out four words put-words.ensures put-words2.ensures
+    class_put start.args.s slot_at.result slot_at.ensures.place start.args.chars.words start.args.productions.words start.args.tables.now put-words.new.out put-words2.new.out four words put-words.ensures put-words2.ensures

@@ -1,5 +1,4 @@
 -- `canonical_arguments` meets its contract: each class passed is held and has its lowest.
-use Prim.Native.Nat.{◌-◌, ◌≤◌}
 use mathlib.Core.Path.{◌≡◌}
 use Rattle.classes.proofs.CanonicalLaws.{Filled}
 use Rattle.classes.specs.Canonical.{SetsHeld}
@@ -7,7 +6,4 @@ use Rattle.layout.specs.Layout.{class_at}
 use Rattle.classes.proofs.canonical.canonical_arguments.Given as goal
 
 abbrev pub invariant-loop-k : goal.invariant-loop-k
-invariant-loop-k l = (l.k ≤ l.count) × (l.at ≡ class_at l.book l.k) × SetsHeld l.book l.k l.sets × Filled l.book l.k l.table
-
-abbrev pub decreases-loop-k : goal.decreases-loop-k
-decreases-loop-k l = l.count - l.k
+invariant-loop-k l = (l.at ≡ class_at l.book l.k) × SetsHeld l.book l.k l.sets × Filled l.book l.k l.table

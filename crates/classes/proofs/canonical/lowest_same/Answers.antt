@@ -1,20 +1,10 @@
 -- `lowest_same` meets its contract: no set passed is the same.
 use mathlib.Core.Path.{◌≡◌, sym, ◌∙◌}
 use mathlib.Core.Bool.{true}
-use native.Mathlib.Omega.{arith}
 use Rattle.charset.proofs.SameSetLaws.{same_set_like}
-use Rattle.charset.proofs.SeekLaws.{seek_none, seek_more, seek_found, seek_end}
+use Rattle.charset.proofs.SeekLaws.{seek_more, seek_found}
 use Rattle.classes.proofs.canonical.lowest_same.Invariants.{same}
 use Rattle.classes.proofs.canonical.lowest_same.Goals as goal
-
-pub held_set-own-requires : goal.held_set-own-requires
-held_set-own-requires c = c.requires
-
-pub loop-j-init : goal.loop-j-init
-loop-j-init c = seek_none _ _ _ _
-
-pub held_set-requires : goal.held_set-requires
-held_set-requires c = (c.requires.0, omega (arith, c.requires.1))
 
 pub returns-then-same : goal.returns-then-same
 returns-then-same c =
@@ -29,9 +19,3 @@ loop-j-preserved c =
     let at = c.loop-j in
     let said : c.same.result ≡ same a.sets.now a.k at.j = c.same.ensures ∙ same_set_like _ _ _ _ c.held_set-own.ensures c.held_set.ensures in
     seek_more a.k (same a.sets.now a.k) true 0 at.j c.loop-j-test.true (sym said ∙ c.if-same.false) at.invariant
-
-pub returns : goal.returns
-returns c =
-    let a = c.args in
-    let at = c.loop-j in
-    seek_end a.k (same a.sets.now a.k) true 0 at.j c.loop-j-test.false at.invariant

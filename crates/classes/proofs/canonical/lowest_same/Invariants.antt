@@ -1,5 +1,5 @@
 -- `lowest_same` meets its contract: no set passed is the same.
-use Prim.Native.Nat.{ℕ, ◌-◌}
+use Prim.Native.Nat.{ℕ}
 use mathlib.Core.Bool.{Bool, true}
 use mathlib.Core.List.{List}
 use Rattle.charset.proofs.SeekLaws.{Passed}
@@ -13,6 +13,3 @@ same sets k j = same_set (set_has sets k) (set_has sets j)
 
 abbrev pub invariant-loop-j : goal.invariant-loop-j
 invariant-loop-j l = Passed l.k (same l.sets l.k) true 0 l.j
-
-abbrev pub decreases-loop-j : goal.decreases-loop-j
-decreases-loop-j l = l.k - l.j
