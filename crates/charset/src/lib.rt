@@ -2,7 +2,7 @@
 // (01, "The book": a class of characters is a set of bytes held as one record.)
 #![tactic(auto)]
 
-ghost use Rattle.std.specs.Prelude.{◌≡◌, Bool, false, not, ◌&&◌, ◌*◌, ◌||◌, ℕ, ◌+◌, ◌-◌, ◌/◌, ◌%◌, ◌<◌, ◌≤◌, min, length, get_or};
+ghost use Rattle.std.specs.Prelude.{◌≡◌, Bool, false, not, ◌&&◌, ◌*◌, ◌||◌, ℕ, ◌+◌, ◌-◌, ◌/◌, ◌%◌, ◌<◌, ◌≤◌, length, get_or};
 ghost use Rattle.charset.specs.Set.{characters, word_bits, set_words, bit, has, in_range, spans, same_set};
 ghost use Rattle.charset.specs.Runs.{runs, first_run};
 ghost use Rattle.charset.specs.Sought.{Sought, Computed};
@@ -54,9 +54,11 @@ impl<const W: usize> Bits<W> {
 
     // Whether the number is in the set.
     pub fn contains(self, c: usize) -> bool
-        requires { c < W * word_bits }
         ensures { result ≡ has self.entry.words c }
     {
+        if W <= c / 64 {
+            return false;
+        }
         (self.words[c / 64] >> (c % 64)) % 2 == 1
     }
 

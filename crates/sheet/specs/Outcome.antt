@@ -1,5 +1,5 @@
 -- The promises of the operations "a sheet" and "a step down a sheet" (02, [4]), stated once, for every grammar, sheet, chart, summary and start.
-use Rattle.std.specs.Prelude.{ℕ, ◌≡◌, Bool, true, false, cond, List, [], ◌∷◌, eqb, ltb, length, Some, None, Result, Ok, Err, Option}
+use Rattle.std.specs.Prelude.{ℕ, ◌≡◌, Bool, true, false, cond, List, [], ◌∷◌, eqb, ltb, length, Some, None as Nothing, Result, Ok, Err, Option}
 use Rattle.common.specs.Lists.{overwritten}
 use Rattle.engine.specs.Outcome.{Parsing, ChartAfter, Answer}
 use Rattle.engine.specs.Refusals.{too_long, text_refusal}
@@ -79,7 +79,7 @@ Step = Result (Option ℕ) Refusal
 -- With a place of the sheet to start at, the line from there on is read, and the next start is that of the next line. Without one no line is left.
 unfoldable pub StepFrom : Bool → (b s : List ℕ) (start : ℕ) (c₀ : List ℕ) → Step → (next : ℕ) (c : List ℕ) → Type 0
 StepFrom true b s start c₀ r next c = (v : ℕ) × (r ≡ Ok (Some v)) × LineBy b (line_at s start) c₀ v c × (next ≡ next_start s start)
-StepFrom false b s start c₀ r next c = (r ≡ Ok None) × (next ≡ start) × (c ≡ c₀)
+StepFrom false b s start c₀ r next c = (r ≡ Ok Nothing) × (next ≡ start) × (c ≡ c₀)
 
 -- Refused, it stays where it is.
 unfoldable pub StepIf : Verdict → (b s : List ℕ) (start : ℕ) (c₀ : List ℕ) → Step → (next : ℕ) (c : List ℕ) → Type 0

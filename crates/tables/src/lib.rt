@@ -2,7 +2,7 @@
 // First how many productions there are; then for each how many arguments it has; for each its first row; and a class for each slot.
 #![tactic(auto)]
 
-ghost use Rattle.std.specs.Prelude.{◌≡◌, ℕ, ◌+◌, ◌*◌, ◌/◌, ◌%◌, ◌<◌, ◌≤◌, length, get_or};
+ghost use Rattle.std.specs.Prelude.{◌≡◌, ℕ, ◌+◌, ◌<◌, ◌≤◌, length, get_or};
 ghost use Rattle.charset.specs.Set.{characters, has};
 ghost use Rattle.common.specs.Zeros.{AllZero};
 ghost use Rattle.layout.specs.Limits.{production_limit};
