@@ -14,11 +14,12 @@ use Rattle.ccg.specs.Ccg.{Line}
 use Rattle.chart.specs.Layout.{text_limit, chart_bytes}
 use Rattle.engine.proofs.AnswerLaws.{refused_is_long}
 use Rattle.engine.proofs.RefusalsLaws.{long_text, short_text, text_short, text_long, short_chart, long_chart, chart_short}
-use Rattle.engine.specs.Outcome.{Parsing, Parsed, UnlessRefused, Answer}
+use Rattle.engine.specs.Outcome.{Parsing, Parsed, UnlessRefused}
+use Rattle.engine.specs.declared.Answer.{Answer}
 use Rattle.engine.specs.Refusals.{too_long, chart_too_short}
 use Rattle.form.proofs.FormLaws.{longest_unique, says_unique}
 use Rattle.form.specs.Form.{Says, NotInForm}
-use Rattle.refusal.proofs.VerdictLaws.{refuse_case, refuse_accepted, first_of, FirstIn, here, there, order_first, same_refusal}
+use Rattle.refusal.proofs.VerdictLaws.{refuse_case, refuse_accepted, first_of, FirstIn, here, there, order_first}
 use Rattle.refusal.specs.Verdict.{Verdict, accepted, refusal, refused}
 use Rattle.layout.specs.Limits.{production_limit}
 use Rattle.load.proofs.AbsentLaws.{class_number, names_number}
@@ -28,7 +29,8 @@ use Rattle.theory.specs.Tree.{production_number}
 use Rattle.std.specs.Prelude.{Ok, Err}
 use Rattle.refusal.specs.Fault.{number_of}
 use Rattle.refusal.specs.declared.Fault.{Fault}
-use Rattle.engine.specs.declared.Parses.{Parses}
+use Rattle.engine.specs.declared.Answer.TheVariants.{Refused}
+use Rattle.engine.proofs.UniqueLaws.{same_refused}
 use Rattle.refusal.specs.declared.Fault.TheVariants.{LongText, ShortChart, Form, NoLine}
 use Rattle.refusal.specs.declared.Refusal.{Refusal}
 
@@ -156,32 +158,32 @@ module _ (flat : List ℕ) (roots : List Bool) (w c₀ l₀ : List ℕ) (r : Ans
       (λ (h, told, u). subst (λ (x : List Line). GrammarOutcome x roots w c₀ l₀ r c l) (says_unique flat h g told says) u)
       o
 
-  answer_rejected : {x y : Refusal} → ◌≡◌ {A = Answer} (Err x) (Err y) → ◌≡◌ {A = Verdict} (Err x) (Err y)
-  answer_rejected e = ap (λ (z : Refusal). Err z) (same_refusal {B = Parses} e)
+  answer_rejected : {x y : Refusal} → ◌≡◌ {A = Answer} (Refused x) (Refused y) → ◌≡◌ {A = Verdict} (Err x) (Err y)
+  answer_rejected e = ap (λ (z : Refusal). Err z) (same_refused e)
 
   -- a refusal other than 22 is the verdict's, and nothing is changed
-  by_verdict : (s : Parsing) (v : Verdict) → UnlessRefused v s c₀ l₀ r c l → (x : Refusal) → (number_of x.fault ≡ 22 → ⊥) → r ≡ Err x → (v ≡ Err x) × (c ≡ c₀) × (l ≡ l₀)
+  by_verdict : (s : Parsing) (v : Verdict) → UnlessRefused v s c₀ l₀ r c l → (x : Refusal) → (number_of x.fault ≡ 22 → ⊥) → r ≡ Refused x → (v ≡ Err x) × (c ≡ c₀) × (l ≡ l₀)
   unfolding UnlessRefused
   by_verdict s (Ok _) u x other e = absurd (other (ap number_of (refused_is_long s.parse l₀ r l u.answer x e)))
   by_verdict s (Err y) (is, chart, listing) x other e = (answer_rejected (sym is ∙ e), chart, listing)
 
-  verdict_answer : (s : Parsing) (v : Verdict) → UnlessRefused v s c₀ l₀ r c l → (x : Refusal) → v ≡ Err x → r ≡ Err x
+  verdict_answer : (s : Parsing) (v : Verdict) → UnlessRefused v s c₀ l₀ r c l → (x : Refusal) → v ≡ Err x → r ≡ Refused x
   unfolding UnlessRefused
   verdict_answer s v u x e = (subst (λ (y : Verdict). UnlessRefused y s c₀ l₀ r c l) e u).0
 
-  pub refused_exactly : (g : List Line) → Says flat g → (x : Refusal) → (number_of x.fault ≡ 22 → ⊥) → (r ≡ Err x) ↔ (flat_refusal g roots w c₀ ≡ Err x)
+  pub refused_exactly : (g : List Line) → Says flat g → (x : Refusal) → (number_of x.fault ≡ 22 → ⊥) → (r ≡ Refused x) ↔ (flat_refusal g roots w c₀ ≡ Err x)
   refused_exactly g says x other =
       let u = said_outcome g says in
       let s = trees_of g roots w in
       ((λ e. (by_verdict s (flat_refusal g roots w c₀) u x other e).0), verdict_answer s (flat_refusal g roots w c₀) u x)
 
-  pub form_exactly : (k : ℕ) → (r ≡ refused Form k) ↔ NotInForm flat k
+  pub form_exactly : (k : ℕ) → (r ≡ Refused (refusal Form k)) ↔ NotInForm flat k
   unfolding FlatOutcome
   form_exactly k =
       ⊎_elim
       (λ (place, not_in, is, chart, listing). (
         (λ e. subst (NotInForm flat) (same_place (sym is ∙ e)) not_in),
-        (λ h. is ∙ ap (λ (n : ℕ). refused Form n) (longest_unique flat place k not_in.longest h.longest)),
+        (λ h. is ∙ ap (λ (n : ℕ). Refused (refusal Form n)) (longest_unique flat place k not_in.longest h.longest)),
       ))
       (λ (g, says, u). (
         (λ e. absurd (wrong_number (flat_numbers g roots w c₀ (refusal Form k) (by_verdict (trees_of g roots w) (flat_refusal g roots w c₀) u (refusal Form k) (λ z. omega arith) e).0))),
@@ -189,13 +191,13 @@ module _ (flat : List ℕ) (roots : List Bool) (w c₀ l₀ : List ℕ) (r : Ans
       ))
       o
     where
-      same_place : {x y : Refusal} → ◌≡◌ {A = Answer} (Err x) (Err y) → x.place ≡ y.place
-      same_place e = ap (λ (z : Refusal). z.place) (same_refusal {B = Parses} e)
+      same_place : {x y : Refusal} → ◌≡◌ {A = Answer} (Refused x) (Refused y) → x.place ≡ y.place
+      same_place e = ap (λ (z : Refusal). z.place) (same_refused e)
 
       wrong_number : Numbers 27 → ⊥
       wrong_number h = ⊎_elim (λ e. omega arith) (⊎_elim (λ e. omega arith) (λ e. omega arith)) h
 
-  pub flat_unchanged : (x : Refusal) → (number_of x.fault ≡ 22 → ⊥) → r ≡ Err x → (c ≡ c₀) × (l ≡ l₀)
+  pub flat_unchanged : (x : Refusal) → (number_of x.fault ≡ 22 → ⊥) → r ≡ Refused x → (c ≡ c₀) × (l ≡ l₀)
   unfolding FlatOutcome
   flat_unchanged x other e =
       ⊎_elim

@@ -15,7 +15,8 @@ use Rattle.ccg.specs.Tables.{table_class, table_grammar}
 use Rattle.charset.specs.Set.{characters}
 use Rattle.chart.specs.Layout.{chart_need, chart_bytes}
 use Rattle.engine.proofs.SameParsingLaws.{chart_bytes_same, unless_same}
-use Rattle.engine.specs.Outcome.{UnlessRefused, Answer}
+use Rattle.engine.specs.Outcome.{UnlessRefused}
+use Rattle.engine.specs.declared.Answer.{Answer}
 use Rattle.engine.specs.Refusals.{text_refusal}
 use Rattle.engine.specs.Roots.{parsing_by, TablesOutcome}
 use Rattle.form.specs.Form.{Says}
@@ -30,6 +31,7 @@ use Rattle.theory.specs.Tree.{production_number}
 use Rattle.std.specs.Prelude.{Result, Ok, Err}
 use Rattle.refusal.specs.declared.Refusal.{Refusal}
 use Rattle.refusal.specs.declared.Fault.TheVariants.{NoLine}
+use Rattle.engine.specs.declared.Answer.TheVariants.{Refused}
 
 -- ---- 28 for the root
 
@@ -67,7 +69,7 @@ module _ (t₀ t : List ℕ) (roots : List Bool) (chars subs : ℕ → Bool) (pu
 
   module _ (named : absent_names g ≡ accepted) (w c₀ l₀ : List ℕ) where
     pub root_refused : (r : Refusal) → absent_in (length g) (root_class roots) ≡ Err r
-        → GrammarOutcome g roots w c₀ l₀ (Err r) c₀ l₀
+        → GrammarOutcome g roots w c₀ l₀ (Refused r) c₀ l₀
     unfolding UnlessRefused flat_refusal
     root_refused r e = rw (named, e) (refl, refl, refl)
 
@@ -111,7 +113,7 @@ loaded_named flat r n t h e =
 
 -- a refusal of the flat text is that of the outcome
 pub flat_refused : (flat : List ℕ) (roots : List Bool) (w c₀ l₀ : List ℕ) (r : Result ℕ Refusal) (x : Refusal) (t : List ℕ) → Loaded flat r t → r ≡ Err x
-    → FlatOutcome flat roots w c₀ l₀ (Err x) c₀ l₀
+    → FlatOutcome flat roots w c₀ l₀ (Refused x) c₀ l₀
 unfolding Loaded lines_answer FlatOutcome UnlessRefused flat_refusal
 flat_refused flat roots w c₀ l₀ r x t h e =
     ⊎_elim
@@ -119,8 +121,8 @@ flat_refused flat roots w c₀ l₀ r x t h e =
     (λ (readable, says, is). inr (table_grammar t, says, rw (names_refused (absent_names (table_grammar t)) (length (table_grammar t)) (sym is ∙ e)) (refl, refl, refl)))
     h
   where
-    answer_is : {x y : Refusal} → ◌≡◌ {A = Result ℕ Refusal} (Err x) (Err y) → ◌≡◌ {A = Answer} (Err x) (Err y)
-    answer_is e = ap (λ (z : Refusal). Err z) (equal_refusal {B = ℕ} e)
+    answer_is : {x y : Refusal} → ◌≡◌ {A = Result ℕ Refusal} (Err x) (Err y) → ◌≡◌ {A = Answer} (Refused x) (Refused y)
+    answer_is e = ap (λ (z : Refusal). Refused z) (equal_refusal {B = ℕ} e)
 
     names_refused : {x : Refusal} (v : Verdict) (k : ℕ) → unless_refused v (Ok k) ≡ Err x → v ≡ Err x
     names_refused (Ok _) k e = refused_lines (sym e)

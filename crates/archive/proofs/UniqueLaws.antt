@@ -9,21 +9,22 @@ use Rattle.ccg.specs.Ccg.{Line}
 use Rattle.engine.proofs.OutcomeLaws.{unless_unique}
 use Rattle.form.proofs.FormLaws.{longest_unique, says_unique}
 use Rattle.form.specs.Form.{Says, NotInForm}
-use Rattle.engine.specs.Outcome.{Answer}
-use Rattle.refusal.specs.Verdict.{refused}
+use Rattle.engine.specs.declared.Answer.{Answer}
+use Rattle.refusal.specs.Verdict.{refusal}
 use Rattle.refusal.specs.declared.Fault.TheVariants.{Form}
+use Rattle.engine.specs.declared.Answer.TheVariants.{Refused}
 
 module _ (flat : List ℕ) (roots : List Bool) (w c₀ l₀ : List ℕ) (r r' : Answer) (c c' l l' : List ℕ) where
   -- not in the form
   abbrev Outside : Answer → (c l : List ℕ) → Type 0
-  Outside a c l = (place : ℕ) × NotInForm flat place × (a ≡ refused Form place) × (c ≡ c₀) × (l ≡ l₀)
+  Outside a c l = (place : ℕ) × NotInForm flat place × (a ≡ Refused (refusal Form place)) × (c ≡ c₀) × (l ≡ l₀)
 
   -- in it
   abbrev Inside : Answer → (c l : List ℕ) → Type 0
   Inside a c l = (g : List Line) × Says flat g × GrammarOutcome g roots w c₀ l₀ a c l
 
   same : Outside r c l ⊎ Inside r c l → Outside r' c' l' ⊎ Inside r' c' l' → (r ≡ r') × (c ≡ c') × (l ≡ l')
-  same (inl (k, h, e, ec, el)) (inl (j, i, f, fc, fl)) = (e ∙ ap (λ (n : ℕ). refused Form n) (longest_unique flat k j h.longest i.longest) ∙ sym f, ec ∙ sym fc, el ∙ sym fl)
+  same (inl (k, h, e, ec, el)) (inl (j, i, f, fc, fl)) = (e ∙ ap (λ (n : ℕ). Refused (refusal Form n)) (longest_unique flat k j h.longest i.longest) ∙ sym f, ec ∙ sym fc, el ∙ sym fl)
   same (inl (k, h, e, ec, el)) (inr (g, says, u)) = absurd (h.outside (g, says))
   same (inr (g, says, u)) (inl (k, h, e, ec, el)) = absurd (h.outside (g, says))
   same (inr (g, says, u)) (inr (g', says', v)) =

@@ -3,14 +3,16 @@ use Rattle.std.specs.Prelude.{ℕ, ◌-◌, ◌≤◌, ◌<◌, ◌≡◌, Bool,
 use Rattle.std.proofs.Math.Seq.{slice}
 use Rattle.ccg.specs.Ccg.{Class, Line, no_line, Generated, Each}
 use Rattle.chart.specs.Layout.{chart_bytes}
-use Rattle.engine.specs.Outcome.{Parsing, UnlessRefused, Answer}
+use Rattle.engine.specs.Outcome.{Parsing, UnlessRefused}
+use Rattle.engine.specs.declared.Answer.{Answer}
 use Rattle.engine.specs.Refusals.{too_long, chart_too_short}
 use Rattle.form.specs.Form.{Says, NotInForm}
-use Rattle.refusal.specs.Verdict.{in_order, Verdict, refused}
+use Rattle.refusal.specs.Verdict.{Verdict, refusal, in_order}
 use Rattle.layout.specs.Limits.{production_limit}
 use Rattle.load.specs.Absent.{absent_in, absent_names, Names}
 use Rattle.theory.specs.Tree.{Tree, Forest, production_number, yield, yields}
 use Rattle.refusal.specs.declared.Fault.TheVariants.{Form}
+use Rattle.engine.specs.declared.Answer.TheVariants.{Refused}
 
 -- The numbers of the lines that are allowed at the root: an entry for each line that there could be.
 unfoldable pub root_class : List Bool → Class
@@ -44,7 +46,7 @@ GrammarOutcome g roots w c₀ l₀ r c l = UnlessRefused (flat_refusal g roots w
 -- Either the flat text is not in the written form: then it is refused by 27, and nothing is changed. Or it says a grammar, and is read by that.
 unfoldable pub FlatOutcome : (flat : List ℕ) (roots : List Bool) (w c₀ l₀ : List ℕ) → Answer → (c l : List ℕ) → Type 0
 FlatOutcome flat roots w c₀ l₀ r c l =
-    ((place : ℕ) × NotInForm flat place × (r ≡ refused Form place) × (c ≡ c₀) × (l ≡ l₀))
+    ((place : ℕ) × NotInForm flat place × (r ≡ Refused (refusal Form place)) × (c ≡ c₀) × (l ≡ l₀))
     ⊎ ((g : List Line) × Says flat g × GrammarOutcome g roots w c₀ l₀ r c l)
 
 -- ---- the refusals without a search

@@ -9,10 +9,9 @@ ghost use Rattle.tables.specs.Layout.{ParserTables};
 ghost use Rattle.archive.specs.Outcome.{GrammarOutcome, FlatOutcome};
 
 use charset::CharSet;
-use engine::{Parses, parse_tables};
+use engine::{Answer, parse_tables};
 use layout::limits::PRODUCTION_LIMIT;
 use load::{check_class, load};
-use refusal::Refusal;
 use tables::{ProductionSet, ROOT_SLOT, production_count, put_class, zero_tables};
 
 // Parses a text by a flat text and the lines allowed at the root: 27, 28, 10 and 20 in order, and then the answer. What chart and listing held before is never read.
@@ -22,12 +21,14 @@ pub fn parse_flat(
     text: &[u8],
     chart: &mut [u8],
     listing: &mut [u8],
-) -> Result<Parses, Refusal>
+) -> Answer
     ensures { FlatOutcome flat.now roots text.now chart.old listing.old result chart.new listing.new }
 {
     let mut tables = zero_tables();
-    load(flat, &mut tables)?;
-    parse_loaded(&mut tables, roots, text, chart, listing)
+    match load(flat, &mut tables) {
+        Ok(_) => parse_loaded(&mut tables, roots, text, chart, listing),
+        Err(refusal) => Answer::Refused(refusal),
+    }
 }
 
 // By tables none of whose classes names a line that isn't there: 28 for the root, and then as by any tables.
@@ -37,7 +38,7 @@ fn parse_loaded(
     text: &[u8],
     chart: &mut [u8],
     listing: &mut [u8],
-) -> Result<Parses, Refusal>
+) -> Answer
     requires { ParserTables tables.old × (absent_names (table_grammar tables.old) ≡ accepted) }
     ensures { GrammarOutcome (table_grammar tables.old) roots text.now chart.old listing.old result chart.new listing.new }
 {
@@ -47,6 +48,8 @@ fn parse_loaded(
         CharSet::empty(),
         ProductionSet::of(roots),
     );
-    check_class(tables, ROOT_SLOT, production_count(tables))?;
-    parse_tables(tables, text, chart, listing)
+    match check_class(tables, ROOT_SLOT, production_count(tables)) {
+        Ok(()) => parse_tables(tables, text, chart, listing),
+        Err(refusal) => Answer::Refused(refusal),
+    }
 }

@@ -29,9 +29,9 @@ use Rattle.theory.specs.Counts.{Only, Counts}
 use Rattle.theory.specs.Grammar.{Grammar, Spells}
 use Rattle.theory.specs.Steps.{cap, everything, root_sum}
 use Rattle.theory.specs.Tree.{Tree, node, Forest, listing}
-use Rattle.engine.specs.declared.Parses.TheVariants.{None, One, Several}
+use Rattle.engine.specs.declared.Answer.TheVariants.{None, One, Several, Refused}
 use Rattle.std.specs.Prelude.{Ok}
-use Rattle.refusal.specs.Verdict.{refused}
+use Rattle.refusal.specs.Verdict.{refusal}
 use Rattle.refusal.specs.declared.Fault.TheVariants.{LongListing}
 
 -- ---- what is lent
@@ -115,23 +115,23 @@ module _ (tables w chart : List ℕ) (h : Filled tables w chart) where
           ∙ ap (λ (n : ℕ). sets l₀ 0 (bytes_of (take n (listing tree)))) zeroth
           ∙ sets_front (bytes_of numbers) l₀ (omega (arith, bytes_long numbers, length-take m (listing tree)))
 
-      pub answered_one : r ≤ room l₀ → Answered IsParse l₀ (Ok (One r)) l
+      pub answered_one : r ≤ room l₀ → Answered IsParse l₀ (One r) l
       unfolding Answered room
       answered_one fits =
           let all = take_all (room l₀) (listing tree) (omega (arith, v.written.next)) in
           (tree, only, omega (arith, v.written.next), omega (arith, fits), first_written (room l₀) refl ∙ ap (λ (x : List ℕ). overwritten (bytes_of x) l₀) all)
 
-      pub answered_long : (place : ℕ) → place ≡ room l₀ → room l₀ < r → Answered IsParse l₀ (refused LongListing place) l
+      pub answered_long : (place : ℕ) → place ≡ room l₀ → room l₀ < r → Answered IsParse l₀ (Refused (refusal LongListing place)) l
       unfolding Answered room
       answered_long place e over = (tree, only, refl, e, omega (arith, v.written.next, over), first_written place e)
 
 -- ---- no parse, or several
 
-pub answered_none : (P : Tree → Type 0) (v : ℕ) (l : List ℕ) → Counts P v → v ≡ 0 → Answered P l (Ok None) l
+pub answered_none : (P : Tree → Type 0) (v : ℕ) (l : List ℕ) → Counts P v → v ≡ 0 → Answered P l None l
 unfolding Answered Counts
 answered_none P v l c e = (subst (Counts P) e c, refl)
 
-pub answered_several : (P : Tree → Type 0) (v : ℕ) (l : List ℕ) → Counts P v → 1 < v → Answered P l (Ok Several) l
+pub answered_several : (P : Tree → Type 0) (v : ℕ) (l : List ℕ) → Counts P v → 1 < v → Answered P l Several l
 unfolding Answered
 answered_several P v l c h = ((counts_bounds P v c).two (omega arith), refl)
 

@@ -3,13 +3,15 @@ use Prim.Native.Nat.{ℕ}
 use mathlib.Core.Path.{◌≡◌, refl, sym, ◌∙◌}
 use mathlib.Core.List.{List}
 use Rattle.engine.proofs.UniqueLaws.{parsed_unique}
-use Rattle.engine.specs.Outcome.{Parsing, Parsed, UnlessRefused, Answer}
+use Rattle.engine.specs.Outcome.{Parsing, Parsed, UnlessRefused}
+use Rattle.engine.specs.declared.Answer.{Answer}
 use Rattle.refusal.specs.Verdict.{Verdict, accepted}
+use Rattle.engine.specs.declared.Answer.TheVariants.{Refused}
 use Rattle.std.specs.Prelude.{Ok, Err}
 use Rattle.refusal.specs.declared.Refusal.{Refusal}
 
 module _ (s : Parsing) (c₀ l₀ : List ℕ) where
-  pub outcome_refused : (v : Verdict) (r : Refusal) → v ≡ Err r → UnlessRefused v s c₀ l₀ (Err r) c₀ l₀
+  pub outcome_refused : (v : Verdict) (r : Refusal) → v ≡ Err r → UnlessRefused v s c₀ l₀ (Refused r) c₀ l₀
   unfolding UnlessRefused
   outcome_refused v r e = rw e (refl, refl, refl)
 

@@ -8,13 +8,14 @@ use native.Mathlib.Omega.{arith}
 use Rattle.chart.specs.Counted.{entry_of}
 use Rattle.chart.specs.Layout.{row_of, span_count, cell_at, chart_bytes, entry_at}
 use Rattle.common.proofs.BelowLaws.{sum_same}
-use Rattle.engine.specs.Outcome.{Parsing, Answered, ChartAfter, Parsed, UnlessRefused, Answer}
+use Rattle.engine.specs.Outcome.{Parsing, Answered, ChartAfter, Parsed, UnlessRefused}
+use Rattle.engine.specs.declared.Answer.{Answer}
 use Rattle.refusal.specs.Verdict.{Verdict}
 use Rattle.tables.specs.Layout.{row_count}
 use Rattle.theory.proofs.CountLaws.{counts_same}
 use Rattle.theory.specs.Counts.{Only, Counts}
 use Rattle.theory.specs.Tree.{Tree, Forest}
-use Rattle.engine.specs.declared.Parses.TheVariants.{None, One, Several}
+use Rattle.engine.specs.declared.Answer.TheVariants.{None, One, Several, Refused}
 use Rattle.std.specs.Prelude.{Ok, Err}
 
 -- The same parses, and the same lists of trees to count for each entry in range.
@@ -32,10 +33,10 @@ only_same P Q e t o = record { holds = (e t).0 o.holds; alone = λ u h. o.alone 
 
 answered_same : (P Q : Tree → Type 0) → ((t : Tree) → P t ↔ Q t) → (l₀ : List ℕ) (r : Answer) (l : List ℕ) → Answered P l₀ r l → Answered Q l₀ r l
 unfolding Answered
-answered_same P Q e l₀ (Ok None) l a = ((λ t h. a.0 t ((e t).1 h)), a.1)
-answered_same P Q e l₀ (Ok (One n)) l a = (a.0, only_same P Q e a.0 a.1, a.2, a.3, a.4)
-answered_same P Q e l₀ (Ok Several) l a = ((a.0.0, a.0.1, (e a.0.0).0 a.0.2, (e a.0.1).0 a.0.3, a.0.4), a.1)
-answered_same P Q e l₀ (Err r) l a = (a.0, only_same P Q e a.0 a.1, a.2, a.3, a.4, a.5)
+answered_same P Q e l₀ None l a = ((λ t h. a.0 t ((e t).1 h)), a.1)
+answered_same P Q e l₀ (One n) l a = (a.0, only_same P Q e a.0 a.1, a.2, a.3, a.4)
+answered_same P Q e l₀ Several l a = ((a.0.0, a.0.1, (e a.0.0).0 a.0.2, (e a.0.1).0 a.0.3, a.0.4), a.1)
+answered_same P Q e l₀ (Refused r) l a = (a.0, only_same P Q e a.0 a.1, a.2, a.3, a.4, a.5)
 
 -- ---- the same chart for the same argument counts
 

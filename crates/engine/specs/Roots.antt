@@ -1,7 +1,8 @@
 -- Parsing by flat tables: the productions allowed at the root, and a chart that is filled for them.
 use Rattle.std.specs.Prelude.{ℕ, ◌*◌, ◌<◌, ◌≡◌, true, List, length}
 use Rattle.common.specs.Below.{bit_of}
-use Rattle.engine.specs.Outcome.{Parsing, UnlessRefused, Answer}
+use Rattle.engine.specs.Outcome.{Parsing, UnlessRefused}
+use Rattle.engine.specs.declared.Answer.{Answer}
 use Rattle.engine.specs.Refusals.{text_refusal}
 use Rattle.extract.specs.Places.{Walkable, cell_of}
 use Rattle.tables.specs.Layout.{root_slot, counts_of, arity_in, takes_production}

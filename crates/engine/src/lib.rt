@@ -23,12 +23,13 @@ use tables::{ROOT_SLOT, argument_count, production_count, takes_production};
 
 // How many parses a text has.
 #[derive(Clone, Copy)]
-pub enum Parses {
+pub enum Answer {
     None,
     // One; its listing has this many numbers.
     One(usize),
     // Two or more.
     Several,
+    Refused(Refusal),
 }
 
 // ---- refusals
@@ -118,7 +119,7 @@ pub fn write_parse(
     text: &[u8],
     chart: &[u8],
     listing: &mut [u8],
-) -> Result<Parses, Refusal>
+) -> Answer
     requires filled { Filled tables.now text.now chart.now }
     requires counts { Counts (ParseBy tables.now text.now) 1 }
     ensures { Answered (ParseBy tables.now text.now) listing.old result listing.new }
@@ -126,9 +127,9 @@ pub fn write_parse(
     let root = first_root(chart, text, tables);
     let next = write_only(chart, text, tables, listing, root);
     if listing.len() / 2 < next {
-        return Err(Fault::LongListing.at(listing.len() / 2));
+        return Answer::Refused(Fault::LongListing.at(listing.len() / 2));
     }
-    Ok(Parses::One(next))
+    Answer::One(next)
 }
 
 // Fills a chart that fits; a text with one parse has its listing written, as far as there is room.
@@ -138,17 +139,17 @@ fn parse_fitting(
     text: &[u8],
     chart: &mut [u8],
     listing: &mut [u8],
-) -> Result<Parses, Refusal>
+) -> Answer
     requires chart_fits { ChartFits tables.now (length text.now) chart.old }
     requires prepared { Prepared tables.now prepared.now }
     ensures { Parsed (parsing_by tables.now text.now) chart.old listing.old result chart.new listing.new }
 {
     let found = count_parses(tables, prepared, text, chart);
     if found == 0 {
-        return Ok(Parses::None);
+        return Answer::None;
     }
     if 1 < found {
-        return Ok(Parses::Several);
+        return Answer::Several;
     }
     write_parse(tables, text, chart, listing)
 }
@@ -160,13 +161,15 @@ pub fn parse_prepared(
     text: &[u8],
     chart: &mut [u8],
     listing: &mut [u8],
-) -> Result<Parses, Refusal>
+) -> Answer
     requires parser_tables { ParserTables tables.now }
     requires prepared { Prepared tables.now prepared.now }
     ensures { TablesOutcome tables.now text.now chart.old listing.old result chart.new listing.new }
 {
-    check_input(tables, text, chart)?;
-    parse_fitting(tables, prepared, text, chart, listing)
+    match check_input(tables, text, chart) {
+        Ok(()) => parse_fitting(tables, prepared, text, chart, listing),
+        Err(refusal) => Answer::Refused(refusal),
+    }
 }
 
 // Parses one text by tables.
@@ -175,7 +178,7 @@ pub fn parse_tables(
     text: &[u8],
     chart: &mut [u8],
     listing: &mut [u8],
-) -> Result<Parses, Refusal>
+) -> Answer
     requires { ParserTables tables.now }
     ensures { TablesOutcome tables.now text.now chart.old listing.old result chart.new listing.new }
 {

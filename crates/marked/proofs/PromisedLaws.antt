@@ -7,7 +7,7 @@ use lib.ListN.{length, replicate, length-replicate}
 use Rattle.common.specs.Lists.{All, overwritten}
 use Rattle.engine.proofs.AnswerLaws.{none_exactly, none_buffer, several_exactly, several_buffer, one_exactly, one_buffer}
 use Rattle.engine.specs.Refusals.{chart_too_short}
-use Rattle.engine.specs.Outcome.{Answer}
+use Rattle.engine.specs.declared.Answer.{Answer}
 use Rattle.flatten.specs.Reading.{Reading}
 use Rattle.marked.specs.Cases.{Expected, no_reading, one_reading, several_readings, bad_grammar, refused, Says, Case, Statement, Answers, Promised}
 use Rattle.numbers.specs.Written.{bytes_of}

@@ -1,10 +1,12 @@
 -- The marked cases of 01, (a) to (k), stated for the definitions: which trees are readings, and what is refused. No program is run.
-use Rattle.std.specs.Prelude.{ℕ, ◌*◌, ◌≤◌, ◌≡◌, List, [], ◌∷◌, ◌++◌, length, replicate, Ok}
+use Rattle.std.specs.Prelude.{ℕ, ◌*◌, ◌≤◌, ◌≡◌, List, [], ◌∷◌, ◌++◌, length, replicate}
 use Rattle.common.specs.Lists.{overwritten}
-use Rattle.engine.specs.Outcome.{Answer}
-use Rattle.engine.specs.declared.Parses.TheVariants.{None, One, Several}
+use Rattle.engine.specs.declared.Answer.{Answer}
+use Rattle.engine.specs.declared.Answer.TheVariants.{None, One, Several, Refused as NotRead}
 use Rattle.numbers.specs.Written.{bytes_of}
+use Rattle.refusal.specs.Fault.{number_of}
 use Rattle.refusal.specs.Verdict.{accepted, RefusedBy}
+use Rattle.refusal.specs.declared.Refusal.{Refusal}
 use Rattle.parse.specs.Outcome.{refusal, Outcome}
 use Rattle.flatten.specs.Reading.{Reading}
 use Rattle.priority.specs.Check.{checked}
@@ -41,13 +43,17 @@ pub record Case : Type 0 where
 unfoldable pub Statement : Case → Type 0
 Statement c = Says c.book c.text (replicate c.lent 0) c.expected
 
+-- Reading answers with a refusal of this number and this place.
+abbrev pub ReadRefused : Answer → (number place : ℕ) → Type 0
+ReadRefused r number place = (x : Refusal) × (r ≡ NotRead x) × (number_of x.fault ≡ number) × (x.place ≡ place)
+
 -- The same of the operation's promise: what its answer is, and what the buffer of the listing, which held l₀, holds afterwards.
 unfoldable pub Answers : Expected → (l₀ : List ℕ) → Answer → (l : List ℕ) → Type 0
-Answers no_reading l₀ r l = (r ≡ Ok None) × (l ≡ l₀)
-Answers (one_reading numbers) l₀ r l = 2 * length numbers ≤ length l₀ → (r ≡ Ok (One (length numbers))) × (l ≡ overwritten (bytes_of numbers) l₀)
-Answers several_readings l₀ r l = (r ≡ Ok Several) × (l ≡ l₀)
-Answers (bad_grammar number place) l₀ r l = RefusedBy r number place × (l ≡ l₀)
-Answers (refused number place) l₀ r l = RefusedBy r number place × (l ≡ l₀)
+Answers no_reading l₀ r l = (r ≡ None) × (l ≡ l₀)
+Answers (one_reading numbers) l₀ r l = 2 * length numbers ≤ length l₀ → (r ≡ One (length numbers)) × (l ≡ overwritten (bytes_of numbers) l₀)
+Answers several_readings l₀ r l = (r ≡ Several) × (l ≡ l₀)
+Answers (bad_grammar number place) l₀ r l = ReadRefused r number place × (l ≡ l₀)
+Answers (refused number place) l₀ r l = ReadRefused r number place × (l ≡ l₀)
 
 -- any outcome, for every chart of the case's length and every buffer, whatever they hold
 unfoldable pub Promised : Case → Type 0

@@ -26,7 +26,7 @@ use Rattle.reply.proofs.ReplyLaws.{answered_fits, refused_fits}
 use Rattle.reply.specs.Answers.{read_reply, count_reply}
 use Rattle.reply.specs.Reply.{Fits}
 use Rattle.reply.specs.declared.Reply.{Reply}
-use Rattle.engine.specs.Outcome.{Answer}
+use Rattle.engine.specs.declared.Answer.{Answer}
 use Rattle.std.specs.Prelude.{Result, Ok, Err}
 use Rattle.refusal.specs.declared.Fault.TheVariants.{Form}
 use Rattle.refusal.specs.declared.Refusal.{Refusal}

@@ -7,7 +7,8 @@ use native.Mathlib.Omega.{arith}
 use native.Mathlib.Decide.{dec_lt}
 use lib.ListN.{length, take, drop, length-take, drop_of_length-le}
 use lib.Seq.{take_all}
-use Rattle.engine.specs.Outcome.{Parsing, UnlessRefused, Answer}
+use Rattle.engine.specs.Outcome.{Parsing, UnlessRefused}
+use Rattle.engine.specs.declared.Answer.{Answer}
 use Rattle.refusal.specs.Verdict.{Verdict}
 use Rattle.meadowsink.specs.Viewer.{used_limit, Promise, UsedOutcome, CallOutcome}
 use Rattle.parse.proofs.OutcomeLaws.{outcome_unique}

@@ -4,7 +4,7 @@ use Rattle.parse.specs.Outcome.{Outcome}
 use Rattle.reply.specs.Answers.{read_reply}
 use Rattle.reply.specs.Reply.{number_of, place_of}
 use Rattle.reply.specs.declared.Reply.{Reply}
-use Rattle.engine.specs.Outcome.{Answer}
+use Rattle.engine.specs.declared.Answer.{Answer}
 
 -- most bytes of the listing's buffer that the call uses
 abbrev pub used_limit : ℕ

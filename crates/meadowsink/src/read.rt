@@ -3,9 +3,8 @@ ghost use Rattle.std.specs.Prelude.{◌≡◌, min};
 ghost use Rattle.parse.specs.Outcome.{Outcome};
 ghost use Rattle.meadowsink.specs.Viewer.{used_limit, UsedOutcome, ViewerOutcome, PlaceOutcome};
 
-use engine::Parses;
+use engine::Answer;
 use parse::parse;
-use refusal::Refusal;
 use reply::read::read_reply;
 use reply::{number, place};
 
@@ -20,7 +19,7 @@ pub fn used_part(n: usize) -> usize
 }
 
 // Parses with at most the first 65,536 bytes of the listing's buffer.
-fn parse_used(book: &[u8], text: &[u8], chart: &mut [u8], listing: &mut [u8]) -> Result<Parses, Refusal>
+fn parse_used(book: &[u8], text: &[u8], chart: &mut [u8], listing: &mut [u8]) -> Answer
     ensures { UsedOutcome (Outcome book.now text.now) chart.old listing.old result chart.new listing.new }
 {
     let most = used_part(listing.len());

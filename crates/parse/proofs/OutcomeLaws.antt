@@ -3,16 +3,18 @@ use Prim.Native.Nat.{ℕ}
 use mathlib.Core.Path.{◌≡◌, refl, subst}
 use mathlib.Core.List.{List, [], ◌∷◌}
 use Rattle.engine.proofs.OutcomeLaws.{unless_unique}
-use Rattle.engine.specs.Outcome.{UnlessRefused, Answer}
+use Rattle.engine.specs.Outcome.{UnlessRefused}
+use Rattle.engine.specs.declared.Answer.{Answer}
 use Rattle.engine.specs.Refusals.{too_long}
 use Rattle.refusal.specs.Verdict.{in_order, Verdict, accepted}
 use Rattle.parse.specs.Outcome.{too_short, reading_by, refusal, Outcome, AcceptedOutcome}
 use Rattle.priority.specs.Check.{checked}
 use Rattle.std.specs.Prelude.{Err}
 use Rattle.refusal.specs.declared.Refusal.{Refusal}
+use Rattle.engine.specs.declared.Answer.TheVariants.{Refused}
 
 module _ (b w c₀ l₀ : List ℕ) where
-  pub grammar_refused : (r : Refusal) → checked b ≡ Err r → Outcome b w c₀ l₀ (Err r) c₀ l₀
+  pub grammar_refused : (r : Refusal) → checked b ≡ Err r → Outcome b w c₀ l₀ (Refused r) c₀ l₀
   unfolding Outcome refusal UnlessRefused
   grammar_refused r e = rw e (refl, refl, refl)
 

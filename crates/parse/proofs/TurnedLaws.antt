@@ -4,7 +4,8 @@ use mathlib.Core.Path.{◌≡◌, refl, ap₂, subst}
 use mathlib.Core.List.{List, [], ◌∷◌}
 use lib.ListN.{length}
 use Rattle.engine.proofs.SameParsingLaws.{SameParsing, chart_bytes_same, unless_same}
-use Rattle.engine.specs.Outcome.{UnlessRefused, Answer}
+use Rattle.engine.specs.Outcome.{UnlessRefused}
+use Rattle.engine.specs.declared.Answer.{Answer}
 use Rattle.engine.specs.Refusals.{too_long, chart_too_short}
 use Rattle.flatten.proofs.TurnedLaws.{turned_reading, turned_entry}
 use Rattle.grammar.proofs.SameFrontLaws.{same_productions, same_count}

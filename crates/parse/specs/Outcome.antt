@@ -1,7 +1,8 @@
 -- The promise of the operation "reading a text" (01; demand 3), stated once, for every grammar, text, chart and buffer.
 use Rattle.std.specs.Prelude.{ℕ, List, [], ◌∷◌, length}
 use Rattle.chart.specs.Layout.{chart_bytes}
-use Rattle.engine.specs.Outcome.{Parsing, UnlessRefused, Answer}
+use Rattle.engine.specs.Outcome.{Parsing, UnlessRefused}
+use Rattle.engine.specs.declared.Answer.{Answer}
 use Rattle.engine.specs.Refusals.{too_long, chart_too_short}
 use Rattle.refusal.specs.Verdict.{in_order, Verdict}
 use Rattle.layout.specs.Layout.{productions, argument_count}

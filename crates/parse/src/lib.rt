@@ -4,10 +4,9 @@
 ghost use Rattle.grammar.specs.Formed.{WellFormed};
 ghost use Rattle.parse.specs.Outcome.{Outcome, AcceptedOutcome};
 
-use engine::{Parses, parse_tables};
+use engine::{Answer, parse_tables};
 use flatten::flatten;
 use priority::check_grammar;
-use refusal::Refusal;
 use tables::zero_tables;
 
 // Parses a text. The chart and the listing are lent; what they held before is never read.
@@ -16,11 +15,13 @@ pub fn parse(
     text: &[u8],
     chart: &mut [u8],
     listing: &mut [u8],
-) -> Result<Parses, Refusal>
+) -> Answer
     ensures { Outcome book.now text.now chart.old listing.old result chart.new listing.new }
 {
-    check_grammar(book)?;
-    parse_accepted(book, text, chart, listing)
+    match check_grammar(book) {
+        Ok(()) => parse_accepted(book, text, chart, listing),
+        Err(refusal) => Answer::Refused(refusal),
+    }
 }
 
 // The same for an accepted grammar.
@@ -29,7 +30,7 @@ pub fn parse_accepted(
     text: &[u8],
     chart: &mut [u8],
     listing: &mut [u8],
-) -> Result<Parses, Refusal>
+) -> Answer
     requires { WellFormed book.now }
     ensures { AcceptedOutcome book.now text.now chart.old listing.old result chart.new listing.new }
 {

@@ -1,9 +1,9 @@
 -- The lines that reading prints.
-use Rattle.std.specs.Prelude.{ℕ, ◌*◌, ◌++◌, List, [], codes, decimal, Ok, Err}
+use Rattle.std.specs.Prelude.{ℕ, ◌*◌, ◌++◌, List, [], codes, decimal}
 use Rattle.std.proofs.Common.{zero, suc}
 use Rattle.common.specs.Bytes.{number_at}
-use Rattle.engine.specs.Outcome.{Answer}
-use Rattle.engine.specs.declared.Parses.TheVariants.{None, One, Several}
+use Rattle.engine.specs.declared.Answer.{Answer}
+use Rattle.engine.specs.declared.Answer.TheVariants.{None, One, Several, Refused}
 use Rattle.refusal.specs.Fault.{number_of}
 use Rattle.report.specs.Lines.{refusal_line}
 
@@ -18,7 +18,7 @@ spaced_numbers listing (suc count) = spaced_numbers listing count ++ spaced list
 
 -- the line of an answer, whose numbers the listing has
 abbrev pub answer_line : Answer → List ℕ → List ℕ
-answer_line (Ok None) listing = codes "none\n"
-answer_line (Ok (One count)) listing = codes "one" ++ (spaced_numbers listing count ++ codes "\n")
-answer_line (Ok Several) listing = codes "several\n"
-answer_line (Err r) listing = refusal_line (number_of r.fault) r.place
+answer_line None listing = codes "none\n"
+answer_line (One count) listing = codes "one" ++ (spaced_numbers listing count ++ codes "\n")
+answer_line Several listing = codes "several\n"
+answer_line (Refused r) listing = refusal_line (number_of r.fault) r.place

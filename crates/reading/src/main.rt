@@ -4,12 +4,12 @@
 
 ghost use Rattle.std.specs.Prelude.{◌+◌, ◌*◌, ◌++◌, ◌≤◌, ◌<◌, length, codes, IfOk, OnOk, vec_len};
 ghost use Rattle.std.specs.Io.KnownBytes.{Appends};
-ghost use Rattle.engine.specs.Outcome.{Answer};
+ghost use Rattle.engine.specs.declared.Answer.{Answer};
 ghost use Rattle.parse.specs.Outcome.{Outcome};
 ghost use Rattle.reading.specs.Line.{spaced, spaced_numbers, answer_line};
 
 use common::two_bytes;
-use engine::Parses;
+use engine::Answer;
 use parse::parse;
 use report::{large_buffer, print_refusal, read_input};
 use std::fs::{File, Files};
@@ -36,12 +36,10 @@ fn print_answer<W: Write>(
         × Appends (W.contents out.old) (W.contents out.new) (answer_line answer listing.new)) }
 {
     match parse(book, text, chart, listing) {
-        Ok(parses) => match parses {
-            Parses::None => print_word(out, b"none\n"),
-            Parses::One(count) => print_listing(out, listing, count),
-            Parses::Several => print_word(out, b"several\n"),
-        },
-        Err(refusal) => print_refusal(out, refusal),
+        Answer::None => print_word(out, b"none\n"),
+        Answer::One(count) => print_listing(out, listing, count),
+        Answer::Several => print_word(out, b"several\n"),
+        Answer::Refused(refusal) => print_refusal(out, refusal),
     }
 }
 

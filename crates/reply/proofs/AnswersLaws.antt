@@ -8,13 +8,14 @@ use lib.Dec.{leb}
 use lib.ListN.{length}
 use Rattle.ccg.specs.Ccg.{Class, Line}
 use Rattle.writing.specs.Answer.{fitted}
-use Rattle.engine.specs.Outcome.{Parsing, Answered, Answer}
+use Rattle.engine.specs.Outcome.{Parsing, Answered}
+use Rattle.engine.specs.declared.Answer.{Answer}
 use Rattle.listing.specs.Judge.{is_right, due_after, text_after, judge}
 use Rattle.sheet.specs.Refusals.{sheet_limit}
 use Rattle.reply.proofs.ReplyLaws.{answered_fits, refused_fits}
 use Rattle.reply.specs.Answers.{summary_values, conflict_reply, count_reply, listing_reply, read_reply, step_reply, Near}
 use Rattle.reply.specs.Reply.{value_limit, Fits}
-use Rattle.engine.specs.declared.Parses.TheVariants.{None, One, Several}
+use Rattle.engine.specs.declared.Answer.TheVariants.{None, One, Several, Refused}
 use Rattle.listing.specs.declared.Judgement.TheVariants.{Wrong}
 use Rattle.refusal.specs.Verdict.{refusal, refused as refusal_by}
 use Rattle.refusal.specs.declared.Fault.{Fault}
@@ -53,10 +54,10 @@ judge_fits g (n ∷ ns) (due ∷ dues) w k h =
 -- reading a text
 pub own_read_fits : (s : Parsing) (l₀ : List ℕ) (r : Answer) (l : List ℕ) → length l₀ < value_limit → Answered s.parse l₀ r l → Fits (read_reply r)
 unfolding Answered read_reply
-own_read_fits s l₀ (Ok None) l h a = answered_fits 0 0 (omega arith) (omega arith)
-own_read_fits s l₀ (Ok (One n)) l h a = answered_fits 1 n (omega arith) (omega (arith, a.3))
-own_read_fits s l₀ (Ok Several) l h a = answered_fits 2 0 (omega arith) (omega arith)
-own_read_fits s l₀ (Err r) l h a = refused_fits r
+own_read_fits s l₀ None l h a = answered_fits 0 0 (omega arith) (omega arith)
+own_read_fits s l₀ (One n) l h a = answered_fits 1 n (omega arith) (omega (arith, a.3))
+own_read_fits s l₀ Several l h a = answered_fits 2 0 (omega arith) (omega arith)
+own_read_fits s l₀ (Refused r) l h a = refused_fits r
 
 -- a step down a sheet
 pub near_line : (r : Step) (next v : ℕ) → r ≡ Ok (Some v) → Near r next → next ≤ sheet_limit

@@ -3,8 +3,8 @@ use Rattle.std.specs.Prelude.{ℕ, ◌+◌, ◌*◌, ◌≤◌, ◌<◌, nat_abs
 use Rattle.std.proofs.Math.IntN.{suc_ℤ}
 use Rattle.common.specs.Bytes.{byte_values}
 use Rattle.compare.specs.Answer.{CompareAnswer}
-use Rattle.engine.specs.Outcome.{Answer}
-use Rattle.engine.specs.declared.Parses.TheVariants.{None, One, Several}
+use Rattle.engine.specs.declared.Answer.{Answer}
+use Rattle.engine.specs.declared.Answer.TheVariants.{None, One, Several, Refused}
 use Rattle.listing.specs.Answer.{ListingAnswer}
 use Rattle.listing.specs.declared.Judgement.TheVariants.{Right, Wrong}
 use Rattle.order.specs.Order.{order_number}
@@ -46,10 +46,10 @@ listing_reply (Err r) = refused r
 
 -- reading a text: 0 none, 1 one, the value is the length of its listing, 2 several
 unfoldable pub read_reply : Answer → Reply
-read_reply (Ok None) = answered 0 0
-read_reply (Ok (One n)) = answered 1 n
-read_reply (Ok Several) = answered 2 0
-read_reply (Err r) = refused r
+read_reply None = answered 0 0
+read_reply (One n) = answered 1 n
+read_reply Several = answered 2 0
+read_reply (Refused r) = refused r
 
 -- a step down a sheet: 0 no line is left, 1 a line, the value is 4 × where the next line starts + its summary byte
 unfoldable pub step_reply : Step → (next : ℕ) → Reply

@@ -10,7 +10,8 @@ use Rattle.charset.specs.Set.{characters}
 use Rattle.engine.proofs.RefusalsLaws.{text_long, chart_short}
 use Rattle.engine.proofs.SameParsingLaws.{SameParsing, chart_same_lem}
 use Rattle.engine.proofs.UniqueLaws.{chart_unique}
-use Rattle.engine.specs.Outcome.{Parsing, Answered, UnlessRefused, Answer}
+use Rattle.engine.specs.Outcome.{Parsing, Answered, UnlessRefused}
+use Rattle.engine.specs.declared.Answer.{Answer}
 use Rattle.engine.specs.Refusals.{too_long, chart_too_short, text_refusal}
 use Rattle.engine.specs.Roots.{parsing_by, TablesOutcome}
 use Rattle.flatten.specs.Tables.{FlatTables}
@@ -24,7 +25,7 @@ use Rattle.sheet.specs.Outcome.{fault_byte, refused_byte, byte_of, LineRead, Lin
 use Rattle.theory.proofs.CountLaws.{counts_bounds, counts_unique, counts_same}
 use Rattle.theory.specs.Counts.{Counts}
 use Rattle.theory.specs.Tree.{Tree}
-use Rattle.engine.specs.declared.Parses.TheVariants.{None, One, Several}
+use Rattle.engine.specs.declared.Answer.TheVariants.{None, One, Several, Refused}
 use Rattle.std.specs.Prelude.{Ok, Err, ⊤}
 use Rattle.refusal.specs.declared.Refusal.{Refusal}
 use Rattle.refusal.specs.Fault.{number_of}
@@ -35,10 +36,10 @@ use Rattle.refusal.proofs.VerdictLaws.{same_refusal}
 -- the byte of an answer counts the parses; 22 is one
 answered_counts : (P : Tree → Type 0) (l₀ : List ℕ) (r : Answer) (l : List ℕ) → Answered P l₀ r l → Counts P (byte_of r)
 unfolding Answered Counts byte_of fault_byte
-answered_counts P l₀ (Ok None) l a = a.0
-answered_counts P l₀ (Ok (One n)) l a = (a.0, a.1)
-answered_counts P l₀ (Ok Several) l a = a.0
-answered_counts P l₀ (Err x) l a = rw a.2 (a.0, a.1)
+answered_counts P l₀ None l a = a.0
+answered_counts P l₀ (One n) l a = (a.0, a.1)
+answered_counts P l₀ Several l a = a.0
+answered_counts P l₀ (Refused x) l a = rw a.2 (a.0, a.1)
 
 -- 10 and 20 are all the refusals of a text
 module _ (w chart : List ℕ) (need : ℕ) where

@@ -1,7 +1,8 @@
 -- The promises of the operations "a sheet" and "a step down a sheet" (02, [4]), stated once, for every grammar, sheet, chart, summary and start.
 use Rattle.std.specs.Prelude.{ℕ, ◌≡◌, Bool, true, false, cond, List, [], ◌∷◌, eqb, ltb, length, Some, None as Nothing, Result, Ok, Err, Option}
 use Rattle.common.specs.Lists.{overwritten}
-use Rattle.engine.specs.Outcome.{Parsing, ChartAfter, Answer}
+use Rattle.engine.specs.Outcome.{Parsing, ChartAfter}
+use Rattle.engine.specs.declared.Answer.{Answer}
 use Rattle.engine.specs.Refusals.{too_long, text_refusal}
 use Rattle.engine.specs.Roots.{parsing_by}
 use Rattle.refusal.specs.Verdict.{in_order, Verdict}
@@ -9,7 +10,7 @@ use Rattle.parse.specs.Outcome.{too_short, reading_by}
 use Rattle.split.specs.Lines.{lines, line_at, next_start}
 use Rattle.sheet.specs.Refusals.{step_refusal, sheet_refusal}
 use Rattle.theory.specs.Counts.{Counts}
-use Rattle.engine.specs.declared.Parses.TheVariants.{None, One, Several}
+use Rattle.engine.specs.declared.Answer.TheVariants.{None, One, Several, Refused}
 use Rattle.refusal.specs.declared.Refusal.{Refusal}
 use Rattle.refusal.specs.Fault.{number_of}
 use Rattle.refusal.specs.declared.Fault.{Fault}
@@ -26,10 +27,10 @@ fault_byte fault = cond (eqb (number_of fault) 22) 1 refused_byte
 
 -- The summary byte of what reading a line answers: 0 none, 1 one, 2 several, 3 refused. One whose listing doesn't fit, refusal 22, is one.
 unfoldable pub byte_of : Answer → ℕ
-byte_of (Ok None) = 0
-byte_of (Ok (One n)) = 1
-byte_of (Ok Several) = 2
-byte_of (Err x) = fault_byte x.fault
+byte_of None = 0
+byte_of (One n) = 1
+byte_of Several = 2
+byte_of (Refused x) = fault_byte x.fault
 
 -- A line is read. Refused, it has byte 3, and the chart, which held c₀, stays. Otherwise its byte v is how many parses it has, 2 for more, and the chart
 -- is what parsing it leaves.

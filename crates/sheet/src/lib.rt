@@ -9,7 +9,7 @@ ghost use Rattle.split.specs.Lines.{lines};
 ghost use Rattle.sheet.specs.Refusals.{step_refusal, sheet_refusal};
 ghost use Rattle.sheet.specs.Outcome.{byte_of, fault_byte, TablesLine, Summed, LineBy, SheetOutcome, StepFrom, StepOutcome};
 
-use engine::{Parses, parse_prepared};
+use engine::{Answer, parse_prepared};
 use flatten::flatten;
 use parse::parse_accepted;
 use prepare::{prepare, zero_prepared};
@@ -66,23 +66,14 @@ fn check_summary(book: &[u8], sheet: &[u8], summary: &[u8]) -> Result<(), Refusa
 // ---- a line
 
 // The summary byte of what reading a line answers. By 22 there is one reading, whose listing has no room.
-fn summary_byte(answer: Result<Parses, Refusal>) -> u8
+fn summary_byte(answer: Answer) -> u8
     ensures { result ≡ byte_of answer }
 {
     match answer {
-        Ok(parses) => parses_byte(parses),
-        Err(refusal) => refused_byte(refusal.fault),
-    }
-}
-
-// That of a line that is read.
-fn parses_byte(parses: Parses) -> u8
-    ensures { result ≡ byte_of (Ok parses) }
-{
-    match parses {
-        Parses::None => 0,
-        Parses::One(_) => 1,
-        Parses::Several => 2,
+        Answer::None => 0,
+        Answer::One(_) => 1,
+        Answer::Several => 2,
+        Answer::Refused(refusal) => refused_byte(refusal.fault),
     }
 }
 

@@ -2,7 +2,8 @@
 use Prim.Native.Nat.{ℕ}
 use mathlib.Core.Path.{◌≡◌, refl}
 use mathlib.Core.List.{List}
-use Rattle.engine.specs.Outcome.{Answer, Answered, UnlessRefused}
+use Rattle.engine.specs.Outcome.{Answered, UnlessRefused}
+use Rattle.engine.specs.declared.Answer.{Answer}
 use Rattle.engine.specs.Refusals.{too_long}
 use Rattle.flatten.specs.Reading.{Reading}
 use Rattle.refusal.proofs.VerdictLaws.{and_first, and_second}
@@ -11,8 +12,9 @@ use Rattle.refusal.specs.declared.Refusal.{Refusal}
 use Rattle.std.specs.Prelude.{Ok, Err}
 use Rattle.parse.specs.Outcome.{too_short, refusal, reading_by, Outcome}
 use Rattle.priority.specs.Check.{checked}
+use Rattle.engine.specs.declared.Answer.TheVariants.{Refused}
 
-module _ (b w c₀ l₀ : List ℕ) (r : Answer) (c l : List ℕ) (other : (x : Refusal) → r ≡ Err x → ⊥) where
+module _ (b w c₀ l₀ : List ℕ) (r : Answer) (c l : List ℕ) (other : (x : Refusal) → r ≡ Refused x → ⊥) where
   answered_accepted : (v : Verdict) → UnlessRefused v (reading_by b w) c₀ l₀ r c l → (v ≡ accepted) × Answered (Reading b w) l₀ r l
   unfolding UnlessRefused
   answered_accepted (Ok _) h = (refl, h.answer)

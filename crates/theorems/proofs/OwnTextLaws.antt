@@ -19,7 +19,8 @@ use Rattle.charset.specs.Set.{characters}
 use Rattle.chart.specs.Layout.{chart_bytes}
 use Rattle.common.proofs.ListLaws.{length_tabulate, get_d_tabulate}
 use Rattle.engine.proofs.SameParsingLaws.{SameParsing, chart_bytes_same, unless_same}
-use Rattle.engine.specs.Outcome.{Answer, UnlessRefused}
+use Rattle.engine.specs.Outcome.{UnlessRefused}
+use Rattle.engine.specs.declared.Answer.{Answer}
 use Rattle.flatten.proofs.FlatLaws.{flat_length, flat_arguments, flat_class_at, flat_trees, flat_lists}
 use Rattle.flatten.proofs.FlatWrittenLaws.{flat_written}
 use Rattle.flatten.proofs.TableTextLaws.{flat_of_production}

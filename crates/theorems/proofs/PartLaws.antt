@@ -9,7 +9,7 @@ use native.Mathlib.Decide.{ℕ_discrete, dec_lt}
 use Rattle.classes.specs.Classes.{is_class}
 use Rattle.common.proofs.BoolLaws.{true_or_false, not_both}
 use Rattle.engine.specs.Outcome.{Answered}
-use Rattle.engine.specs.declared.Parses.TheVariants.{Several}
+use Rattle.engine.specs.declared.Answer.TheVariants.{Several}
 use Rattle.std.specs.Prelude.{Ok}
 use Rattle.flatten.specs.Reading.{Reading}
 use Rattle.flatten.specs.Trees.{Built, Arguments}
@@ -152,9 +152,9 @@ module _ (b : List ℕ) (e : checked b ≡ accepted) (w : List ℕ) where
       (trees_part b (accepted_formed b e) (start_sort b) t u [] [] h.built k.built (ap (λ (v : List ℕ). v ++ []) (h.spells ∙ sym k.spells)))
 
 -- and so whoever gets "several" has two that part
-pub several_part : (b w c₀ l₀ : List ℕ) (c l : List ℕ) → Outcome b w c₀ l₀ (Ok Several) c l → (t : Tree) × (u : Tree) × Reading b w t × Reading b w u × Part b (listing t) (listing u)
+pub several_part : (b w c₀ l₀ : List ℕ) (c l : List ℕ) → Outcome b w c₀ l₀ Several c l → (t : Tree) × (u : Tree) × Reading b w t × Reading b w u × Part b (listing t) (listing u)
 unfolding Answered
 several_part b w c₀ l₀ c l outcome =
-    let (good, _, answered) = answered_parts b w c₀ l₀ (Ok Several) c l (λ x e. let z : ◌≡◌ {A = ℕ} 0 1 = cc in absurd (omega arith)) outcome in
+    let (good, _, answered) = answered_parts b w c₀ l₀ Several c l (λ x e. let z : ◌≡◌ {A = ℕ} 0 1 = cc in absurd (omega arith)) outcome in
     let (t, u, h, k, n) = answered.0 in
     (t, u, h, k, readings_part b good w t u h k n)

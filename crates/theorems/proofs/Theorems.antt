@@ -18,7 +18,8 @@ use Rattle.ccg.specs.Text.{grammar_text}
 use Rattle.archive.proofs.ExactLaws.{refusal_named, refusal_ten, refusal_twenty, refused_exactly as flat_refused_exactly, form_exactly, flat_unchanged, flat_parsed}
 use Rattle.archive.proofs.UniqueLaws.{flat_unique}
 use Rattle.archive.specs.Outcome.{trees_of, FlatOutcome}
-use Rattle.engine.specs.Outcome.{Answer, Parsing, Parsed}
+use Rattle.engine.specs.Outcome.{Parsing, Parsed}
+use Rattle.engine.specs.declared.Answer.{Answer}
 use Rattle.form.proofs.CornerLaws.{all_corners, full_stops}
 use Rattle.form.proofs.FormLaws.{says_unique}
 use Rattle.load.proofs.CheckLaws.{loaded_says, checked_lines, checked_form, checked_absent, checked_faults}
@@ -364,7 +365,7 @@ never_six b k =
       check = none_by_six _ k;
       question = λ p i q. none_by_six _ k;
       flat = λ room. none_by_six _ k;
-      reading = λ w chart₀ l₀ r chart l o. none_by_six r k;
+      reading = λ w chart₀ l₀ r chart l o x e. no_six x.fault;
       listing = λ w l. none_by_six _ k;
       compare = λ w l m r h. none_by_six r k;
       page = λ w l room. none_by_six _ k;

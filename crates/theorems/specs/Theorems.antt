@@ -48,12 +48,13 @@ use Rattle.common.specs.Below.{all_below, any_below}
 use Rattle.archive.specs.Outcome.{line_arity, trees_of, FlatOutcome, LowestRoot, AllThere}
 use Rattle.ccg.specs.Tables.{table_grammar}
 use Rattle.common.specs.Lists.{tabulate, All}
-use Rattle.engine.specs.Outcome.{Answer, Parsing}
+use Rattle.engine.specs.Outcome.{Parsing}
+use Rattle.engine.specs.declared.Answer.{Answer}
 use Rattle.form.specs.Corners.{corner, StopsThere, corners}
 use Rattle.form.specs.Form.{Writable, Says, NotInForm}
 use Rattle.load.specs.Absent.{Names, FirstNamed}
 use Rattle.load.specs.Check.{Checked, Loaded}
-use Rattle.engine.specs.declared.Parses.TheVariants.{None, One, Several}
+use Rattle.engine.specs.declared.Answer.TheVariants.{None, One, Several, Refused as NotRead}
 use Rattle.numbers.specs.Written.{bytes_of}
 use Rattle.grammar.specs.Check.{outside, short_header, bad_header, short_contents, bad_argument_counts, bad_range_counts, bad_length, bad_productions, is_group, bad_declaration, bad_declarations, same_production, repeated_productions}
 use Rattle.grammar.specs.Equal.{OneProduction}
@@ -137,10 +138,10 @@ pub record FlatExactly (b out₀ : List ℕ) : Type 0 where
 
 -- Reading a text is refused with 1 to 9, 10 and 20 exactly so, and by these refusals nothing is changed.
 pub record ReadingRefused (b w chart₀ l₀ : List ℕ) (r : Answer) (chart l : List ℕ) : Type 0 where
-  pub grammar : (x : Refusal) → number_of x.fault ≤ 9 → (r ≡ Err x) ↔ (checked b ≡ Err x)
-  pub ten : (k : ℕ) → (r ≡ refused LongText k) ↔ ((checked b ≡ accepted) × (text_limit < length w) × (k ≡ length w))
-  pub twenty : (k : ℕ) → (r ≡ refused ShortChart k) ↔ ((checked b ≡ accepted) × (length w ≤ text_limit) × (k ≡ needed b (length w)) × (length chart₀ < k))
-  pub unchanged : (x : Refusal) → (number_of x.fault ≡ 22 → ⊥) → r ≡ Err x → (chart ≡ chart₀) × (l ≡ l₀)
+  pub grammar : (x : Refusal) → number_of x.fault ≤ 9 → (r ≡ NotRead x) ↔ (checked b ≡ Err x)
+  pub ten : (k : ℕ) → (r ≡ NotRead (refusal LongText k)) ↔ ((checked b ≡ accepted) × (text_limit < length w) × (k ≡ length w))
+  pub twenty : (k : ℕ) → (r ≡ NotRead (refusal ShortChart k)) ↔ ((checked b ≡ accepted) × (length w ≤ text_limit) × (k ≡ needed b (length w)) × (length chart₀ < k))
+  pub unchanged : (x : Refusal) → (number_of x.fault ≡ 22 → ⊥) → r ≡ NotRead x → (chart ≡ chart₀) × (l ≡ l₀)
 
 abbrev pub Refuses : Type 0
 Refuses = (b w chart₀ l₀ : List ℕ) (r : Answer) (chart l : List ℕ) → Outcome b w chart₀ l₀ r chart l → ReadingRefused b w chart₀ l₀ r chart l
@@ -162,7 +163,7 @@ pub record ListingExactly (b w l : List ℕ) : Type 0 where
 abbrev pub OneIsRight : Type 0
 OneIsRight =
     (b : List ℕ) → Bytes b → (w chart₀ l₀ : List ℕ) (n : ℕ) (chart l : List ℕ)
-    → Outcome b w chart₀ l₀ (Ok (One n)) chart l → 2 * n ≤ byte_limit → listing_answer b w (take (2 * n) l) ≡ Ok Right
+    → Outcome b w chart₀ l₀ (One n) chart l → 2 * n ≤ byte_limit → listing_answer b w (take (2 * n) l) ≡ Ok Right
 
 -- ---- 2. "The flat book is the one that Visser's 'From Context-free Grammars with Priorities to Character Class Grammars' defines from the book. Each tree of the
 -- book without a clash is a tree of the flat book under the same rules, and each tree of the flat book is such a tree of the book."
@@ -204,11 +205,11 @@ ReadingsAreFlat =
 -- A `Parsing` (engine/specs/Outcome) says which trees are the readings of a text of `size` characters, and which lists of trees each entry of the chart counts, for `count`
 -- productions with so many arguments each: for a grammar `reading_by b w`, with `Reading b w` and `EntryList b w`; for a flat text `trees_of` (request 7).
 pub record ReadExactly (s : Parsing) (chart₀ l₀ : List ℕ) (r : Answer) (chart l : List ℕ) : Type 0 where
-  pub none : (r ≡ Ok None) ↔ ((t : Tree) → s.parse t → ⊥)
-  pub several : (r ≡ Ok Several) ↔ Two s.parse
-  pub one : (n : ℕ) → (r ≡ Ok (One n)) ↔ ((t : Tree) × Only s.parse t × (n ≡ length (listing t)) × (2 * n ≤ length l₀))
-  pub too_long : (k : ℕ) → (r ≡ refused LongListing k) ↔ ((t : Tree) × Only s.parse t × (length l₀ < 2 * length (listing t)) × (k ≡ length l₀ / 2))
-  pub no_other : (x : Refusal) → r ≡ Err x → x.fault ≡ LongListing
+  pub none : (r ≡ None) ↔ ((t : Tree) → s.parse t → ⊥)
+  pub several : (r ≡ Several) ↔ Two s.parse
+  pub one : (n : ℕ) → (r ≡ One n) ↔ ((t : Tree) × Only s.parse t × (n ≡ length (listing t)) × (2 * n ≤ length l₀))
+  pub too_long : (k : ℕ) → (r ≡ NotRead (refusal LongListing k)) ↔ ((t : Tree) × Only s.parse t × (length l₀ < 2 * length (listing t)) × (k ≡ length l₀ / 2))
+  pub no_other : (x : Refusal) → r ≡ NotRead x → x.fault ≡ LongListing
   pub unwritten : ((t : Tree) → s.parse t → ⊥) ⊎ Two s.parse → l ≡ l₀
   pub whole : (t : Tree) → Only s.parse t → 2 * length (listing t) ≤ length l₀ → l ≡ bytes_of (listing t) ++ drop (length (bytes_of (listing t))) l₀
   pub front : (t : Tree) → Only s.parse t → length l₀ < 2 * length (listing t)
@@ -423,7 +424,7 @@ pub record NeverSix (b : List ℕ) (k : ℕ) : Type 0 where
   pub check : RefusedBy (checked b) 6 k → ⊥
   pub question : (p i q : ℕ) → RefusedBy (conflict_answer b p i q) 6 k → ⊥
   pub flat : (room : ℕ) → RefusedBy (flat_answer b room) 6 k → ⊥
-  pub reading : (w chart₀ l₀ : List ℕ) (r : Answer) (chart l : List ℕ) → Outcome b w chart₀ l₀ r chart l → RefusedBy r 6 k → ⊥
+  pub reading : (w chart₀ l₀ : List ℕ) (r : Answer) (chart l : List ℕ) → Outcome b w chart₀ l₀ r chart l → (x : Refusal) → r ≡ NotRead x → number_of x.fault ≡ 6 → ⊥
   pub listing : (w l : List ℕ) → RefusedBy (listing_answer b w l) 6 k → ⊥
   pub compare : (w l m : List ℕ) (r : CompareAnswer) → Compared b w l m r → RefusedBy r 6 k → ⊥
   pub page : (w l : List ℕ) (room : ℕ) → RefusedBy (page_answer b w l room) 6 k → ⊥
@@ -466,7 +467,7 @@ Sheets = (b s chart₀ m₀ : List ℕ) (r : Result ℕ Refusal) (chart m : List
 pub record LineAlone (v : ℕ) (chart : List ℕ) (r : Answer) (chart' : List ℕ) : Type 0 where
   pub byte : v ≡ byte_of r
   pub chart_same : chart ≡ chart'
-  pub numbers : (x : Refusal) → r ≡ Err x → (number_of x.fault ≡ 10) ⊎ ((number_of x.fault ≡ 20) ⊎ (number_of x.fault ≡ 22))
+  pub numbers : (x : Refusal) → r ≡ NotRead x → (number_of x.fault ≡ 10) ⊎ ((number_of x.fault ≡ 20) ⊎ (number_of x.fault ≡ 22))
 
 abbrev pub LinesAlone : Type 0
 LinesAlone =
@@ -528,7 +529,7 @@ ReadingsPart = (b : List ℕ) → checked b ≡ accepted → (w : List ℕ) (t u
 -- So whoever gets "several" has two readings whose listings part so.
 abbrev pub SeveralPart : Type 0
 SeveralPart =
-    (b w chart₀ l₀ : List ℕ) (r : Answer) (chart l : List ℕ) → Outcome b w chart₀ l₀ r chart l → r ≡ Ok Several
+    (b w chart₀ l₀ : List ℕ) (r : Answer) (chart l : List ℕ) → Outcome b w chart₀ l₀ r chart l → r ≡ Several
     → (t : Tree) × (u : Tree) × Reading b w t × Reading b w u × Part b (listing t) (listing u)
 
 -- Refusal 8 names a production p with an earlier one q that takes a line in no other way: over the same arguments f there is a tree with p exactly if there is one with q.
@@ -640,12 +641,12 @@ ChecksFlat = (text : List ℕ) (r : Result ℕ Refusal) → Checked text r → C
 
 -- So are the refusals of reading, in order; "or the root …, else the lowest at the root". By none of them is anything changed.
 pub record FlatRefused (flat : List ℕ) (roots : List Bool) (w chart₀ l₀ : List ℕ) (r : Answer) (chart l : List ℕ) : Type 0 where
-  pub not_in_form : (k : ℕ) → (r ≡ refused Form k) ↔ NotInForm flat k
-  pub absent : (g : List Line) → Says flat g → (k : ℕ) → (r ≡ refused NoLine k) ↔ (FirstNamed g k ⊎ (((p i q : ℕ) → Names g p i q → ⊥) × LowestRoot g roots k))
-  pub ten : (g : List Line) → Says flat g → (k : ℕ) → (r ≡ refused LongText k) ↔ (AllThere g roots × (text_limit < length w) × (k ≡ length w))
+  pub not_in_form : (k : ℕ) → (r ≡ NotRead (refusal Form k)) ↔ NotInForm flat k
+  pub absent : (g : List Line) → Says flat g → (k : ℕ) → (r ≡ NotRead (refusal NoLine k)) ↔ (FirstNamed g k ⊎ (((p i q : ℕ) → Names g p i q → ⊥) × LowestRoot g roots k))
+  pub ten : (g : List Line) → Says flat g → (k : ℕ) → (r ≡ NotRead (refusal LongText k)) ↔ (AllThere g roots × (text_limit < length w) × (k ≡ length w))
   pub twenty : (g : List Line) → Says flat g → (k : ℕ)
-      → (r ≡ refused ShortChart k) ↔ (AllThere g roots × (length w ≤ text_limit) × (k ≡ chart_bytes (line_arity g) (length g) (length w)) × (length chart₀ < k))
-  pub unchanged : (x : Refusal) → (number_of x.fault ≡ 22 → ⊥) → r ≡ Err x → (chart ≡ chart₀) × (l ≡ l₀)
+      → (r ≡ NotRead (refusal ShortChart k)) ↔ (AllThere g roots × (length w ≤ text_limit) × (k ≡ chart_bytes (line_arity g) (length g) (length w)) × (length chart₀ < k))
+  pub unchanged : (x : Refusal) → (number_of x.fault ≡ 22 → ⊥) → r ≡ NotRead x → (chart ≡ chart₀) × (l ≡ l₀)
 
 abbrev pub RefusesFlat : Type 0
 RefusesFlat = (flat : List ℕ) (roots : List Bool) (w chart₀ l₀ : List ℕ) (r : Answer) (chart l : List ℕ) → FlatOutcome flat roots w chart₀ l₀ r chart l → FlatRefused flat roots w chart₀ l₀ r chart l

@@ -5,7 +5,6 @@ use borrow.Author.Rules.{rules}
 use Rattle.archive.proofs.OutcomeLaws.{tables_root, root_absent, root_refused, root_carried}
 use Rattle.charset.proofs.BytesLaws.{bytes_of}
 use Rattle.tables.proofs.LayoutLaws.{counts_few}
-use Rattle.std.proofs.lemmas.Result.{err_from_is_err_and}
 use Rattle.archive.proofs.parse_loaded.Goals as goal
 
 pub production_count-requires : goal.production_count-requires
@@ -29,19 +28,18 @@ parse_tables-requires c =
     let root = tables_root start.args.tables.now put-class.new.tables start.args.roots _ _ put-class.ensures start.requires.0 c.of.ensures in
     root
 
-pub returns-in_err-check_class : goal.returns-in_err-check_class
-returns-in_err-check_class c =
+pub returns-in-Err : goal.returns-in-Err
+returns-in-Err c =
     let start = c in
     let put-class = c.put_class in
     let root = root_refused start.args.tables.now put-class.new.tables start.args.roots _ _ put-class.ensures start.requires.0 c.of.ensures in
     let found = root_absent start.args.tables.now put-class.new.tables start.args.roots _ _ put-class.ensures start.requires.0 c.of.ensures _ c.production_count.ensures in
-    let p = err_from_is_err_and c.from_residual.result c.from_residual.ensures.1 in
-    rw (p.1, p.2) (root start.requires.1 _ _ _ _ (sym found ∙ sym c.check_class.ensures ∙ c.in_err-check_class.was))
+    root start.requires.1 _ _ _ _ (sym found ∙ sym c.check_class.ensures ∙ c.in-Err.is)
 
-pub returns : goal.returns
-returns c =
+pub returns-in-Ok : goal.returns-in-Ok
+returns-in-Ok c =
     let start = c in
     let put-class = c.put_class in
     let root = root_carried start.args.tables.now put-class.new.tables start.args.roots _ _ put-class.ensures start.requires.0 c.of.ensures in
     let found = root_absent start.args.tables.now put-class.new.tables start.args.roots _ _ put-class.ensures start.requires.0 c.of.ensures _ c.production_count.ensures in
-    root start.requires.1 _ _ _ (search rules) (bytes_of start.args.text.now c.type_inv.text) (sym found ∙ sym c.check_class.ensures ∙ c.in_ok-check_class.was) _ _ _ c.parse_tables.ensures
+    root start.requires.1 _ _ _ (search rules) (bytes_of start.args.text.now c.type_inv.text) (sym found ∙ sym c.check_class.ensures ∙ c.in-Ok.is) _ _ _ c.parse_tables.ensures
