@@ -30,7 +30,6 @@ use Rattle.theory.specs.Grammar.{Grammar, Spells}
 use Rattle.theory.specs.Steps.{cap, everything, root_sum}
 use Rattle.theory.specs.Tree.{Tree, node, Forest, listing}
 use Rattle.engine.specs.declared.Answer.TheVariants.{None, One, Several, Refused}
-use Rattle.std.specs.Prelude.{Ok}
 use Rattle.refusal.specs.Verdict.{refusal}
 use Rattle.refusal.specs.declared.Fault.TheVariants.{LongListing}
 

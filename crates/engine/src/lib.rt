@@ -114,12 +114,7 @@ pub fn count_parses(tables: &[u64], prepared: &[u8], text: &[u8], chart: &mut [u
 // ---- parsing
 
 // Writes the listing of the only parse, as far as there is room.
-pub fn write_parse(
-    tables: &[u64],
-    text: &[u8],
-    chart: &[u8],
-    listing: &mut [u8],
-) -> Answer
+pub fn write_parse(tables: &[u64], text: &[u8], chart: &[u8], listing: &mut [u8]) -> Answer
     requires filled { Filled tables.now text.now chart.now }
     requires counts { Counts (ParseBy tables.now text.now) 1 }
     ensures { Answered (ParseBy tables.now text.now) listing.old result listing.new }
@@ -173,12 +168,7 @@ pub fn parse_prepared(
 }
 
 // Parses one text by tables.
-pub fn parse_tables(
-    tables: &[u64],
-    text: &[u8],
-    chart: &mut [u8],
-    listing: &mut [u8],
-) -> Answer
+pub fn parse_tables(tables: &[u64], text: &[u8], chart: &mut [u8], listing: &mut [u8]) -> Answer
     requires { ParserTables tables.now }
     ensures { TablesOutcome tables.now text.now chart.old listing.old result chart.new listing.new }
 {

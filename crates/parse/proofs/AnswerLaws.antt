@@ -9,7 +9,7 @@ use Rattle.chart.specs.Layout.{text_limit}
 use Rattle.engine.proofs.AnswerLaws.{one_exactly, refused_is_long}
 use Rattle.engine.specs.Outcome.{Answered, Parsed, UnlessRefused}
 use Rattle.engine.specs.declared.Answer.{Answer}
-use Rattle.refusal.specs.Verdict.{Verdict, accepted, refused, refusal as refusal_at}
+use Rattle.refusal.specs.Verdict.{Verdict, accepted, refusal as refusal_at}
 use Rattle.parse.proofs.RefusalLaws.{refusal_grammar, refusal_ten, refusal_twenty, refusal_text, Readable, readable_accepted}
 use Rattle.parse.specs.Outcome.{needed, refusal, Outcome, reading_by}
 use Rattle.flatten.specs.Reading.{Reading}

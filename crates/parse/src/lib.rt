@@ -10,12 +10,7 @@ use priority::check_grammar;
 use tables::zero_tables;
 
 // Parses a text. The chart and the listing are lent; what they held before is never read.
-pub fn parse(
-    book: &[u8],
-    text: &[u8],
-    chart: &mut [u8],
-    listing: &mut [u8],
-) -> Answer
+pub fn parse(book: &[u8], text: &[u8], chart: &mut [u8], listing: &mut [u8]) -> Answer
     ensures { Outcome book.now text.now chart.old listing.old result chart.new listing.new }
 {
     match check_grammar(book) {
@@ -25,12 +20,7 @@ pub fn parse(
 }
 
 // The same for an accepted grammar.
-pub fn parse_accepted(
-    book: &[u8],
-    text: &[u8],
-    chart: &mut [u8],
-    listing: &mut [u8],
-) -> Answer
+pub fn parse_accepted(book: &[u8], text: &[u8], chart: &mut [u8], listing: &mut [u8]) -> Answer
     requires { WellFormed book.now }
     ensures { AcceptedOutcome book.now text.now chart.old listing.old result chart.new listing.new }
 {

@@ -1,7 +1,7 @@
 // A sheet: each line is read from its own part of it. The operations "a sheet", which writes a summary byte for each line, and "a step down a sheet".
 #![tactic(auto)]
 
-ghost use Rattle.std.specs.Prelude.{◌≡◌, ◌≤◌, ltb, length, Ok};
+ghost use Rattle.std.specs.Prelude.{◌≡◌, ◌≤◌, ltb, length};
 ghost use Rattle.grammar.specs.Formed.{WellFormed};
 ghost use Rattle.prepare.specs.Prepared.{Prepared};
 ghost use Rattle.tables.specs.Layout.{ParserTables};

@@ -6,8 +6,8 @@
 ghost use Rattle.std.specs.Prelude.{◌<◌, ◌≤◌, length, IfOk};
 
 use records::{bytes_of, field_at, field_from, number_of};
-use report::{print_quoted, print_refusal, read_input};
 use refusal::Refusal;
+use report::{print_quoted, print_refusal, read_input};
 use sheet::{read_sheet, walk_once};
 use std::io;
 use std::io::Write;

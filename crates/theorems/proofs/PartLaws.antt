@@ -10,7 +10,6 @@ use Rattle.classes.specs.Classes.{is_class}
 use Rattle.common.proofs.BoolLaws.{true_or_false, not_both}
 use Rattle.engine.specs.Outcome.{Answered}
 use Rattle.engine.specs.declared.Answer.TheVariants.{Several}
-use Rattle.std.specs.Prelude.{Ok}
 use Rattle.flatten.specs.Reading.{Reading}
 use Rattle.flatten.specs.Trees.{Built, Arguments}
 use Rattle.grammar.proofs.ArgumentLaws.{sort_no_class}
