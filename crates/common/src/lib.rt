@@ -1,24 +1,12 @@
-// What the crates above share: two tests in one, bytes as numbers, copying words, and definitions and laws of lists, sums and tests over the numbers below a bound.
+// What the crates above share: bytes as numbers, copying words, and definitions and laws of lists, sums and tests over the numbers below a bound.
 #![tactic(auto)]
 
-ghost use Rattle.std.specs.Prelude.{◌≡◌, ◌&&◌, ◌||◌, ℕ, ◌+◌, ◌<◌, ◌≤◌, length, get_or};
+ghost use Rattle.std.specs.Prelude.{◌≡◌, ℕ, ◌+◌, ◌<◌, ◌≤◌, length, get_or};
 ghost use Rattle.common.specs.Bytes.{number_at};
 ghost use Rattle.common.specs.Region.{Region};
 
 // How many values a byte has.
 pub const BYTE_VALUES: usize = 256;
-
-pub fn either(a: bool, b: bool) -> bool
-    ensures { result ≡ (a || b) }
-{
-    a || b
-}
-
-pub fn both(a: bool, b: bool) -> bool
-    ensures { result ≡ (a && b) }
-{
-    a && b
-}
 
 // A byte as a number.
 pub fn wide(x: u8) -> usize

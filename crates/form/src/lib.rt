@@ -10,7 +10,7 @@ ghost use Rattle.writing.specs.Numeral.{digit_zero, numeral_base};
 ghost use Rattle.form.specs.Step.{last_from, allowed, meets, begins, begun, state, ending_length, ending_byte, behind_number, in_number, behind_open, behind_slash, behind_dash, in_line, behind_class, in_ending, step, start, goes_on, may_end, ShortSpot, Small};
 
 use charset::CHARACTERS;
-use common::{both, either, wide};
+use common::wide;
 use layout::limits::{ARGUMENT_LIMIT, PRODUCTION_LIMIT};
 use tables::FIRST_PRODUCTION;
 use writing::digit;
@@ -66,51 +66,51 @@ fn last_from(low: usize) -> usize
 fn within(low: usize, high: usize, n: usize) -> bool
     ensures { result ≡ between low high n }
 {
-    both(low <= n, n <= high)
+    low <= n && n <= high
 }
 
 // Whether n may come next.
+#[tactic(auto, unfolding(crate::specs::Step::allowed))]
 fn allowed(low: usize, n: usize) -> bool
     ensures { result ≡ allowed low n }
 {
-    either(
-        within(low, last_from(low), n),
-        both(low == 0, within(FIRST_PRODUCTION, LAST_NUMBER, n)),
-    )
+    within(low, last_from(low), n) || (low == 0 && within(FIRST_PRODUCTION, LAST_NUMBER, n))
 }
 
+#[tactic(auto, unfolding(crate::specs::Step::meets))]
 fn meets(low: usize, high: usize, a: usize, b: usize) -> bool
     ensures { result ≡ meets low high a b }
 {
-    both(a <= high, low <= b)
+    a <= high && low <= b
 }
 
 // Whether the digits of v begin the numeral of a number from low to high.
+#[tactic(auto, unfolding(crate::specs::Step::begins))]
 fn begins(low: usize, high: usize, v: usize) -> bool
     requires { v < number_limit * numeral_base }
     ensures { result ≡ begins low high v }
 {
     let with_digit = meets(low, high, v * 10, v * 10 + 9);
     let with_two = meets(low, high, v * 100, v * 100 + 99);
-    let longer = both(1 <= v, either(with_digit, with_two));
-    both(low <= high, either(meets(low, high, v, v), longer))
+    low <= high && (meets(low, high, v, v) || (1 <= v && (with_digit || with_two)))
 }
 
 // Whether they begin the numeral of a number that may come next.
+#[tactic(auto, unfolding(crate::specs::Step::begun))]
 fn begun(low: usize, v: usize) -> bool
     requires { v < number_limit * numeral_base }
     ensures { result ≡ begun low v }
 {
-    let other_kind = both(low == 0, begins(FIRST_PRODUCTION, LAST_NUMBER, v));
-    either(begins(low, last_from(low), v), other_kind)
+    begins(low, last_from(low), v) || (low == 0 && begins(FIRST_PRODUCTION, LAST_NUMBER, v))
 }
 
 // ---- one byte
 
+#[tactic(auto, unfolding(writing::specs::Digits::is_digit))]
 fn is_digit(byte: u8) -> bool
     ensures { result ≡ is_digit byte }
 {
-    both(b'0' <= byte, byte <= b'9')
+    b'0' <= byte && byte <= b'9'
 }
 
 fn digit_value(byte: u8) -> usize
@@ -320,7 +320,7 @@ pub fn may_end(state: State) -> bool
     let argument = state.argument;
     let spot = state.spot;
     match spot {
-        Spot::Between => both(1 <= line, argument == 0),
+        Spot::Between => (1 <= line) & (argument == 0),
         Spot::Opened => false,
         Spot::Slash(_, _) => false,
         Spot::Number(_, _, _) => false,
