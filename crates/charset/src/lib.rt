@@ -1,4 +1,4 @@
-// Character classes: a set of bytes in four 64-bit words, and its normal ranges.
+// Sets of numbers, a bit to each, in 64-bit words; the sets of bytes, in four of them, with their ranges as written; and the normal ranges of any set.
 // (01, "The book": a class of characters is a set of bytes held as one record.)
 #![tactic(auto)]
 
@@ -154,7 +154,7 @@ pub fn next_run<F: Fn(usize) -> bool>(
     Some((low, seek(low + 1, limit, member, false) - 1))
 }
 
-// The first place from `from` on whose membership is as wanted; past the limit if there is none.
+// The first place from `from` on whose membership is as wanted; the limit if there is none below it, or `from` if that is beyond it.
 fn seek<F: Fn(usize) -> bool>(from: usize, limit: usize, member: &F, wanted: bool) -> usize
     requires { (k : ℕ) → from ≤ k → k < limit → F.pre member.now k }
     ensures after { from ≤ result }

@@ -55,6 +55,6 @@ fn print<W: Write>(out: &mut W, answer: Result<bool, Refusal>) -> io::Result<()>
     match answer {
         Ok(true) => out.write_all(b"yes\n"),
         Ok(false) => out.write_all(b"no\n"),
-        Err(refusal) => print_refusal(out, refusal),
+        Err(refusal) => print_refusal(out, refusal.fault.number(), refusal.place),
     }
 }

@@ -21,7 +21,7 @@ use prepare::{prepare, zero_prepared};
 use refusal::{Fault, Refusal};
 use tables::{ROOT_SLOT, argument_count, production_count, takes_production};
 
-// How many parses a text has.
+// What parsing a text gives: how many parses it has, or why it is refused.
 #[derive(Clone, Copy)]
 pub enum Answer {
     None,

@@ -11,6 +11,6 @@ fn main(rt: HostRuntime) -> io::Result<()> {
     let mut printer = rt.stdout();
     match write_flat(&input, &mut out) {
         Ok(length) => print_start(&mut printer, &out, length),
-        Err(refusal) => print_refusal(&mut printer, refusal),
+        Err(refusal) => print_refusal(&mut printer, refusal.fault.number(), refusal.place),
     }
 }

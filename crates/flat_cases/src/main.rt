@@ -61,7 +61,7 @@ fn print_flat<W: Write>(
     let mut out = large_buffer(alloc)?;
     match write_within(book, &mut out, room) {
         Ok(length) => print_start(printer, &out, length),
-        Err(refusal) => print_refusal(printer, refusal),
+        Err(refusal) => print_refusal(printer, refusal.fault.number(), refusal.place),
     }
 }
 

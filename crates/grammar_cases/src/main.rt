@@ -27,6 +27,6 @@ fn check_all<W: Write>(out: &mut W, input: &[u8]) -> io::Result<()> {
 fn print<W: Write>(out: &mut W, verdict: Result<(), Refusal>) -> io::Result<()> {
     match verdict {
         Ok(()) => out.write_all(b"accepted\n"),
-        Err(refusal) => print_refusal(out, refusal),
+        Err(refusal) => print_refusal(out, refusal.fault.number(), refusal.place),
     }
 }

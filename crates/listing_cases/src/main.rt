@@ -72,7 +72,7 @@ fn print<W: Write>(out: &mut W, answer: Result<Judgement, Refusal>) -> io::Resul
             Judgement::Right => out.write_all(b"right\n"),
             Judgement::Wrong(index) => print_index(out, index),
         },
-        Err(refusal) => print_refusal(out, refusal),
+        Err(refusal) => print_refusal(out, refusal.fault.number(), refusal.place),
     }
 }
 

@@ -107,7 +107,7 @@ fn print_answer<W: Write>(
     match write_page(book, text, listing, page) {
         Ok(length) => print_written(out, page, length),
         Err(refusal) => {
-            print_refusal(out, refusal)?;
+            print_refusal(out, refusal.fault.number(), refusal.place)?;
             print_line(out, page)
         }
     }

@@ -39,7 +39,7 @@ fn print_answer<W: Write>(
         Answer::None => print_word(out, b"none\n"),
         Answer::One(count) => print_listing(out, listing, count),
         Answer::Several => print_word(out, b"several\n"),
-        Answer::Refused(refusal) => print_refusal(out, refusal),
+        Answer::Refused(refusal) => print_refusal(out, refusal.fault.number(), refusal.place),
     }
 }
 

@@ -17,7 +17,7 @@ pub enum Fault {
     Length,
     // 5: a result or an argument names nothing.
     Name,
-    // 7: a declaration, or a question, has no such kind or names no production or argument.
+    // 7: a declaration has no such kind, names no production, or is of a group that ends before it begins; or a question names no production or argument.
     Absent,
     // 8: two productions are equal.
     Repeated,

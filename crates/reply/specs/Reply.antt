@@ -17,8 +17,11 @@ abbrev pub answered : ℕ → ℕ → Reply
 answered kind value = record { kind = kind; value = value; place = 0 }
 
 -- the value of a refusal is its number
+abbrev pub refused_by : (number place : ℕ) → Reply
+refused_by number place = record { kind = refused_kind; value = number; place = place }
+
 abbrev pub refused : Refusal → Reply
-refused r = record { kind = refused_kind; value = fault_number r.fault; place = r.place }
+refused r = refused_by (fault_number r.fault) r.place
 
 -- 4 × value + kind
 abbrev pub number_of : Reply → ℕ

@@ -11,7 +11,7 @@ pub mod step;
 pub mod why;
 
 ghost use Rattle.std.specs.Prelude.{◌≡◌};
-ghost use Rattle.reply.specs.Reply.{Fits, answered, refused, number_of, place_of};
+ghost use Rattle.reply.specs.Reply.{Fits, answered, refused_by, refused, number_of, place_of};
 
 use refusal::Refusal;
 
@@ -37,14 +37,21 @@ pub fn answer(kind: usize, value: usize) -> Reply
     }
 }
 
-pub fn refused(refusal: Refusal) -> Reply
-    ensures { result ≡ refused refusal }
+// A refusal by its number and its place.
+pub fn refusal(number: usize, place: usize) -> Reply
+    ensures { result ≡ refused_by number place }
 {
     Reply {
         kind: REFUSED,
-        value: refusal.fault.number(),
-        place: refusal.place,
+        value: number,
+        place,
     }
+}
+
+pub fn refused(r: Refusal) -> Reply
+    ensures { result ≡ refused r }
+{
+    refusal(r.fault.number(), r.place)
 }
 
 // The answer as one number, 4 × value + kind.

@@ -4,10 +4,8 @@
 
 ghost use Rattle.std.specs.Prelude.{◌≡◌, ◌++◌, ◌≤◌, ◌<◌, length, take, replicate, codes, decimal, IfOk, OnOk, IfSome, vec_len};
 ghost use Rattle.std.specs.Io.KnownBytes.{Appends, Keeps};
-ghost use Rattle.refusal.specs.Fault.{number_of};
 ghost use Rattle.report.specs.Lines.{refusal_line, quoted_byte, quoted_line};
 
-use refusal::Refusal;
 use std::alloc::{AllocError, Global};
 use std::io;
 use std::io::{Read, Write};
@@ -50,11 +48,9 @@ pub fn print_start<W: Write>(out: &mut W, buffer: &[u8], count: usize) -> io::Re
 }
 
 // 01's line for a refusal.
-pub fn print_refusal<W: Write>(out: &mut W, refusal: Refusal) -> io::Result<()>
-    ensures { OnOk result (Appends (W.contents out.old) (W.contents out.new) (refusal_line (number_of refusal.fault) refusal.place)) }
+pub fn print_refusal<W: Write>(out: &mut W, number: usize, place: usize) -> io::Result<()>
+    ensures { OnOk result (Appends (W.contents out.old) (W.contents out.new) (refusal_line number place)) }
 {
-    let number = refusal.fault.number();
-    let place = refusal.place;
     writeln!(out, "refused {number} {place}")
 }
 

@@ -123,7 +123,7 @@ fn print_answer<W: Write>(
 ) -> io::Result<()> {
     match read_sheet(book, sheet, chart, summary) {
         Ok(count) => print_number(out, b"lines ", count),
-        Err(refusal) => print_refusal(out, refusal),
+        Err(refusal) => print_refusal(out, refusal.fault.number(), refusal.place),
     }
 }
 
@@ -163,7 +163,7 @@ fn print_came<W: Write>(out: &mut W, step: Result<Option<u8>, Refusal>) -> io::R
             None => out.write_all(b"end\n"),
             Some(byte) => print_number(out, b"line ", usize::from(byte)),
         },
-        Err(refusal) => print_refusal(out, refusal),
+        Err(refusal) => print_refusal(out, refusal.fault.number(), refusal.place),
     }
 }
 

@@ -435,8 +435,8 @@ pub record NeverSix (b : List ℕ) (k : ℕ) : Type 0 where
 -- part of the sheet." "The count of lines comes back." "The chart ends as it would if each line had been read alone in turn, a refused line leaving it unchanged; summary
 -- bytes beyond the lines stay."
 
--- The lines of a sheet (`lines`, sheet/specs/Lines): no line feed is part of one, and each ended by one they are the sheet, up to a last line feed (`ended`,
--- sheet/specs/Joined). No other lines are these.
+-- The lines of a sheet (`lines`, split/specs/Lines): no line feed is part of one, and each ended by one they are the sheet, up to a last line feed (`ended`,
+-- split/specs/Joined). No other lines are these.
 pub record LinesSay (s : List ℕ) : Type 0 where
   pub joined : joined_lines (lines s) ≡ ended s
   pub no_feed : All NoFeed (lines s)
