@@ -130,7 +130,7 @@ fn word_of(row: &[bool], at: usize) -> u64
     word
 }
 
-// Whether the two sets in words are the same: whether the words are.
+// Whether the two sets in words are the same: whether the words are. Slices, since words are known to be below 2^64 there and not in arrays.
 fn same_words(v: &[u64], w: &[u64]) -> bool
     requires { (set_words ≤ length v.now) × (set_words ≤ length w.now) }
     ensures { result ≡ same_set (has v.now) (has w.now) }

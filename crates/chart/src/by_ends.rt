@@ -93,6 +93,7 @@ fn turn_start(chart: &mut [u8], n: usize, row: usize, i: usize, cells: &[u8])
     requires n_in_bounds { ((row + 1) * span_count n ≤ length chart.old) × (span_count n ≤ length cells.now) }
     ensures { Region (λ (k : ℕ) (v : ℕ). v ≡ get_or cells.now (column_at (i + k) + i) 0) 0 (cell_at n row i i) (n + 1 - i) chart.old chart.new }
 {
+    // i..=n would have a second way out, with a goal of its own.
     for j in i..n + 1 {
         put(chart, n, row, i, j, cells[column_at(j) + i]);
     }

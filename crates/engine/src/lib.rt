@@ -21,7 +21,7 @@ use prepare::{prepare, zero_prepared};
 use refusal::{Fault, Refusal};
 use tables::{ROOT_SLOT, argument_count, production_count, takes_production};
 
-// What parsing a text gives: how many parses it has, or why it is refused.
+// What parsing a text gives: how many parses it has, or why it is refused. An enum with these four cases, since 01 names that form.
 #[derive(Clone, Copy)]
 pub enum Answer {
     None,

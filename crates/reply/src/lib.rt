@@ -15,7 +15,7 @@ ghost use Rattle.reply.specs.Reply.{Fits, answered, refused_by, refused, number_
 
 use refusal::Refusal;
 
-// Its kind, its value, and the place of a refusal, 0 for none.
+// Its kind, its value, and the place of a refusal, 0 for none. The kind is a number, as it is in C.
 #[derive(Clone, Copy)]
 pub struct Reply {
     pub kind: usize,

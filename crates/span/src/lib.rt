@@ -88,6 +88,7 @@ fn mark(pending: &mut [u8], uses: &[u8])
 }
 
 // Looks at production q, whose rows begin at `base`, if it is pending: true if its count rose.
+// `inner`, `front` and `back` are three slices: as one struct they take a quarter more time.
 fn visit(
     links: &LinkTables,
     inner: &[u8],
