@@ -6,7 +6,7 @@ use mathlib.Core.List.{List, [], ◌∷◌}
 use mathlib.Core.Logic.{by_cases}
 use native.Mathlib.Omega.{arith}
 use native.Mathlib.Decide.{dec_le, dec_lt}
-use native.Mathlib.Nat.{mul_assoc, not-le_of_lt, div-eq_of_lt}
+use native.Mathlib.Nat.{add-zero, mul_assoc, not-le_of_lt, div-eq_of_lt}
 use lib.Dec.{leb, ltb, eqb}
 use lib.ListN.{get_or}
 use lib.Pow.{pow_pos, pow_mono, pow-add, field, mod-mod-pow, shl_exact, shl-shr, shr-shr, high as high_part, ones_lt, ones_split}
@@ -180,3 +180,16 @@ module _ (words : List ℕ) (low high m₀ m₁ m₂ m₃ : ℕ)
   pub has_or : (b : ℕ) → b < characters → has (bit_or (get_or words 0 0) m₀ ∷ bit_or (get_or words 1 0) m₁ ∷ bit_or (get_or words 2 0) m₂ ∷ bit_or (get_or words 3 0) m₃ ∷ []) b ≡ (has words b || in_range low high b)
   unfolding has words'
   has_or b h = by_word b (b / word_bits) refl (omega arith)
+
+-- four words of a longer list, read one by one
+pub has_four : (words : List ℕ) (at c : ℕ) → c < characters
+    → has (get_or words at 0 ∷ get_or words (at + 1) 0 ∷ get_or words (at + 2) 0 ∷ get_or words (at + 3) 0 ∷ []) c ≡ bit (get_or words (at + c / word_bits) 0) (c % word_bits)
+unfolding has
+has_four words at c l = ap (λ (v : ℕ). bit v (c % word_bits)) (word (c / word_bits) (omega arith))
+  where
+    word : (i : ℕ) → i < set_words → get_or (get_or words at 0 ∷ get_or words (at + 1) 0 ∷ get_or words (at + 2) 0 ∷ get_or words (at + 3) 0 ∷ []) i 0 ≡ get_or words (at + i) 0
+    word zero h = ap (λ (n : ℕ). get_or words n 0) (sym (add-zero at))
+    word (suc zero) h = refl
+    word (suc (suc zero)) h = refl
+    word (suc (suc (suc zero))) h = refl
+    word (suc (suc (suc (suc i)))) h = absurd (omega arith)

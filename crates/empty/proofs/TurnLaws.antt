@@ -11,9 +11,10 @@ use lib.ListN.{length, get_or, get_or-eq_default}
 use lib.Seq.{ext_get_or}
 use Rattle.chart.proofs.LayoutLaws.{row_shift}
 use Rattle.chart.specs.Layout.{row_limit, row_of}
-use Rattle.tables.specs.Layout.{arity_in}
+use Rattle.tables.specs.Layout.{arity_in, row_count}
 use Rattle.tables.specs.Theory.{grammar_of}
-use Rattle.common.proofs.BelowLaws.{sum_same, bit_small}
+use Rattle.common.proofs.BelowLaws.{sum_bound, sum_same, bit_small}
+use Rattle.empty.proofs.SumLaws.{sum_less}
 use Rattle.common.specs.Below.{sum_below, bit_of}
 use Rattle.common.specs.Zeros.{AllZero}
 use Rattle.empty.proofs.GrowLaws.{spare_grows, spare_tight, held_span, exact_held, exact_empty, step_held, grown_right}
@@ -23,7 +24,7 @@ use Rattle.empty.specs.Empty.{EmptyRight}
 use Rattle.empty.specs.Turns.{empty_span, Begun, Followed}
 use Rattle.span.proofs.SpanLaws.{argument_same}
 use Rattle.span.specs.Span.{whole, used_sum, argument_of, spare}
-use Rattle.span.specs.Tables.{span_of, Links, UsersAre, Loads, Exact, Founded, Settled}
+use Rattle.span.specs.Tables.{user_at, span_of, Links, UsersAre, Loads, Exact, Founded, Settled}
 use Rattle.theory.specs.Steps.{cap}
 
 -- Every production is closed with these arguments.
@@ -38,6 +39,23 @@ pub record Turning (counts users args cells back : List ℕ) (changed : Bool) : 
   pub agree : Exact (empty_span counts users) cells args
   pub taken : back ≡ args
   pub closed : changed ≡ false → ClosedWith counts args cells
+
+-- ---- beyond the rows
+
+module _ {counts users uses : List ℕ} (links : Links counts users uses) {rows : ℕ} (all : rows ≡ row_count (arity_in counts) (length counts)) where
+  -- there are no arguments
+  pub none_beyond : {cells args : List ℕ} → length args ≡ row_limit → Exact (empty_span counts users) cells args → (r : ℕ) → rows ≤ r → get_or args r 0 ≡ 0
+  unfolding argument_of used_sum span_of
+  none_beyond {cells} {args} long e r l =
+      let used : ℕ → ℕ = λ q. get_or users (user_at q r) 0 * get_or cells (whole (arity_in counts) q) 0 in
+      by_cases (dec_lt r row_limit)
+      (λ m. omega (
+        arith,
+        e.exact r m,
+        sum_less used (λ q. 0) (length counts) (λ q k. omega (arith, ap (λ (n : ℕ). n * get_or cells (whole (arity_in counts) q) 0) (links.outside q r k (omega arith) m))),
+        sum_bound 0 (λ q. 0) (λ q. omega arith) (length counts),
+      ))
+      (λ m. get_or-eq_default args 0 {n = r} (omega arith))
 
 -- ---- the first arguments
 
