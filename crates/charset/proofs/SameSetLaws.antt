@@ -6,6 +6,7 @@ use mathlib.Core.List.{List}
 use native.Mathlib.Omega.{arith}
 use native.Mathlib.Numerals.{one-add}
 use lib.Dec.{eqb}
+use borrow.Author.Tests.{eqb-true, eq-eqb}
 use lib.ListN.{length, get_or, take}
 use lib.Seq.{length-take-le, get_or-take, ext_get_or}
 use Rattle.std.proofs.lemmas.Slice.Eq.{bytes_eq-Decides}
@@ -14,7 +15,7 @@ use lib.Pow.{shr-shr, shr_lt}
 use Rattle.charset.specs.Set.{characters, word_bits, set_words, bit, has, same_set}
 use Rattle.common.proofs.BelowLaws.{all_each, all_here, all_same, bit_test}
 use Rattle.common.proofs.BoolLaws.{beq_true, same_beq, same_test}
-use Rattle.common.specs.Below.{bit_of}
+use Rattle.common.specs.Below.{all_below, bit_of}
 
 -- ---- equal sets
 
@@ -73,11 +74,21 @@ word_bit u i b l =
     let at : c % word_bits ≡ b = omega arith in
     ap₂ (λ (m n : ℕ). bit (get_or u m 0) n) (sym word) (sym at)
 
--- so the words of two sets, at their fronts, are equal exactly if the sets are
-pub same_words : (v w : List ℕ) → ((i : ℕ) → get_or v i 0 < 2 ^ word_bits) → ((i : ℕ) → get_or w i 0 < 2 ^ word_bits) → set_words ≤ length v → set_words ≤ length w
+-- the words of two sets are the same exactly if the sets are
+pub same_words : (v w : List ℕ) → ((i : ℕ) → get_or v i 0 < 2 ^ word_bits) → ((i : ℕ) → get_or w i 0 < 2 ^ word_bits) → same_set (has v) (has w) ≡ all_below set_words (λ i. eqb (get_or v i 0) (get_or w i 0))
+unfolding has
+same_words v w small small' =
+    let words : ℕ → Bool = λ i. eqb (get_or v i 0) (get_or w i 0) in
+    same_test (same_set (has v) (has w)) (all_below set_words words)
+    (λ e. all_each words set_words (λ i h. eq-eqb (get_or v i 0) (get_or w i 0)
+    (bits_same word_bits (get_or v i 0) (get_or w i 0) (small i) (small' i) (λ b k. word_bit v i b k ∙ same_has (has v) (has w) e (word_bits * i + b) (omega arith) ∙ sym (word_bit w i b k)))))
+    (λ e. same_when (has v) (has w) (λ c h. ap (λ (x : ℕ). bit x (c % word_bits)) (eqb-true (get_or v (c / word_bits) 0) (get_or w (c / word_bits) 0) (all_here words set_words e (c / word_bits) (omega arith)))))
+
+-- and so are their fronts
+pub same_fronts : (v w : List ℕ) → ((i : ℕ) → get_or v i 0 < 2 ^ word_bits) → ((i : ℕ) → get_or w i 0 < 2 ^ word_bits) → set_words ≤ length v → set_words ≤ length w
     → bytes_eq (take set_words v) (take set_words w) ≡ same_set (has v) (has w)
 unfolding has
-same_words v w small small' l m =
+same_fronts v w small small' l m =
     let fronts = bytes_eq-Decides (take set_words v) (take set_words w) in
     let word : (u : List ℕ) (i : ℕ) → i < set_words → get_or (take set_words u) i 0 ≡ get_or u i 0 = λ u i h. get_or-take set_words u i 0 h in
     same_test (bytes_eq (take set_words v) (take set_words w)) (same_set (has v) (has w))
