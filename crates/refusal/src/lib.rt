@@ -7,46 +7,46 @@ ghost use Rattle.refusal.specs.Verdict.{refusal};
 
 #[derive(Clone, Copy, PartialEq, Eq)]
 pub enum Fault {
-    // 1: the grammar is too short for its header, or for its counts.
-    Short,
-    // 2: a byte of the header is out of range.
-    Header,
-    // 3: a count is over its limit.
-    Count,
-    // 4: the length is not the one that the counts call for.
-    Length,
-    // 5: a result or an argument names nothing.
-    Name,
-    // 7: a declaration has no such kind, names no production, or is of a group that ends before it begins; or a question names no production or argument.
-    Absent,
-    // 8: two productions are equal.
-    Repeated,
-    // 9: a production is higher than itself.
-    Circle,
-    // 10: the text is over its limit.
-    LongText,
-    // 11: a listing's bytes are odd, or over their limit.
-    BadListing,
-    // 20: the chart is too short.
-    ShortChart,
-    // 21: a written grammar doesn't fit its buffer.
-    LongFlat,
-    // 22: a listing doesn't fit its buffer.
-    LongListing,
-    // 23: the listing is not right.
-    WrongListing,
-    // 24: a page doesn't fit its buffer.
-    LongPage,
-    // 25: the sheet is over its limit.
-    LongSheet,
-    // 26: the summary is too short.
-    ShortSummary,
-    // 27: a flat text is not in the written form.
-    Form,
-    // 28: a class of a flat text, or the root, names a line that is not there.
-    NoLine,
-    // 29: one of two listings is not right.
-    WrongPair,
+    // the grammar is too short for its header, or for its counts.
+    Short = 1,
+    // a byte of the header is out of range.
+    Header = 2,
+    // a count is over its limit.
+    Count = 3,
+    // the length is not the one that the counts call for.
+    Length = 4,
+    // a result or an argument names nothing.
+    Name = 5,
+    // a declaration has no such kind, names no production, or is of a group that ends before it begins; or a question names no production or argument.
+    Absent = 7,
+    // two productions are equal.
+    Repeated = 8,
+    // a production is higher than itself.
+    Circle = 9,
+    // the text is over its limit.
+    LongText = 10,
+    // a listing's bytes are odd, or over their limit.
+    BadListing = 11,
+    // the chart is too short.
+    ShortChart = 20,
+    // a written grammar doesn't fit its buffer.
+    LongFlat = 21,
+    // a listing doesn't fit its buffer.
+    LongListing = 22,
+    // the listing is not right.
+    WrongListing = 23,
+    // a page doesn't fit its buffer.
+    LongPage = 24,
+    // the sheet is over its limit.
+    LongSheet = 25,
+    // the summary is too short.
+    ShortSummary = 26,
+    // a flat text is not in the written form.
+    Form = 27,
+    // a class of a flat text, or the root, names a line that is not there.
+    NoLine = 28,
+    // one of two listings is not right.
+    WrongPair = 29,
 }
 
 #[derive(Clone, Copy, PartialEq, Eq)]
@@ -60,28 +60,7 @@ impl Fault {
     pub fn number(self) -> usize
         ensures { result ≡ number_of self }
     {
-        match self {
-            Fault::Short => 1,
-            Fault::Header => 2,
-            Fault::Count => 3,
-            Fault::Length => 4,
-            Fault::Name => 5,
-            Fault::Absent => 7,
-            Fault::Repeated => 8,
-            Fault::Circle => 9,
-            Fault::LongText => 10,
-            Fault::BadListing => 11,
-            Fault::ShortChart => 20,
-            Fault::LongFlat => 21,
-            Fault::LongListing => 22,
-            Fault::WrongListing => 23,
-            Fault::LongPage => 24,
-            Fault::LongSheet => 25,
-            Fault::ShortSummary => 26,
-            Fault::Form => 27,
-            Fault::NoLine => 28,
-            Fault::WrongPair => 29,
-        }
+        self as usize
     }
 
     // A refusal for it.
