@@ -2,7 +2,7 @@
 use Prim.Native.Nat.{ℕ, zero, suc, ◌≤◌, ◌<◌}
 use mathlib.Core.Path.{◌≡◌, refl, sym, ◌∙◌, ap, subst}
 use mathlib.Core.List.{List}
-use mathlib.Core.Logic.{⊎_elim}
+use mathlib.Core.Logic.{◌≢◌, ⊎_elim}
 use native.Mathlib.Omega.{arith}
 use Rattle.common.proofs.BelowLaws.{any_never, any_found}
 use Rattle.common.proofs.BoolLaws.{not_both}
@@ -121,17 +121,17 @@ module _ (b : List ℕ) where
   number_same (suc (suc (suc (suc (suc (suc (suc zero))))))) n m k a c = omega (arith, a.0, c.0)
   number_same (suc (suc (suc (suc (suc (suc (suc (suc s)))))))) n m k a c = absurd a
 
-  -- there are eight stages, and numbers up to 9
-  holds_small : {s n k : ℕ} → Holds b s n k → (s < 8) × (n ≤ 9)
-  holds_small (refusal1 h) = (omega arith, omega arith)
-  holds_small (refusal2 h) = (omega arith, omega arith)
-  holds_small (refusal1' h) = (omega arith, omega arith)
-  holds_small (refusal3 h) = (omega arith, omega arith)
-  holds_small (refusal4 h) = (omega arith, omega arith)
-  holds_small (refusal5 h) = (omega arith, omega arith)
-  holds_small (refusal7 h) = (omega arith, omega arith)
-  holds_small (refusal8 h) = (omega arith, omega arith)
-  holds_small (refusal9 h) = (omega arith, omega arith)
+  -- there are eight stages, and numbers up to 9 without 6
+  holds_small : {s n k : ℕ} → Holds b s n k → (s < 8) × (n ≤ 9) × (n ≢ 6)
+  holds_small (refusal1 h) = (omega arith, omega arith, λ e. omega arith)
+  holds_small (refusal2 h) = (omega arith, omega arith, λ e. omega arith)
+  holds_small (refusal1' h) = (omega arith, omega arith, λ e. omega arith)
+  holds_small (refusal3 h) = (omega arith, omega arith, λ e. omega arith)
+  holds_small (refusal4 h) = (omega arith, omega arith, λ e. omega arith)
+  holds_small (refusal5 h) = (omega arith, omega arith, λ e. omega arith)
+  holds_small (refusal7 h) = (omega arith, omega arith, λ e. omega arith)
+  holds_small (refusal8 h) = (omega arith, omega arith, λ e. omega arith)
+  holds_small (refusal9 h) = (omega arith, omega arith, λ e. omega arith)
 
   -- ---- the table, both ways
 
