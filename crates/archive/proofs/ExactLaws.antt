@@ -148,7 +148,7 @@ module _ (g : List Line) (roots : List Bool) (w c₀ : List ℕ) where
 
 -- ---- the outcome
 
-module _ (flat : List ℕ) (roots : List Bool) (w c₀ l₀ : List ℕ) (r : Answer) (c l : List ℕ) (o : FlatOutcome flat roots w c₀ l₀ r c l) where
+module _ (flat : List ℕ) (roots : List Bool) (w c₀ l₀ : List ℕ) (r : Answer Refusal) (c l : List ℕ) (o : FlatOutcome flat roots w c₀ l₀ r c l) where
   -- a text that says a grammar has that grammar's outcome
   pub said_outcome : (g : List Line) → Says flat g → GrammarOutcome g roots w c₀ l₀ r c l
   unfolding FlatOutcome
@@ -158,7 +158,7 @@ module _ (flat : List ℕ) (roots : List Bool) (w c₀ l₀ : List ℕ) (r : Ans
       (λ (h, told, u). subst (λ (x : List Line). GrammarOutcome x roots w c₀ l₀ r c l) (says_unique flat h g told says) u)
       o
 
-  answer_rejected : {x y : Refusal} → ◌≡◌ {A = Answer} (Refused x) (Refused y) → ◌≡◌ {A = Verdict} (Err x) (Err y)
+  answer_rejected : {x y : Refusal} → ◌≡◌ {A = Answer Refusal} (Refused x) (Refused y) → ◌≡◌ {A = Verdict} (Err x) (Err y)
   answer_rejected e = ap (λ (z : Refusal). Err z) (same_refused e)
 
   -- a refusal other than 22 is the verdict's, and nothing is changed
@@ -191,7 +191,7 @@ module _ (flat : List ℕ) (roots : List Bool) (w c₀ l₀ : List ℕ) (r : Ans
       ))
       o
     where
-      same_place : {x y : Refusal} → ◌≡◌ {A = Answer} (Refused x) (Refused y) → x.place ≡ y.place
+      same_place : {x y : Refusal} → ◌≡◌ {A = Answer Refusal} (Refused x) (Refused y) → x.place ≡ y.place
       same_place e = ap (λ (z : Refusal). z.place) (same_refused e)
 
       wrong_number : Numbers 27 → ⊥

@@ -83,7 +83,7 @@ module _ (t₀ t : List ℕ) (roots : List Bool) (chars subs : ℕ → Bool) (pu
           (λ p l. sym (ap (λ (x : List Line). line_arity x p) (sym same) ∙ arity_of t tables_root p (omega (arith, count_is_lem)))) in
           rw (named, allowed, need) refl
 
-      pub root_carried : (r : Answer) (c l : List ℕ) → TablesOutcome t w c₀ l₀ r c l → GrammarOutcome g roots w c₀ l₀ r c l
+      pub root_carried : (r : Answer Refusal) (c l : List ℕ) → TablesOutcome t w c₀ l₀ r c l → GrammarOutcome g roots w c₀ l₀ r c l
       unfolding TablesOutcome
       root_carried r c l o =
           let named' : absent_names (table_grammar t) ≡ accepted = ap absent_names same ∙ named in
@@ -121,7 +121,7 @@ flat_refused flat roots w c₀ l₀ r x t h e =
     (λ (readable, says, is). inr (table_grammar t, says, rw (names_refused (absent_names (table_grammar t)) (length (table_grammar t)) (sym is ∙ e)) (refl, refl, refl)))
     h
   where
-    answer_is : {x y : Refusal} → ◌≡◌ {A = Result ℕ Refusal} (Err x) (Err y) → ◌≡◌ {A = Answer} (Refused x) (Refused y)
+    answer_is : {x y : Refusal} → ◌≡◌ {A = Result ℕ Refusal} (Err x) (Err y) → ◌≡◌ {A = Answer Refusal} (Refused x) (Refused y)
     answer_is e = ap (λ (z : Refusal). Refused z) (equal_refusal {B = ℕ} e)
 
     names_refused : {x : Refusal} (v : Verdict) (k : ℕ) → unless_refused v (Ok k) ≡ Err x → v ≡ Err x
@@ -131,7 +131,7 @@ flat_refused flat roots w c₀ l₀ r x t h e =
         refused_lines e = let z : ◌≡◌ {A = ℕ} 0 1 = cc in absurd (omega arith)
     names_refused (Err y) k e = ap (λ (z : Refusal). Err z) (equal_refusal {B = ℕ} e)
 
-pub flat_carried : (flat : List ℕ) (roots : List Bool) (w c₀ l₀ : List ℕ) (r : Answer) (c l t : List ℕ) → Says flat (table_grammar t)
+pub flat_carried : (flat : List ℕ) (roots : List Bool) (w c₀ l₀ : List ℕ) (r : Answer Refusal) (c l t : List ℕ) → Says flat (table_grammar t)
     → GrammarOutcome (table_grammar t) roots w c₀ l₀ r c l → FlatOutcome flat roots w c₀ l₀ r c l
 unfolding FlatOutcome
 flat_carried flat roots w c₀ l₀ r c l t says o = inr (table_grammar t, says, o)

@@ -12,15 +12,16 @@ use Rattle.form.specs.Form.{Says, NotInForm}
 use Rattle.engine.specs.declared.Answer.{Answer}
 use Rattle.refusal.specs.Verdict.{refusal}
 use Rattle.refusal.specs.declared.Fault.TheVariants.{Form}
+use Rattle.refusal.specs.declared.Refusal.{Refusal}
 use Rattle.engine.specs.declared.Answer.TheVariants.{Refused}
 
-module _ (flat : List ℕ) (roots : List Bool) (w c₀ l₀ : List ℕ) (r r' : Answer) (c c' l l' : List ℕ) where
+module _ (flat : List ℕ) (roots : List Bool) (w c₀ l₀ : List ℕ) (r r' : Answer Refusal) (c c' l l' : List ℕ) where
   -- not in the form
-  abbrev Outside : Answer → (c l : List ℕ) → Type 0
+  abbrev Outside : Answer Refusal → (c l : List ℕ) → Type 0
   Outside a c l = (place : ℕ) × NotInForm flat place × (a ≡ Refused (refusal Form place)) × (c ≡ c₀) × (l ≡ l₀)
 
   -- in it
-  abbrev Inside : Answer → (c l : List ℕ) → Type 0
+  abbrev Inside : Answer Refusal → (c l : List ℕ) → Type 0
   Inside a c l = (g : List Line) × Says flat g × GrammarOutcome g roots w c₀ l₀ a c l
 
   same : Outside r c l ⊎ Inside r c l → Outside r' c' l' ⊎ Inside r' c' l' → (r ≡ r') × (c ≡ c') × (l ≡ l')

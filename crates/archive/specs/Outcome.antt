@@ -12,6 +12,7 @@ use Rattle.layout.specs.Limits.{production_limit}
 use Rattle.load.specs.Absent.{absent_in, absent_names, Names}
 use Rattle.theory.specs.Tree.{Tree, Forest, production_number, yield, yields}
 use Rattle.refusal.specs.declared.Fault.TheVariants.{Form}
+use Rattle.refusal.specs.declared.Refusal.{Refusal}
 use Rattle.engine.specs.declared.Answer.TheVariants.{Refused}
 
 -- The numbers of the lines that are allowed at the root: an entry for each line that there could be.
@@ -40,11 +41,11 @@ flat_refusal g roots w chart =
     in_order (absent_names g ∷ absent_in (length g) (root_class roots) ∷ too_long w ∷ chart_too_short (chart_bytes (line_arity g) (length g) (length w)) chart ∷ [])
 
 -- Reading by a grammar: by one of these refusals nothing is changed, and otherwise the answer and every lent byte afterwards are those of the grammar's trees.
-abbrev pub GrammarOutcome : List Line → (roots : List Bool) (w c₀ l₀ : List ℕ) → Answer → (c l : List ℕ) → Type 0
+abbrev pub GrammarOutcome : List Line → (roots : List Bool) (w c₀ l₀ : List ℕ) → Answer Refusal → (c l : List ℕ) → Type 0
 GrammarOutcome g roots w c₀ l₀ r c l = UnlessRefused (flat_refusal g roots w c₀) (trees_of g roots w) c₀ l₀ r c l
 
 -- Either the flat text is not in the written form: then it is refused by 27, and nothing is changed. Or it says a grammar, and is read by that.
-unfoldable pub FlatOutcome : (flat : List ℕ) (roots : List Bool) (w c₀ l₀ : List ℕ) → Answer → (c l : List ℕ) → Type 0
+unfoldable pub FlatOutcome : (flat : List ℕ) (roots : List Bool) (w c₀ l₀ : List ℕ) → Answer Refusal → (c l : List ℕ) → Type 0
 FlatOutcome flat roots w c₀ l₀ r c l =
     ((place : ℕ) × NotInForm flat place × (r ≡ Refused (refusal Form place)) × (c ≡ c₀) × (l ≡ l₀))
     ⊎ ((g : List Line) × Says flat g × GrammarOutcome g roots w c₀ l₀ r c l)

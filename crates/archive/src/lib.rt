@@ -12,6 +12,7 @@ use charset::CharSet;
 use engine::{Answer, parse_tables};
 use layout::limits::PRODUCTION_LIMIT;
 use load::{check_class, load};
+use refusal::Refusal;
 use tables::{ProductionSet, ROOT_SLOT, production_count, put_class, zero_tables};
 
 // Parses a text by a flat text and the lines allowed at the root: 27, 28, 10 and 20 in order, and then the answer. What chart and listing held before is never read.
@@ -21,7 +22,7 @@ pub fn parse_flat(
     text: &[u8],
     chart: &mut [u8],
     listing: &mut [u8],
-) -> Answer
+) -> Answer<Refusal>
     ensures { FlatOutcome flat.now roots text.now chart.old listing.old result chart.new listing.new }
 {
     let mut tables = zero_tables();
@@ -38,7 +39,7 @@ fn parse_loaded(
     text: &[u8],
     chart: &mut [u8],
     listing: &mut [u8],
-) -> Answer
+) -> Answer<Refusal>
     requires { ParserTables tables.old × (absent_names (table_grammar tables.old) ≡ accepted) }
     ensures { GrammarOutcome (table_grammar tables.old) roots text.now chart.old listing.old result chart.new listing.new }
 {

@@ -36,13 +36,13 @@ module _ (P : Tree → Type 0) (l₀ : List ℕ) where
   unfolding Answered
   long_right t h long = (t, h, refl, refl, long, refl)
 
-  module _ (r : Answer) (l : List ℕ) (a : Answered P l₀ r l) where
+  module _ (r : Answer Refusal) (l : List ℕ) (a : Answered P l₀ r l) where
     -- ---- none and several
 
     pub none_exactly : (r ≡ None) ↔ ((t : Tree) → P t → ⊥)
     unfolding Answered
     none_exactly = (
-      (λ e. (subst (λ (x : Answer). Answered P l₀ x l) e a).0),
+      (λ e. (subst (λ (x : Answer Refusal). Answered P l₀ x l) e a).0),
       (λ h. (answer_unique P l₀ r None l l₀ a (none_right h)).0),
     )
 
@@ -52,7 +52,7 @@ module _ (P : Tree → Type 0) (l₀ : List ℕ) where
     pub several_exactly : (r ≡ Several) ↔ Two P
     unfolding Answered
     several_exactly = (
-      (λ e. (subst (λ (x : Answer). Answered P l₀ x l) e a).0),
+      (λ e. (subst (λ (x : Answer Refusal). Answered P l₀ x l) e a).0),
       (λ h. (answer_unique P l₀ r Several l l₀ a (several_right h)).0),
     )
 
@@ -64,7 +64,7 @@ module _ (P : Tree → Type 0) (l₀ : List ℕ) where
     pub one_exactly : (n : ℕ) → (r ≡ One n) ↔ ((t : Tree) × Only P t × (n ≡ length (listing t)) × (2 * n ≤ length l₀))
     unfolding Answered
     one_exactly n = (
-      (λ e. let (t, only, count, fits, wrote) = subst (λ (x : Answer). Answered P l₀ x l) e a in (t, only, count, fits)),
+      (λ e. let (t, only, count, fits, wrote) = subst (λ (x : Answer Refusal). Answered P l₀ x l) e a in (t, only, count, fits)),
       (λ (t, only, count, fits). (answer_unique P l₀ r (One (length (listing t))) l _ a (one_right t only (omega arith))).0 ∙ ap (λ (m : ℕ). One m) (sym count)),
     )
 
@@ -77,7 +77,7 @@ module _ (P : Tree → Type 0) (l₀ : List ℕ) where
     pub long_exactly : (k : ℕ) → (r ≡ Refused (refusal LongListing k)) ↔ ((t : Tree) × Only P t × (length l₀ < 2 * length (listing t)) × (k ≡ room l₀))
     unfolding Answered
     long_exactly k = (
-      (λ e. let (t, only, number, place, long, wrote) = subst (λ (x : Answer). Answered P l₀ x l) e a in (t, only, long, place)),
+      (λ e. let (t, only, number, place, long, wrote) = subst (λ (x : Answer Refusal). Answered P l₀ x l) e a in (t, only, long, place)),
       (λ (t, only, long, place). (answer_unique P l₀ r (Refused (refusal LongListing (room l₀))) l _ a (long_right t only long)).0 ∙ ap (λ (n : ℕ). Refused (refusal LongListing n)) (sym place)),
     )
 
@@ -88,4 +88,4 @@ module _ (P : Tree → Type 0) (l₀ : List ℕ) where
     -- no other refusal comes
     pub refused_is_long : (x : Refusal) → r ≡ Refused x → x.fault ≡ LongListing
     unfolding Answered
-    refused_is_long x e = (subst (λ (y : Answer). Answered P l₀ y l) e a).2
+    refused_is_long x e = (subst (λ (y : Answer Refusal). Answered P l₀ y l) e a).2

@@ -15,12 +15,12 @@ module _ (s : Parsing) (c₀ l₀ : List ℕ) where
   unfolding UnlessRefused
   outcome_refused v r e = rw e (refl, refl, refl)
 
-  pub outcome_accepted : (v : Verdict) (r : Answer) (c l : List ℕ) → v ≡ accepted → Parsed s c₀ l₀ r c l → UnlessRefused v s c₀ l₀ r c l
+  pub outcome_accepted : (v : Verdict) (r : Answer Refusal) (c l : List ℕ) → v ≡ accepted → Parsed s c₀ l₀ r c l → UnlessRefused v s c₀ l₀ r c l
   unfolding UnlessRefused
   outcome_accepted v r c l e h = rw e h
 
   -- for one input and verdict, two outcomes have the same answer and the same bytes
-  pub unless_unique : (v : Verdict) (r r' : Answer) (c c' l l' : List ℕ) → UnlessRefused v s c₀ l₀ r c l → UnlessRefused v s c₀ l₀ r' c' l' → (r ≡ r') × (c ≡ c') × (l ≡ l')
+  pub unless_unique : (v : Verdict) (r r' : Answer Refusal) (c c' l l' : List ℕ) → UnlessRefused v s c₀ l₀ r c l → UnlessRefused v s c₀ l₀ r' c' l' → (r ≡ r') × (c ≡ c') × (l ≡ l')
   unfolding UnlessRefused
   unless_unique (Ok _) r r' c c' l l' h k = parsed_unique s c₀ l₀ r r' c c' l l' h k
   unless_unique (Err x) r r' c c' l l' h k = (h.0 ∙ sym k.0, h.1 ∙ sym k.1, h.2 ∙ sym k.2)

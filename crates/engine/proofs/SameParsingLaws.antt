@@ -11,6 +11,7 @@ use Rattle.common.proofs.BelowLaws.{sum_same}
 use Rattle.engine.specs.Outcome.{Parsing, Answered, ChartAfter, Parsed, UnlessRefused}
 use Rattle.engine.specs.declared.Answer.{Answer}
 use Rattle.refusal.specs.Verdict.{Verdict}
+use Rattle.refusal.specs.declared.Refusal.{Refusal}
 use Rattle.tables.specs.Layout.{row_count}
 use Rattle.theory.proofs.CountLaws.{counts_same}
 use Rattle.theory.specs.Counts.{Only, Counts}
@@ -31,7 +32,7 @@ pub record SameParsing (s u : Parsing) : Type 0 where
 only_same : (P Q : Tree → Type 0) → ((t : Tree) → P t ↔ Q t) → (t : Tree) → Only P t → Only Q t
 only_same P Q e t o = record { holds = (e t).0 o.holds; alone = λ u h. o.alone u ((e u).1 h) }
 
-answered_same : (P Q : Tree → Type 0) → ((t : Tree) → P t ↔ Q t) → (l₀ : List ℕ) (r : Answer) (l : List ℕ) → Answered P l₀ r l → Answered Q l₀ r l
+answered_same : (P Q : Tree → Type 0) → ((t : Tree) → P t ↔ Q t) → (l₀ : List ℕ) (r : Answer Refusal) (l : List ℕ) → Answered P l₀ r l → Answered Q l₀ r l
 unfolding Answered
 answered_same P Q e l₀ None l a = ((λ t h. a.0 t ((e t).1 h)), a.1)
 answered_same P Q e l₀ (One n) l a = (a.0, only_same P Q e a.0 a.1, a.2, a.3, a.4)
@@ -80,11 +81,11 @@ module _ (s u : Parsing) (same : SameParsing s u) where
         whole = h.whole;
       }
 
-  parsed_same : (c₀ l₀ : List ℕ) (r : Answer) (c l : List ℕ) → Parsed s c₀ l₀ r c l → Parsed u c₀ l₀ r c l
+  parsed_same : (c₀ l₀ : List ℕ) (r : Answer Refusal) (c l : List ℕ) → Parsed s c₀ l₀ r c l → Parsed u c₀ l₀ r c l
   parsed_same c₀ l₀ r c l h = record { chart = chart_same_lem c₀ c h.chart; answer = answered_same s.parse u.parse same.parse l₀ r l h.answer }
 
   -- A refusal, or none, is the same of both.
-  pub unless_same : (v : Verdict) (c₀ l₀ : List ℕ) (r : Answer) (c l : List ℕ) → UnlessRefused v s c₀ l₀ r c l → UnlessRefused v u c₀ l₀ r c l
+  pub unless_same : (v : Verdict) (c₀ l₀ : List ℕ) (r : Answer Refusal) (c l : List ℕ) → UnlessRefused v s c₀ l₀ r c l → UnlessRefused v u c₀ l₀ r c l
   unfolding UnlessRefused
   unless_same (Ok _) c₀ l₀ r c l h = parsed_same c₀ l₀ r c l h
   unless_same (Err x) c₀ l₀ r c l h = h

@@ -44,7 +44,7 @@ module _ (P : Tree → Type 0) (l₀ : List ℕ) where
   fits_not t u a b low high = omega (arith, ap (λ (x : Tree). length (listing x)) (same_tree a b))
 
   -- No two kinds of answer hold of one text, and of each kind only one.
-  pub answer_unique : (r r' : Answer) (l l' : List ℕ) → Answered P l₀ r l → Answered P l₀ r' l' → (r ≡ r') × (l ≡ l')
+  pub answer_unique : (r r' : Answer Refusal) (l l' : List ℕ) → Answered P l₀ r l → Answered P l₀ r' l' → (r ≡ r') × (l ≡ l')
   unfolding Answered
   answer_unique None None l l' a b = (refl, a.1 ∙ sym b.1)
   answer_unique None (One n) l l' a b = absurd (a.0 b.0 b.1.holds)
@@ -70,7 +70,7 @@ module _ (P : Tree → Type 0) (l₀ : List ℕ) where
 -- ---- the outcome
 
 -- for one input, two outcomes that meet the promise have the same answer and the same bytes
-pub parsed_unique : (s : Parsing) (c₀ l₀ : List ℕ) (r r' : Answer) (c c' l l' : List ℕ) → Parsed s c₀ l₀ r c l → Parsed s c₀ l₀ r' c' l' → (r ≡ r') × (c ≡ c') × (l ≡ l')
+pub parsed_unique : (s : Parsing) (c₀ l₀ : List ℕ) (r r' : Answer Refusal) (c c' l l' : List ℕ) → Parsed s c₀ l₀ r c l → Parsed s c₀ l₀ r' c' l' → (r ≡ r') × (c ≡ c') × (l ≡ l')
 parsed_unique s c₀ l₀ r r' c c' l l' a b =
     let (same_answer, same_listing) = answer_unique s.parse l₀ r r' l l' a.answer b.answer in
     (same_answer, chart_unique s c₀ c c' a.chart b.chart, same_listing)

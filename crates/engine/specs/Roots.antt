@@ -5,6 +5,7 @@ use Rattle.engine.specs.Outcome.{Parsing, UnlessRefused}
 use Rattle.engine.specs.declared.Answer.{Answer}
 use Rattle.engine.specs.Refusals.{text_refusal}
 use Rattle.extract.specs.Places.{Walkable, cell_of}
+use Rattle.refusal.specs.declared.Refusal.{Refusal}
 use Rattle.tables.specs.Layout.{root_slot, counts_of, arity_in, takes_production}
 use Rattle.tables.specs.Theory.{theory_of}
 use Rattle.theory.specs.Grammar.{Spells, Parse}
@@ -35,5 +36,5 @@ pub record Filled (tables w chart : List ℕ) : Type 0 where
   pub roots_wanted : (p : ℕ) → p < length (counts_of tables) → takes_production tables root_slot p ≡ true → walkable.wanted p 0 ≡ true
 
 -- What parsing a text by flat tables promises: refused by 10 or 20, or parsed.
-unfoldable pub TablesOutcome : (tables w c₀ l₀ : List ℕ) → Answer → (c l : List ℕ) → Type 0
+unfoldable pub TablesOutcome : (tables w c₀ l₀ : List ℕ) → Answer Refusal → (c l : List ℕ) → Type 0
 TablesOutcome tables w c₀ l₀ r c l = UnlessRefused (text_refusal tables w c₀) (parsing_by tables w) c₀ l₀ r c l

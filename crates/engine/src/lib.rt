@@ -21,15 +21,15 @@ use prepare::{prepare, zero_prepared};
 use refusal::{Fault, Refusal};
 use tables::{ROOT_SLOT, argument_count, production_count, takes_production};
 
-// What parsing a text gives: how many parses it has, or why it is refused. An enum with these four cases, since 01 names that form.
+// What parsing a text gives: how many parses it has, or why it is refused, here by a Refusal. An enum with these four cases, since 01 names that form.
 #[derive(Clone, Copy)]
-pub enum Answer {
+pub enum Answer<R> {
     None,
     // One; its listing has this many numbers.
     One(usize),
     // Two or more.
     Several,
-    Refused(Refusal),
+    Refused(R),
 }
 
 // ---- refusals
@@ -114,7 +114,7 @@ pub fn count_parses(tables: &[u64], prepared: &[u8], text: &[u8], chart: &mut [u
 // ---- parsing
 
 // Writes the listing of the only parse, as far as there is room.
-pub fn write_parse(tables: &[u64], text: &[u8], chart: &[u8], listing: &mut [u8]) -> Answer
+pub fn write_parse(tables: &[u64], text: &[u8], chart: &[u8], listing: &mut [u8]) -> Answer<Refusal>
     requires filled { Filled tables.now text.now chart.now }
     requires counts { Counts (ParseBy tables.now text.now) 1 }
     ensures { Answered (ParseBy tables.now text.now) listing.old result listing.new }
@@ -134,7 +134,7 @@ fn parse_fitting(
     text: &[u8],
     chart: &mut [u8],
     listing: &mut [u8],
-) -> Answer
+) -> Answer<Refusal>
     requires chart_fits { ChartFits tables.now (length text.now) chart.old }
     requires prepared { Prepared tables.now prepared.now }
     ensures { Parsed (parsing_by tables.now text.now) chart.old listing.old result chart.new listing.new }
@@ -156,7 +156,7 @@ pub fn parse_prepared(
     text: &[u8],
     chart: &mut [u8],
     listing: &mut [u8],
-) -> Answer
+) -> Answer<Refusal>
     requires parser_tables { ParserTables tables.now }
     requires prepared { Prepared tables.now prepared.now }
     ensures { TablesOutcome tables.now text.now chart.old listing.old result chart.new listing.new }
@@ -168,7 +168,12 @@ pub fn parse_prepared(
 }
 
 // Parses one text by tables.
-pub fn parse_tables(tables: &[u64], text: &[u8], chart: &mut [u8], listing: &mut [u8]) -> Answer
+pub fn parse_tables(
+    tables: &[u64],
+    text: &[u8],
+    chart: &mut [u8],
+    listing: &mut [u8],
+) -> Answer<Refusal>
     requires { ParserTables tables.now }
     ensures { TablesOutcome tables.now text.now chart.old listing.old result chart.new listing.new }
 {

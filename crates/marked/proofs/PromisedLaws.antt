@@ -8,6 +8,7 @@ use Rattle.common.specs.Lists.{All, overwritten}
 use Rattle.engine.proofs.AnswerLaws.{none_exactly, none_buffer, several_exactly, several_buffer, one_exactly, one_buffer}
 use Rattle.engine.specs.Refusals.{chart_too_short}
 use Rattle.engine.specs.declared.Answer.{Answer}
+use Rattle.refusal.specs.declared.Refusal.{Refusal}
 use Rattle.flatten.specs.Reading.{Reading}
 use Rattle.marked.specs.Cases.{Expected, no_reading, one_reading, several_readings, bad_grammar, refused, Says, Case, Statement, Answers, Promised}
 use Rattle.numbers.specs.Written.{bytes_of}
@@ -21,7 +22,7 @@ refusal_length : (b w c c' : List ℕ) → length c ≡ length c' → refusal b 
 unfolding refusal chart_too_short
 refusal_length b w c c' e = rw e refl
 
-module _ (b w c₀ l₀ : List ℕ) (r : Answer) (c l : List ℕ) (o : Outcome b w c₀ l₀ r c l) where
+module _ (b w c₀ l₀ : List ℕ) (r : Answer Refusal) (c l : List ℕ) (o : Outcome b w c₀ l₀ r c l) where
   says_answers : (e : Expected) → Says b w c₀ e → Answers e l₀ r l
   unfolding Says Answers
   says_answers no_reading (free, none) =

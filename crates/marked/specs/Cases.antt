@@ -44,11 +44,11 @@ unfoldable pub Statement : Case → Type 0
 Statement c = Says c.book c.text (replicate c.lent 0) c.expected
 
 -- Reading answers with a refusal of this number and this place.
-abbrev pub ReadRefused : Answer → (number place : ℕ) → Type 0
+abbrev pub ReadRefused : Answer Refusal → (number place : ℕ) → Type 0
 ReadRefused r number place = (x : Refusal) × (r ≡ NotRead x) × (number_of x.fault ≡ number) × (x.place ≡ place)
 
 -- The same of the operation's promise: what its answer is, and what the buffer of the listing, which held l₀, holds afterwards.
-unfoldable pub Answers : Expected → (l₀ : List ℕ) → Answer → (l : List ℕ) → Type 0
+unfoldable pub Answers : Expected → (l₀ : List ℕ) → Answer Refusal → (l : List ℕ) → Type 0
 Answers no_reading l₀ r l = (r ≡ None) × (l ≡ l₀)
 Answers (one_reading numbers) l₀ r l = 2 * length numbers ≤ length l₀ → (r ≡ One (length numbers)) × (l ≡ overwritten (bytes_of numbers) l₀)
 Answers several_readings l₀ r l = (r ≡ Several) × (l ≡ l₀)
@@ -58,7 +58,7 @@ Answers (refused number place) l₀ r l = ReadRefused r number place × (l ≡ l
 -- any outcome, for every chart of the case's length and every buffer, whatever they hold
 unfoldable pub Promised : Case → Type 0
 Promised c =
-    (chart₀ l₀ : List ℕ) (r : Answer) (chart l : List ℕ) → length chart₀ ≡ c.lent → Outcome c.book c.text chart₀ l₀ r chart l → Answers c.expected l₀ r l
+    (chart₀ l₀ : List ℕ) (r : Answer Refusal) (chart l : List ℕ) → length chart₀ ≡ c.lent → Outcome c.book c.text chart₀ l₀ r chart l → Answers c.expected l₀ r l
 
 -- ---- grammars and texts
 

@@ -22,9 +22,9 @@ use Rattle.load.specs.Check.{lines_answer, Checked}
 use Rattle.meadowsink.proofs.ViewerLaws.{after_fits, used_short, call_unique}
 use Rattle.meadowsink.specs.Flat.{root_entries, FlatCall, CheckCall}
 use Rattle.meadowsink.specs.Viewer.{used_limit, UsedOutcome}
-use Rattle.reply.proofs.ReplyLaws.{answered_fits, refused_fits}
+use Rattle.reply.proofs.ReplyLaws.{answered_fits, refusal_fits}
 use Rattle.reply.specs.Answers.{read_reply, count_reply}
-use Rattle.reply.specs.Reply.{Fits}
+use Rattle.reply.specs.Reply.{refused, Fits}
 use Rattle.reply.specs.declared.Reply.{Reply}
 use Rattle.engine.specs.declared.Answer.{Answer}
 use Rattle.std.specs.Prelude.{Result, Ok, Err}
@@ -61,25 +61,25 @@ entries_are bytes entries long are =
 
 -- ---- the replies fit
 
-pub flat_read_fits : (flat : List ℕ) (roots : List Bool) (w c₀ l₀ : List ℕ) (r : Answer) (c l : List ℕ) → UsedOutcome (FlatOutcome flat roots w) c₀ l₀ r c l → Fits (read_reply r)
+pub flat_read_fits : (flat : List ℕ) (roots : List Bool) (w c₀ l₀ : List ℕ) (r : Answer Refusal) (c l : List ℕ) → UsedOutcome (FlatOutcome flat roots w) c₀ l₀ r c l → Fits (read_reply refused r)
 unfolding FlatOutcome read_reply
 flat_read_fits flat roots w c₀ l₀ r c l o =
     ⊎_elim
-    (λ (place, not_in, is, chart, listing). subst⁻¹ (λ (x : Answer). Fits (read_reply x)) is (refused_fits (refusal Form place)))
+    (λ (place, not_in, is, chart, listing). subst⁻¹ (λ (x : Answer Refusal). Fits (read_reply refused x)) is (refusal_fits (refusal Form place)))
     (λ (g, says, u). after_fits (trees_of g roots w) c₀ (take used_limit l₀) r c o.used (flat_refusal g roots w c₀) (used_short l₀) u)
     o.outcome
 
-lines_fit : (g : List Line) → length g ≤ production_limit → (v : Verdict) → Fits (count_reply (unless_refused v (Ok (length g))))
+lines_fit : (g : List Line) → length g ≤ production_limit → (v : Verdict) → Fits (count_reply refused (unless_refused v (Ok (length g))))
 unfolding count_reply
 lines_fit g few (Ok _) = answered_fits 1 (length g) (omega arith) (omega arith)
-lines_fit g few (Err r) = refused_fits r
+lines_fit g few (Err r) = refusal_fits r
 
-pub check_flat_fits : (flat : List ℕ) (r : Result ℕ Refusal) → Checked flat r → Fits (count_reply r)
+pub check_flat_fits : (flat : List ℕ) (r : Result ℕ Refusal) → Checked flat r → Fits (count_reply refused r)
 unfolding Checked lines_answer count_reply
 check_flat_fits flat r h =
     ⊎_elim
-    (λ (place, not_in, is). subst⁻¹ (λ (x : Result ℕ Refusal). Fits (count_reply x)) is (refused_fits (refusal Form place)))
-    (λ (g, says, is). subst⁻¹ (λ (x : Result ℕ Refusal). Fits (count_reply x)) is (lines_fit g says.writable.few (absent_names g)))
+    (λ (place, not_in, is). subst⁻¹ (λ (x : Result ℕ Refusal). Fits (count_reply refused x)) is (refusal_fits (refusal Form place)))
+    (λ (g, says, is). subst⁻¹ (λ (x : Result ℕ Refusal). Fits (count_reply refused x)) is (lines_fit g says.writable.few (absent_names g)))
     h
 
 -- ---- the outcomes
@@ -91,4 +91,4 @@ flat_call_unique number flat roots w c₀ l₀ = call_unique (FlatOutcome flat (
 
 pub check_call_unique : (number : Reply → ℕ) (flat : List ℕ) (r r' : ℕ) → CheckCall number flat r → CheckCall number flat r' → r ≡ r'
 check_call_unique number flat r r' h k =
-    h.is_number ∙ ap (λ (answer : Result ℕ Refusal). number (count_reply answer)) (checked_unique flat h.answer k.answer h.outcome k.outcome) ∙ sym k.is_number
+    h.is_number ∙ ap (λ (answer : Result ℕ Refusal). number (count_reply refused answer)) (checked_unique flat h.answer k.answer h.outcome k.outcome) ∙ sym k.is_number

@@ -6,6 +6,7 @@ use lib.ListN.{get_or}
 use Rattle.charset.specs.Set.{characters}
 use Rattle.page.proofs.UniqueLaws.{page_one}
 use Rattle.reply.specs.Answers.{count_reply}
+use Rattle.reply.specs.Reply.{refused}
 use Rattle.reply.specs.declared.Reply.{Reply}
 use Rattle.meadowsink.specs.Page.{PageCall}
 use Rattle.std.specs.Prelude.{Result}
@@ -16,4 +17,4 @@ pub page_call_unique : (number : Reply → ℕ) (b : List ℕ) → ((k : ℕ) �
     → PageCall number b w l page₀ r page → PageCall number b w l page₀ r' page' → (r ≡ r') × (page ≡ page')
 page_call_unique number b bytes w l page₀ r r' page page' h k =
     let (answers, pages) = page_one b bytes w l page₀ h.answer k.answer page page' h.outcome k.outcome in
-    (h.is_number ∙ ap (λ (answer : Result ℕ Refusal). number (count_reply answer)) answers ∙ sym k.is_number, pages)
+    (h.is_number ∙ ap (λ (answer : Result ℕ Refusal). number (count_reply refused answer)) answers ∙ sym k.is_number, pages)

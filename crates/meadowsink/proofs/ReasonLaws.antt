@@ -12,7 +12,7 @@ use Rattle.reason.proofs.ReasonLaws.{reasoned_few}
 use Rattle.reason.specs.Reason.{Behind, plainly, Reasoned}
 use Rattle.reply.proofs.ReplyLaws.{answered_fits}
 use Rattle.reply.specs.Answers.{conflict_reply, reason_reply, cause_value, Few, FewOf}
-use Rattle.reply.specs.Reply.{Fits}
+use Rattle.reply.specs.Reply.{refused, Fits}
 use Rattle.reply.specs.declared.Reply.{Reply}
 use Rattle.reason.specs.declared.Cause.TheVariants.{Higher as ByChain, AtFirst, AtLast}
 use Rattle.std.specs.Prelude.{Bool, Option, Some, None, Result, Ok, Err}
@@ -28,13 +28,13 @@ module _ (b : List ℕ) (p i q : ℕ) (c₀ : List ℕ) (bytes : declarations b 
   reason_few (Ok (Some (AtLast d))) c o = omega (arith, o.behind.1.there)
   reason_few (Err r) c o = tt
 
-  pub reason_fits : (r : Result (Option Cause) Refusal) (c : List ℕ) → Reasoned b p i q c₀ r c → Fits (reason_reply r)
+  pub reason_fits : (r : Result (Option Cause) Refusal) (c : List ℕ) → Reasoned b p i q c₀ r c → Fits (reason_reply refused r)
   unfolding Few FewOf cause_value reason_reply conflict_reply plainly
   reason_fits (Ok None) c o = answered_fits 0 0 (omega arith) (omega arith)
   reason_fits (Ok (Some (ByChain n))) c o = let few : n < byte_values = reason_few (Ok (Some (ByChain n))) c o in answered_fits 1 _ (omega arith) (omega (arith, few))
   reason_fits (Ok (Some (AtFirst d))) c o = let few : d < byte_values = reason_few (Ok (Some (AtFirst d))) c o in answered_fits 1 _ (omega arith) (omega (arith, few))
   reason_fits (Ok (Some (AtLast d))) c o = let few : d < byte_values = reason_few (Ok (Some (AtLast d))) c o in answered_fits 1 _ (omega arith) (omega (arith, few))
-  reason_fits (Err r) c o = subst (λ (a : Result Bool Refusal). Fits (conflict_reply a)) (sym o.plain) (conflict_fits b p i q)
+  reason_fits (Err r) c o = subst (λ (a : Result Bool Refusal). Fits (conflict_reply refused a)) (sym o.plain) (conflict_fits b p i q)
 
 -- ---- one outcome
 
@@ -42,4 +42,4 @@ module _ (b : List ℕ) (p i q : ℕ) (c₀ : List ℕ) (bytes : declarations b 
 pub reason_call_unique : (number : Reply → ℕ) (b : List ℕ) (p i q : ℕ) (c₀ : List ℕ) (r r' : ℕ) (c c' : List ℕ)
     → ReasonCall number b p i q c₀ r c → ReasonCall number b p i q c₀ r' c' → r ≡ r'
 reason_call_unique number b p i q c₀ r r' c c' x y =
-    x.is_number ∙ ap (λ (a : Result (Option Cause) Refusal). number (reason_reply a)) (one_answer b p i q c₀ x.answer y.answer c c' x.outcome y.outcome) ∙ sym y.is_number
+    x.is_number ∙ ap (λ (a : Result (Option Cause) Refusal). number (reason_reply refused a)) (one_answer b p i q c₀ x.answer y.answer c c' x.outcome y.outcome) ∙ sym y.is_number

@@ -4,9 +4,9 @@ use mathlib.Core.List.{List}
 use mathlib.Core.Path.{◌≡◌, refl, sym, ◌∙◌, ap, ap₂}
 use native.Mathlib.Omega.{arith}
 use Rattle.reply.proofs.AnswersLaws.{step_fits}
-use Rattle.reply.proofs.ReplyLaws.{answered_fits, refused_fits}
+use Rattle.reply.proofs.ReplyLaws.{answered_fits, refusal_fits}
 use Rattle.reply.specs.Answers.{count_reply, step_reply, Near}
-use Rattle.reply.specs.Reply.{Fits}
+use Rattle.reply.specs.Reply.{refused, Fits}
 use Rattle.reply.specs.declared.Reply.{Reply}
 use Rattle.sheet.proofs.AnswerLaws.{sheet_read_exactly, step_line_says}
 use Rattle.sheet.proofs.LineLaws.{line_small}
@@ -21,19 +21,19 @@ use Rattle.refusal.specs.declared.Refusal.{Refusal}
 
 -- ---- the sheet
 
-pub sheet_fits : (b s c₀ m₀ : List ℕ) (r : Result ℕ Refusal) (c m : List ℕ) → SheetOutcome b s c₀ m₀ r c m → Fits (count_reply r)
+pub sheet_fits : (b s c₀ m₀ : List ℕ) (r : Result ℕ Refusal) (c m : List ℕ) → SheetOutcome b s c₀ m₀ r c m → Fits (count_reply refused r)
 unfolding count_reply
 sheet_fits b s c₀ m₀ (Ok n) c m o =
     let read = (sheet_read_exactly b s c₀ m₀ (Ok n) c m o n).0 refl in
     let short = ((refusal_none b s).0 (sheet_room b s m₀ read.0).0).1 in
     answered_fits 1 n (omega arith) (omega (arith, read.1, lines_few s))
-sheet_fits b s c₀ m₀ (Err r) c m o = refused_fits r
+sheet_fits b s c₀ m₀ (Err r) c m o = refusal_fits r
 
 -- The number and every byte of the areas, whatever number is made of the reply.
 pub sheet_call_unique : (number : Reply → ℕ) (b s c₀ m₀ : List ℕ) (r r' : ℕ) (c c' m m' : List ℕ) → SheetCall number b s c₀ m₀ r c m → SheetCall number b s c₀ m₀ r' c' m' → (r ≡ r') × (c ≡ c') × (m ≡ m')
 sheet_call_unique number b s c₀ m₀ r r' c c' m m' h k =
     let (answers, charts, summaries) = sheet_unique b s c₀ m₀ h.answer k.answer c c' m m' h.outcome k.outcome in
-    (h.is_number ∙ ap (λ (answer : Result ℕ Refusal). number (count_reply answer)) answers ∙ sym k.is_number, charts, summaries)
+    (h.is_number ∙ ap (λ (answer : Result ℕ Refusal). number (count_reply refused answer)) answers ∙ sym k.is_number, charts, summaries)
 
 -- ---- a step
 
@@ -47,7 +47,7 @@ module _ (b s : List ℕ) (start : ℕ) (c₀ : List ℕ) where
       omega (arith, goes, next_within s start, ((refusal_none b s).0 allowed).1)
   step_near (Err r) next c o = tt
 
-  pub step_call_fits : (r : Step) (next : ℕ) (c : List ℕ) → StepOutcome b s start c₀ r next c → Fits (step_reply r next)
+  pub step_call_fits : (r : Step) (next : ℕ) (c : List ℕ) → StepOutcome b s start c₀ r next c → Fits (step_reply refused r next)
   step_call_fits r next c o =
       step_fits r next (step_near r next c o)
       (λ v e. let (allowed, left, read, goes) = step_line_says b s start c₀ r next c o v e in omega (arith, line_small b (line_at s start) c₀ v c read))
@@ -55,4 +55,4 @@ module _ (b s : List ℕ) (start : ℕ) (c₀ : List ℕ) where
   pub step_call_unique : (number : Reply → ℕ) (r r' : ℕ) (c c' : List ℕ) → StepCall number b s start c₀ r c → StepCall number b s start c₀ r' c' → (r ≡ r') × (c ≡ c')
   step_call_unique number r r' c c' h k =
       let (steps, nexts, charts) = step_unique b s start c₀ h.step k.step h.next k.next c c' h.outcome k.outcome in
-      (h.is_number ∙ ap₂ (λ (x : Step) (n : ℕ). number (step_reply x n)) steps nexts ∙ sym k.is_number, charts)
+      (h.is_number ∙ ap₂ (λ (x : Step) (n : ℕ). number (step_reply refused x n)) steps nexts ∙ sym k.is_number, charts)

@@ -10,25 +10,26 @@ use lib.Seq.{take_all}
 use Rattle.engine.specs.Outcome.{Parsing, UnlessRefused}
 use Rattle.engine.specs.declared.Answer.{Answer}
 use Rattle.refusal.specs.Verdict.{Verdict}
+use Rattle.refusal.specs.declared.Refusal.{Refusal}
 use Rattle.meadowsink.specs.Viewer.{used_limit, Promise, UsedOutcome, CallOutcome}
 use Rattle.parse.proofs.OutcomeLaws.{outcome_unique}
 use Rattle.parse.specs.Outcome.{refusal, reading_by, Outcome}
 use Rattle.reply.proofs.AnswersLaws.{own_read_fits}
-use Rattle.reply.proofs.ReplyLaws.{refused_fits}
+use Rattle.reply.proofs.ReplyLaws.{refusal_fits}
 use Rattle.reply.specs.Answers.{read_reply}
-use Rattle.reply.specs.Reply.{Fits}
+use Rattle.reply.specs.Reply.{refused, Fits}
 use Rattle.reply.specs.declared.Reply.{Reply}
 use Rattle.std.specs.Prelude.{Ok, Err}
 
-pub after_fits : (s : Parsing) (c₀ l₀ : List ℕ) (r : Answer) (c l : List ℕ) (v : Verdict) → length l₀ ≤ used_limit → UnlessRefused v s c₀ l₀ r c l → Fits (read_reply r)
+pub after_fits : (s : Parsing) (c₀ l₀ : List ℕ) (r : Answer Refusal) (c l : List ℕ) (v : Verdict) → length l₀ ≤ used_limit → UnlessRefused v s c₀ l₀ r c l → Fits (read_reply refused r)
 unfolding UnlessRefused read_reply
 after_fits s c₀ l₀ r c l (Ok _) h a = own_read_fits s l₀ r l (omega arith) a.answer
-after_fits s c₀ l₀ r c l (Err x) h a = subst⁻¹ (λ (y : Answer). Fits (read_reply y)) a.0 (refused_fits x)
+after_fits s c₀ l₀ r c l (Err x) h a = subst⁻¹ (λ (y : Answer Refusal). Fits (read_reply refused y)) a.0 (refusal_fits x)
 
 pub used_short : (l₀ : List ℕ) → length (take used_limit l₀) ≤ used_limit
 used_short l₀ = omega (arith, length-take used_limit l₀)
 
-pub read_fits : (b w c₀ l₀ : List ℕ) (r : Answer) (c l : List ℕ) → UsedOutcome (Outcome b w) c₀ l₀ r c l → Fits (read_reply r)
+pub read_fits : (b w c₀ l₀ : List ℕ) (r : Answer Refusal) (c l : List ℕ) → UsedOutcome (Outcome b w) c₀ l₀ r c l → Fits (read_reply refused r)
 unfolding Outcome
 read_fits b w c₀ l₀ r c l o =
     after_fits (reading_by b w) c₀ (take used_limit l₀) r c o.used (refusal b w c₀) (used_short l₀) o.outcome
@@ -52,7 +53,7 @@ module _ (l : List ℕ) (n : ℕ) (e : n ≡ min (length l) used_limit) where
   used_length = omega (arith, length-take n l)
 
   -- an operation that has it kept its promise of the first bytes
-  pub used_outcome : (P : Promise) (c₀ : List ℕ) (r : Answer) (c used : List ℕ) → P c₀ (take n l) r c used → UsedOutcome P c₀ l r c (used ++ drop n l)
+  pub used_outcome : (P : Promise) (c₀ : List ℕ) (r : Answer Refusal) (c used : List ℕ) → P c₀ (take n l) r c used → UsedOutcome P c₀ l r c (used ++ drop n l)
   used_outcome P c₀ r c used o =
       record { used = used; outcome = subst (λ (x : List ℕ). P c₀ x r c used) used_take o; listing = ap (λ (x : List ℕ). used ++ x) used_drop }
 
@@ -60,10 +61,10 @@ module _ (l : List ℕ) (n : ℕ) (e : n ≡ min (length l) used_limit) where
 
 -- a promise that determines its outcome
 abbrev pub Determines : Promise → Type 0
-Determines P = (c₀ l₀ : List ℕ) (r r' : Answer) (c c' l l' : List ℕ) → P c₀ l₀ r c l → P c₀ l₀ r' c' l' → (r ≡ r') × (c ≡ c') × (l ≡ l')
+Determines P = (c₀ l₀ : List ℕ) (r r' : Answer Refusal) (c c' l l' : List ℕ) → P c₀ l₀ r c l → P c₀ l₀ r' c' l' → (r ≡ r') × (c ≡ c') × (l ≡ l')
 
 module _ (P : Promise) (determined : Determines P) (c₀ l₀ : List ℕ) where
-  used_unique : (r r' : Answer) (c c' l l' : List ℕ) → UsedOutcome P c₀ l₀ r c l → UsedOutcome P c₀ l₀ r' c' l' → (r ≡ r') × (c ≡ c') × (l ≡ l')
+  used_unique : (r r' : Answer Refusal) (c c' l l' : List ℕ) → UsedOutcome P c₀ l₀ r c l → UsedOutcome P c₀ l₀ r' c' l' → (r ≡ r') × (c ≡ c') × (l ≡ l')
   used_unique r r' c c' l l' h k =
       let (answers, charts, parts) = determined c₀ (take used_limit l₀) r r' c c' h.used k.used h.outcome k.outcome in (
         answers,
@@ -75,7 +76,7 @@ module _ (P : Promise) (determined : Determines P) (c₀ l₀ : List ℕ) where
   pub call_unique : (number : Reply → ℕ) (r r' : ℕ) (c c' l l' : List ℕ) → CallOutcome number P c₀ l₀ r c l → CallOutcome number P c₀ l₀ r' c' l' → (r ≡ r') × (c ≡ c') × (l ≡ l')
   call_unique number r r' c c' l l' h k =
       let (answers, charts, buffers) = used_unique h.answer k.answer c c' l l' h.outcome k.outcome in
-      (h.is_number ∙ ap (λ (answer : Answer). number (read_reply answer)) answers ∙ sym k.is_number, charts, buffers)
+      (h.is_number ∙ ap (λ (answer : Answer Refusal). number (read_reply refused answer)) answers ∙ sym k.is_number, charts, buffers)
 
 pub viewer_unique : (number : Reply → ℕ) (b w c₀ l₀ : List ℕ) (r r' : ℕ) (c c' l l' : List ℕ) → CallOutcome number (Outcome b w) c₀ l₀ r c l → CallOutcome number (Outcome b w) c₀ l₀ r' c' l'
     → (r ≡ r') × (c ≡ c') × (l ≡ l')

@@ -6,6 +6,7 @@ use Rattle.layout.specs.Limits.{production_limit}
 use Rattle.load.specs.Check.{Checked}
 use Rattle.meadowsink.specs.Viewer.{CallOutcome}
 use Rattle.reply.specs.Answers.{count_reply}
+use Rattle.reply.specs.Reply.{refused}
 use Rattle.reply.specs.declared.Reply.{Reply}
 use Rattle.refusal.specs.declared.Refusal.{Refusal}
 
@@ -21,4 +22,4 @@ FlatCall number flat roots w = CallOutcome number (FlatOutcome flat (root_entrie
 pub record CheckCall (number : Reply → ℕ) (flat : List ℕ) (r : ℕ) : Type 0 where
   pub answer : Result ℕ Refusal
   pub outcome : Checked flat answer
-  pub is_number : r ≡ number (count_reply answer)
+  pub is_number : r ≡ number (count_reply refused answer)

@@ -2,9 +2,10 @@
 use Rattle.std.specs.Prelude.{ℕ, ◌≡◌, List, ◌++◌, take, drop}
 use Rattle.parse.specs.Outcome.{Outcome}
 use Rattle.reply.specs.Answers.{read_reply}
-use Rattle.reply.specs.Reply.{number_of, place_of}
+use Rattle.reply.specs.Reply.{refused, number_of, place_of}
 use Rattle.reply.specs.declared.Reply.{Reply}
 use Rattle.engine.specs.declared.Answer.{Answer}
+use Rattle.refusal.specs.declared.Refusal.{Refusal}
 
 -- most bytes of the listing's buffer that the call uses
 abbrev pub used_limit : ℕ
@@ -12,19 +13,19 @@ used_limit = 65536
 
 -- What an operation that reads a text promises of a chart that held c₀ and a buffer that held l₀: its answer, and what they hold then.
 abbrev pub Promise : Type 1
-Promise = (c₀ l₀ : List ℕ) → Answer → (c l : List ℕ) → Type 0
+Promise = (c₀ l₀ : List ℕ) → Answer Refusal → (c l : List ℕ) → Type 0
 
 -- The answer is the one that it has for the first bytes of the buffer; bytes beyond them stay.
-pub record UsedOutcome (P : Promise) (c₀ l₀ : List ℕ) (r : Answer) (c l : List ℕ) : Type 0 where
+pub record UsedOutcome (P : Promise) (c₀ l₀ : List ℕ) (r : Answer Refusal) (c l : List ℕ) : Type 0 where
   pub used : List ℕ
   pub outcome : P c₀ (take used_limit l₀) r c used
   pub listing : l ≡ used ++ drop used_limit l₀
 
 -- What a call gives that makes a number of the reply for that answer.
 pub record CallOutcome (number : Reply → ℕ) (P : Promise) (c₀ l₀ : List ℕ) (r : ℕ) (c l : List ℕ) : Type 0 where
-  pub answer : Answer
+  pub answer : Answer Refusal
   pub outcome : UsedOutcome P c₀ l₀ answer c l
-  pub is_number : r ≡ number (read_reply answer)
+  pub is_number : r ≡ number (read_reply refused answer)
 
 -- the sheet viewer's call
 abbrev pub ViewerOutcome : (b w c₀ l₀ : List ℕ) (r : ℕ) (c l : List ℕ) → Type 0

@@ -5,6 +5,7 @@ ghost use Rattle.meadowsink.specs.Viewer.{used_limit, UsedOutcome, ViewerOutcome
 
 use engine::Answer;
 use parse::parse;
+use refusal::Refusal;
 use reply::read::read_reply;
 use reply::{number, place};
 
@@ -19,7 +20,7 @@ pub fn used_part(n: usize) -> usize
 }
 
 // Parses with at most the first 65,536 bytes of the listing's buffer.
-fn parse_used(book: &[u8], text: &[u8], chart: &mut [u8], listing: &mut [u8]) -> Answer
+fn parse_used(book: &[u8], text: &[u8], chart: &mut [u8], listing: &mut [u8]) -> Answer<Refusal>
     ensures { UsedOutcome (Outcome book.now text.now) chart.old listing.old result chart.new listing.new }
 {
     let most = used_part(listing.len());

@@ -9,6 +9,7 @@ use crate::read::used_part;
 use archive::parse_flat;
 use engine::Answer;
 use layout::limits::PRODUCTION_LIMIT;
+use refusal::Refusal;
 use reply::read::read_reply;
 use reply::{number, place};
 
@@ -36,7 +37,7 @@ fn parse_used(
     text: &[u8],
     chart: &mut [u8],
     listing: &mut [u8],
-) -> Answer
+) -> Answer<Refusal>
     ensures { UsedOutcome (FlatOutcome flat.now (root_entries roots.now) text.now) chart.old listing.old result chart.new listing.new }
 {
     let most = used_part(listing.len());

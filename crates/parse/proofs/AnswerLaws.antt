@@ -21,13 +21,13 @@ use Rattle.refusal.specs.declared.Fault.TheVariants.{LongText, ShortChart}
 use Rattle.refusal.specs.declared.Refusal.{Refusal}
 use Rattle.refusal.specs.Fault.{number_of}
 
-refused_one : {A : Type 0} {x : Refusal} {n : ℕ} → ◌≡◌ {A = Answer} (Refused x) (One n) → A
+refused_one : {A : Type 0} {x : Refusal} {n : ℕ} → ◌≡◌ {A = Answer Refusal} (Refused x) (One n) → A
 refused_one e = let z : ◌≡◌ {A = ℕ} 0 1 = cc in absurd (omega arith)
 
-same : {x y : Refusal} → ◌≡◌ {A = Answer} (Refused x) (Refused y) → ◌≡◌ {A = Verdict} (Err x) (Err y)
+same : {x y : Refusal} → ◌≡◌ {A = Answer Refusal} (Refused x) (Refused y) → ◌≡◌ {A = Verdict} (Err x) (Err y)
 same e = ap (λ (z : Refusal). Err z) (same_refused e)
 
-module _ (b w c₀ l₀ : List ℕ) (r : Answer) (c l : List ℕ) (o : Outcome b w c₀ l₀ r c l) where
+module _ (b w c₀ l₀ : List ℕ) (r : Answer Refusal) (c l : List ℕ) (o : Outcome b w c₀ l₀ r c l) where
   -- ---- by the verdict before parsing
 
   -- a refusal is the answer, and nothing is changed

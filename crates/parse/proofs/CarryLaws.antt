@@ -14,6 +14,7 @@ use Rattle.engine.specs.Refusals.{too_long, chart_too_short, text_refusal}
 use Rattle.engine.specs.Roots.{parsing_by, TablesOutcome}
 use Rattle.grammar.specs.Formed.{WellFormed}
 use Rattle.refusal.specs.Verdict.{in_order}
+use Rattle.refusal.specs.declared.Refusal.{Refusal}
 use Rattle.layout.specs.Layout.{productions, argument_count}
 use Rattle.parse.specs.Outcome.{needed, reading_by, AcceptedOutcome}
 use Rattle.tables.specs.Layout.{counts_of, arity_in}
@@ -36,7 +37,7 @@ module _ (b : List ℕ) (formed : WellFormed b) (bytes : (k : ℕ) → get_or b 
         }
 
     -- the whole promise
-    pub outcome_carried : (c₀ l₀ : List ℕ) (r : Answer) (c l : List ℕ) → TablesOutcome t w c₀ l₀ r c l → AcceptedOutcome b w c₀ l₀ r c l
+    pub outcome_carried : (c₀ l₀ : List ℕ) (r : Answer Refusal) (c l : List ℕ) → TablesOutcome t w c₀ l₀ r c l → AcceptedOutcome b w c₀ l₀ r c l
     unfolding TablesOutcome AcceptedOutcome text_refusal
     outcome_carried c₀ l₀ r c l h =
         subst (λ (n : ℕ). UnlessRefused (in_order (too_long w ∷ chart_too_short n c₀ ∷ [])) (reading_by b w) c₀ l₀ r c l) (same_needed (length w))

@@ -12,6 +12,7 @@ use Rattle.grammar.proofs.SameFrontLaws.{same_productions, same_count}
 use Rattle.grammar.proofs.TurnedLaws.{turned_front}
 use Rattle.grammar.specs.Turned.{TurnedRound}
 use Rattle.refusal.specs.Verdict.{in_order, Verdict}
+use Rattle.refusal.specs.declared.Refusal.{Refusal}
 use Rattle.layout.specs.Layout.{productions, argument_count}
 use Rattle.parse.specs.Outcome.{needed, reading_by, refusal, Outcome}
 use Rattle.priority.proofs.TurnedLaws.{turned_checked}
@@ -37,7 +38,7 @@ module _ (b c : List ℕ) (t : TurnedRound b c) where
     turned_refusal chart = ap₂ (λ (v : Verdict) (n : ℕ). in_order (v ∷ too_long w ∷ chart_too_short n chart ∷ [])) (turned_checked b c t) (turned_chart_bytes (length w))
 
     -- What is an outcome by the one is one by the other.
-    pub turned_outcome : (c₀ l₀ : List ℕ) (r : Answer) (d l : List ℕ) → Outcome c w c₀ l₀ r d l → Outcome b w c₀ l₀ r d l
+    pub turned_outcome : (c₀ l₀ : List ℕ) (r : Answer Refusal) (d l : List ℕ) → Outcome c w c₀ l₀ r d l → Outcome b w c₀ l₀ r d l
     unfolding Outcome
     turned_outcome c₀ l₀ r d l h =
         unless_same (reading_by c w) (reading_by b w) turned_parsing (refusal b w c₀) c₀ l₀ r d l

@@ -5,6 +5,7 @@ use Rattle.engine.specs.Outcome.{Parsing, UnlessRefused}
 use Rattle.engine.specs.declared.Answer.{Answer}
 use Rattle.engine.specs.Refusals.{too_long, chart_too_short}
 use Rattle.refusal.specs.Verdict.{in_order, Verdict}
+use Rattle.refusal.specs.declared.Refusal.{Refusal}
 use Rattle.layout.specs.Layout.{productions, argument_count}
 use Rattle.flatten.specs.Reading.{Reading, EntryList}
 use Rattle.priority.specs.Check.{checked}
@@ -27,9 +28,9 @@ refusal b w chart = in_order (checked b ∷ too_long w ∷ too_short b w chart �
 
 -- By one of them nothing is changed. Otherwise the answer and every lent byte afterwards are those of the grammar's own trees: chart and buffer held c₀ and l₀
 -- before, and hold c and l afterwards.
-unfoldable pub Outcome : (b w c₀ l₀ : List ℕ) → Answer → (c l : List ℕ) → Type 0
+unfoldable pub Outcome : (b w c₀ l₀ : List ℕ) → Answer Refusal → (c l : List ℕ) → Type 0
 Outcome b w c₀ l₀ r c l = UnlessRefused (refusal b w c₀) (reading_by b w) c₀ l₀ r c l
 
 -- For a grammar that is accepted, 10 and 20 are left.
-unfoldable pub AcceptedOutcome : (b w c₀ l₀ : List ℕ) → Answer → (c l : List ℕ) → Type 0
+unfoldable pub AcceptedOutcome : (b w c₀ l₀ : List ℕ) → Answer Refusal → (c l : List ℕ) → Type 0
 AcceptedOutcome b w c₀ l₀ r c l = UnlessRefused (in_order (too_long w ∷ too_short b w c₀ ∷ [])) (reading_by b w) c₀ l₀ r c l

@@ -7,10 +7,11 @@ ghost use Rattle.parse.specs.Outcome.{Outcome, AcceptedOutcome};
 use engine::{Answer, parse_tables};
 use flatten::flatten;
 use priority::check_grammar;
+use refusal::Refusal;
 use tables::zero_tables;
 
 // Parses a text. The chart and the listing are lent; what they held before is never read.
-pub fn parse(book: &[u8], text: &[u8], chart: &mut [u8], listing: &mut [u8]) -> Answer
+pub fn parse(book: &[u8], text: &[u8], chart: &mut [u8], listing: &mut [u8]) -> Answer<Refusal>
     ensures { Outcome book.now text.now chart.old listing.old result chart.new listing.new }
 {
     match check_grammar(book) {
@@ -20,7 +21,12 @@ pub fn parse(book: &[u8], text: &[u8], chart: &mut [u8], listing: &mut [u8]) -> 
 }
 
 // The same for an accepted grammar.
-pub fn parse_accepted(book: &[u8], text: &[u8], chart: &mut [u8], listing: &mut [u8]) -> Answer
+pub fn parse_accepted(
+    book: &[u8],
+    text: &[u8],
+    chart: &mut [u8],
+    listing: &mut [u8],
+) -> Answer<Refusal>
     requires { WellFormed book.now }
     ensures { AcceptedOutcome book.now text.now chart.old listing.old result chart.new listing.new }
 {

@@ -5,6 +5,7 @@ use Rattle.common.specs.Bytes.{number_at}
 use Rattle.engine.specs.declared.Answer.{Answer}
 use Rattle.engine.specs.declared.Answer.TheVariants.{None, One, Several, Refused}
 use Rattle.refusal.specs.Fault.{number_of}
+use Rattle.refusal.specs.declared.Refusal.{Refusal}
 use Rattle.report.specs.Lines.{refusal_line}
 
 -- a number of a listing, behind a space
@@ -17,7 +18,7 @@ spaced_numbers listing zero = []
 spaced_numbers listing (suc count) = spaced_numbers listing count ++ spaced listing (2 * count)
 
 -- the line of an answer, whose numbers the listing has
-abbrev pub answer_line : Answer → List ℕ → List ℕ
+abbrev pub answer_line : Answer Refusal → List ℕ → List ℕ
 answer_line None listing = codes "none\n"
 answer_line (One count) listing = codes "one" ++ (spaced_numbers listing count ++ codes "\n")
 answer_line Several listing = codes "several\n"

@@ -6,6 +6,7 @@ ghost use Rattle.std.specs.Prelude.{◌+◌, ◌*◌, ◌++◌, ◌≤◌, ◌<�
 ghost use Rattle.std.specs.Io.KnownBytes.{Appends};
 ghost use Rattle.engine.specs.declared.Answer.{Answer};
 ghost use Rattle.parse.specs.Outcome.{Outcome};
+ghost use Rattle.refusal.specs.declared.Refusal.{Refusal};
 ghost use Rattle.reading.specs.Line.{spaced, spaced_numbers, answer_line};
 
 use common::two_bytes;
@@ -32,7 +33,7 @@ fn print_answer<W: Write>(
     chart: &mut [u8],
     listing: &mut [u8],
 ) -> io::Result<()>
-    ensures { OnOk result ((answer : Answer) × Outcome book.now text.now chart.old listing.old answer chart.new listing.new
+    ensures { OnOk result ((answer : Answer Refusal) × Outcome book.now text.now chart.old listing.old answer chart.new listing.new
         × Appends (W.contents out.old) (W.contents out.new) (answer_line answer listing.new)) }
 {
     match parse(book, text, chart, listing) {

@@ -2,15 +2,15 @@
 ghost use Rattle.std.specs.Prelude.{◌≡◌};
 ghost use Rattle.reply.specs.Answers.{check_reply};
 
-use crate::{Reply, answer, refused};
-use refusal::Refusal;
+use crate::{Refuses, Reply, answer};
 
 // Kind 0 is accepted.
-pub fn check_reply(verdict: Result<(), Refusal>) -> Reply
-    ensures { result ≡ check_reply verdict }
+#[tactic(auto, unfolding(crate::specs::Answers::check_reply))]
+pub fn check_reply<R: Refuses>(verdict: Result<(), R>) -> Reply
+    ensures { result ≡ check_reply R.replied verdict }
 {
     match verdict {
         Ok(()) => answer(0, 0),
-        Err(refusal) => refused(refusal),
+        Err(refusal) => refusal.reply(),
     }
 }

@@ -2,12 +2,12 @@
 ghost use Rattle.std.specs.Prelude.{◌≡◌};
 ghost use Rattle.reply.specs.Answers.{conflict_reply};
 
-use crate::{Reply, answer, refused};
-use refusal::Refusal;
+use crate::{Refuses, Reply, answer};
 
 // Kind 0 is no, kind 1 yes.
-pub fn conflict_reply(question: Result<bool, Refusal>) -> Reply
-    ensures { result ≡ conflict_reply question }
+#[tactic(auto, unfolding(crate::specs::Answers::conflict_reply))]
+pub fn conflict_reply<R: Refuses>(question: Result<bool, R>) -> Reply
+    ensures { result ≡ conflict_reply R.replied question }
 {
     match question {
         Ok(conflicts) => {
@@ -16,6 +16,6 @@ pub fn conflict_reply(question: Result<bool, Refusal>) -> Reply
             }
             answer(0, 0)
         }
-        Err(refusal) => refused(refusal),
+        Err(refusal) => refusal.reply(),
     }
 }

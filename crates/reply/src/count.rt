@@ -2,15 +2,15 @@
 ghost use Rattle.std.specs.Prelude.{◌≡◌};
 ghost use Rattle.reply.specs.Answers.{count_reply};
 
-use crate::{Reply, answer, refused};
-use refusal::Refusal;
+use crate::{Refuses, Reply, answer};
 
 // Kind 1 is done; the value is the count.
-pub fn count_reply(counted: Result<usize, Refusal>) -> Reply
-    ensures { result ≡ count_reply counted }
+#[tactic(auto, unfolding(crate::specs::Answers::count_reply))]
+pub fn count_reply<R: Refuses>(counted: Result<usize, R>) -> Reply
+    ensures { result ≡ count_reply R.replied counted }
 {
     match counted {
         Ok(count) => answer(1, count),
-        Err(refusal) => refused(refusal),
+        Err(refusal) => refusal.reply(),
     }
 }

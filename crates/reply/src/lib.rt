@@ -54,6 +54,39 @@ pub fn refused(r: Refusal) -> Reply
     refusal(r.fault.number(), r.place)
 }
 
+// What refuses an input, as a reply: a fault and its place, or any number and a place.
+pub trait Refuses {
+    ghost use Rattle.reply.specs.declared.Reply.{Reply};
+
+    ghost replied: { Self → Reply };
+
+    fn reply(self) -> Reply
+        ensures { result ≡ replied self };
+}
+
+impl Refuses for Refusal {
+    ghost replied = { refused };
+
+    fn reply(self) -> Reply {
+        refused(self)
+    }
+}
+
+// A refusal by its number, whether an operation has it or not.
+#[derive(Clone, Copy, PartialEq, Eq)]
+pub struct Numbered {
+    pub number: usize,
+    pub place: usize,
+}
+
+impl Refuses for Numbered {
+    ghost replied = { λ r. refused_by r.number r.place };
+
+    fn reply(self) -> Reply {
+        refusal(self.number, self.place)
+    }
+}
+
 // The answer as one number, 4 × value + kind.
 pub fn number(reply: Reply) -> u64
     requires { Fits reply }

@@ -2,17 +2,17 @@
 ghost use Rattle.std.specs.Prelude.{◌≡◌};
 ghost use Rattle.reply.specs.Answers.{order_value, compare_reply};
 
-use crate::{Reply, answer, refused};
+use crate::{Refuses, Reply, answer};
 use order::Order;
-use refusal::Refusal;
 
 // Kind 1 is compared; its value says how.
-pub fn compare_reply(compared: Result<Order, Refusal>) -> Reply
-    ensures { result ≡ compare_reply compared }
+#[tactic(auto, unfolding(crate::specs::Answers::compare_reply))]
+pub fn compare_reply<R: Refuses>(compared: Result<Order, R>) -> Reply
+    ensures { result ≡ compare_reply R.replied compared }
 {
     match compared {
         Ok(order) => answer(1, order_value(order)),
-        Err(refusal) => refused(refusal),
+        Err(refusal) => refusal.reply(),
     }
 }
 

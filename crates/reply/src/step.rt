@@ -2,7 +2,7 @@
 ghost use Rattle.std.specs.Prelude.{◌≡◌};
 ghost use Rattle.reply.specs.Answers.{step_reply, Near};
 
-use crate::{Reply, answer, refused};
+use crate::{Refuses, Reply, answer};
 use common::wide;
 use sheet::Stepped;
 
@@ -10,15 +10,16 @@ use sheet::Stepped;
 const SUMMARY_VALUES: usize = 4;
 
 // Kind 0 is no line left, kind 1 a line; the value of a line is 4 × where the next one starts + its summary byte.
-pub fn step_reply(stepped: Stepped) -> Reply
+#[tactic(auto, unfolding(crate::specs::Answers::step_reply))]
+pub fn step_reply<R: Refuses>(stepped: Stepped<R>) -> Reply
     requires { Near stepped.step stepped.next }
-    ensures { result ≡ step_reply stepped.step stepped.next }
+    ensures { result ≡ step_reply R.replied stepped.step stepped.next }
 {
     match stepped.step {
         Ok(line) => match line {
             None => answer(0, 0),
             Some(byte) => answer(1, SUMMARY_VALUES * stepped.next + wide(byte)),
         },
-        Err(refusal) => refused(refusal),
+        Err(refusal) => refusal.reply(),
     }
 }

@@ -2,24 +2,24 @@
 ghost use Rattle.std.specs.Prelude.{◌≡◌};
 ghost use Rattle.reply.specs.Answers.{reason_reply, cause_value, Few, FewOf};
 
-use crate::{Reply, answer, refused};
+use crate::{Refuses, Reply, answer};
 use reason::Cause;
-use refusal::Refusal;
 
 // How many values the line of a conflict may have, with room for none.
 const LINE_VALUES: usize = 4;
 
 // Kind 0 is no conflict, kind 1 a conflict; its value is 4 × the count or the declaration + its line.
-pub fn reason_reply(reason: Result<Option<Cause>, Refusal>) -> Reply
+#[tactic(auto, unfolding(crate::specs::Answers::reason_reply))]
+pub fn reason_reply<R: Refuses>(reason: Result<Option<Cause>, R>) -> Reply
     requires { Few reason }
-    ensures { result ≡ reason_reply reason }
+    ensures { result ≡ reason_reply R.replied reason }
 {
     match reason {
         Ok(cause) => match cause {
             None => answer(0, 0),
             Some(cause) => answer(1, cause_value(cause)),
         },
-        Err(refusal) => refused(refusal),
+        Err(refusal) => refusal.reply(),
     }
 }
 

@@ -34,7 +34,7 @@ use Rattle.refusal.proofs.VerdictLaws.{same_refusal}
 -- ---- by the answer
 
 -- the byte of an answer counts the parses; 22 is one
-answered_counts : (P : Tree → Type 0) (l₀ : List ℕ) (r : Answer) (l : List ℕ) → Answered P l₀ r l → Counts P (byte_of r)
+answered_counts : (P : Tree → Type 0) (l₀ : List ℕ) (r : Answer Refusal) (l : List ℕ) → Answered P l₀ r l → Counts P (byte_of r)
 unfolding Answered Counts byte_of fault_byte
 answered_counts P l₀ None l a = a.0
 answered_counts P l₀ (One n) l a = (a.0, a.1)
@@ -48,7 +48,7 @@ module _ (w chart : List ℕ) (need : ℕ) where
   text_number (Err y) v eu ev x e = omega (arith, ap (λ (z : Refusal). number_of z.fault) (same_refusal {B = ⊤} e), (text_long w (sym eu)).0)
 
   -- What parsing a line promises, with whatever buffer for the listing, is what becomes of the line.
-  pub line_read : (p : Parsing) (l₀ : List ℕ) (r : Answer) (c l : List ℕ)
+  pub line_read : (p : Parsing) (l₀ : List ℕ) (r : Answer Refusal) (c l : List ℕ)
       → UnlessRefused (in_order (too_long w ∷ chart_too_short need chart ∷ [])) p chart l₀ r c l
       → LineRead (in_order (too_long w ∷ chart_too_short need chart ∷ [])) p chart (byte_of r) c
   unfolding UnlessRefused LineRead byte_of fault_byte
@@ -59,11 +59,11 @@ module _ (w chart : List ℕ) (need : ℕ) where
       by_verdict (Err x) small h = (ap byte_of h.0 ∙ ap (λ t. cond t 1 refused_byte) (ne_eqb (number_of x.fault) 22 (λ e. omega (arith, small x refl))), h.1)
 
 -- by a grammar, and by tables
-pub line_by : (b w c₀ l₀ : List ℕ) (r : Answer) (c l : List ℕ) → AcceptedOutcome b w c₀ l₀ r c l → LineBy b w c₀ (byte_of r) c
+pub line_by : (b w c₀ l₀ : List ℕ) (r : Answer Refusal) (c l : List ℕ) → AcceptedOutcome b w c₀ l₀ r c l → LineBy b w c₀ (byte_of r) c
 unfolding AcceptedOutcome LineBy
 line_by b w c₀ l₀ r c l h = line_read w c₀ (needed b (length w)) (reading_by b w) l₀ r c l h
 
-pub tables_line : (t w c₀ l₀ : List ℕ) (r : Answer) (c l : List ℕ) → TablesOutcome t w c₀ l₀ r c l → TablesLine t w c₀ (byte_of r) c
+pub tables_line : (t w c₀ l₀ : List ℕ) (r : Answer Refusal) (c l : List ℕ) → TablesOutcome t w c₀ l₀ r c l → TablesLine t w c₀ (byte_of r) c
 unfolding TablesOutcome TablesLine text_refusal
 tables_line t w c₀ l₀ r c l h = line_read w c₀ _ (parsing_by t w) l₀ r c l h
 
@@ -106,5 +106,5 @@ line_unique b w c₀ n m c d h k = read_unique _ (reading_by b w) c₀ n m c d h
 
 -- So what becomes of a line is what reading it alone gives, with whatever buffer for the listing.
 pub line_alone : (b : List ℕ) → checked b ≡ accepted → (w c₀ : List ℕ) (v : ℕ) (c : List ℕ) → LineBy b w c₀ v c
-    → (l₀ : List ℕ) (r : Answer) (d l : List ℕ) → Outcome b w c₀ l₀ r d l → (v ≡ byte_of r) × (c ≡ d)
+    → (l₀ : List ℕ) (r : Answer Refusal) (d l : List ℕ) → Outcome b w c₀ l₀ r d l → (v ≡ byte_of r) × (c ≡ d)
 line_alone b e w c₀ v c h l₀ r d l o = line_unique b w c₀ v (byte_of r) c d h (line_by b w c₀ l₀ r d l (accepted_grammar b w c₀ l₀ r d l e o))

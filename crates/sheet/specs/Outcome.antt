@@ -26,7 +26,7 @@ unfoldable pub fault_byte : Fault → ℕ
 fault_byte fault = cond (eqb (number_of fault) 22) 1 refused_byte
 
 -- The summary byte of what reading a line answers: 0 none, 1 one, 2 several, 3 refused. One whose listing doesn't fit, refusal 22, is one.
-unfoldable pub byte_of : Answer → ℕ
+unfoldable pub byte_of : Answer Refusal → ℕ
 byte_of None = 0
 byte_of (One n) = 1
 byte_of Several = 2

@@ -24,10 +24,10 @@ const SHEET_LIMIT: usize = 65535;
 // Bytes of a buffer that has room for no number: no listing is written.
 const NO_LISTING: usize = 1;
 
-// A step down a sheet: the summary byte of a line, nothing if no line is left, or a refusal; and where the next line starts after it.
+// A step down a sheet: the summary byte of a line, nothing if no line is left, or why it is refused, here by a Refusal; and where the next line starts after it.
 #[derive(Clone, Copy)]
-pub struct Stepped {
-    pub step: Result<Option<u8>, Refusal>,
+pub struct Stepped<R> {
+    pub step: Result<Option<u8>, R>,
     pub next: usize,
 }
 
@@ -66,7 +66,7 @@ fn check_summary(book: &[u8], sheet: &[u8], summary: &[u8]) -> Result<(), Refusa
 // ---- a line
 
 // The summary byte of what reading a line answers. By 22 there is one reading, whose listing has no room.
-fn summary_byte(answer: Answer) -> u8
+fn summary_byte(answer: Answer<Refusal>) -> u8
     ensures { result ≡ byte_of answer }
 {
     match answer {
@@ -147,7 +147,7 @@ pub fn read_sheet(
 // ---- a step
 
 // The operation "a step down a sheet": the line that starts at a place, and where the next one starts.
-pub fn step_at(book: &[u8], sheet: &[u8], start: usize, chart: &mut [u8]) -> Stepped
+pub fn step_at(book: &[u8], sheet: &[u8], start: usize, chart: &mut [u8]) -> Stepped<Refusal>
     ensures { StepOutcome book.now sheet.now start chart.old result.step result.next chart.new }
 {
     match check_sheet(book, sheet) {
@@ -160,7 +160,7 @@ pub fn step_at(book: &[u8], sheet: &[u8], start: usize, chart: &mut [u8]) -> Ste
 }
 
 // The same for an accepted grammar and a sheet within its limit.
-fn step_accepted(book: &[u8], sheet: &[u8], start: usize, chart: &mut [u8]) -> Stepped
+fn step_accepted(book: &[u8], sheet: &[u8], start: usize, chart: &mut [u8]) -> Stepped<Refusal>
     requires { WellFormed book.now }
     ensures { StepFrom (ltb start (length sheet.now)) book.now sheet.now start chart.old result.step result.next chart.new }
 {
@@ -211,7 +211,7 @@ pub fn next_line<'s, 'a, 'b, 'c>(
 }
 
 // One step of a walker that begins at a place, for callers that keep the place themselves.
-pub fn walk_once(book: &[u8], sheet: &[u8], from: usize, chart: &mut [u8]) -> Stepped
+pub fn walk_once(book: &[u8], sheet: &[u8], from: usize, chart: &mut [u8]) -> Stepped<Refusal>
     ensures { StepOutcome book.now sheet.now from chart.old result.step result.next chart.new }
 {
     let mut walker = walk_from(sheet, from);

@@ -14,7 +14,7 @@ use Rattle.parse.specs.Outcome.{too_short, refusal, reading_by, Outcome}
 use Rattle.priority.specs.Check.{checked}
 use Rattle.engine.specs.declared.Answer.TheVariants.{Refused}
 
-module _ (b w c₀ l₀ : List ℕ) (r : Answer) (c l : List ℕ) (other : (x : Refusal) → r ≡ Refused x → ⊥) where
+module _ (b w c₀ l₀ : List ℕ) (r : Answer Refusal) (c l : List ℕ) (other : (x : Refusal) → r ≡ Refused x → ⊥) where
   answered_accepted : (v : Verdict) → UnlessRefused v (reading_by b w) c₀ l₀ r c l → (v ≡ accepted) × Answered (Reading b w) l₀ r l
   unfolding UnlessRefused
   answered_accepted (Ok _) h = (refl, h.answer)

@@ -30,6 +30,7 @@ use Rattle.form.specs.Form.{Writable, Says}
 use Rattle.grammar.proofs.ArgumentLaws.{sort_no_class}
 use Rattle.grammar.specs.Formed.{WellFormed}
 use Rattle.refusal.specs.Verdict.{Verdict, accepted}
+use Rattle.refusal.specs.declared.Refusal.{Refusal}
 use Rattle.layout.specs.Layout.{productions, start_sort, argument_count, result_sort}
 use Rattle.layout.specs.Limits.{production_limit}
 use Rattle.load.proofs.NamesLaws.{names_accepted, class_accepted}
@@ -147,7 +148,7 @@ module _ (b : List ℕ) (bytes : (k : ℕ) → get_or b k 0 < characters) (good 
         rw ((names_accepted g).1 no_names, root_accepted, good, need) refl
 
     -- What is promised of the flat text is promised of the grammar.
-    pub own_outcome : (c₀ l₀ : List ℕ) (r : Answer) (c l : List ℕ) → FlatOutcome (grammar_text g) (start_entries b) w c₀ l₀ r c l → Outcome b w c₀ l₀ r c l
+    pub own_outcome : (c₀ l₀ : List ℕ) (r : Answer Refusal) (c l : List ℕ) → FlatOutcome (grammar_text g) (start_entries b) w c₀ l₀ r c l → Outcome b w c₀ l₀ r c l
     unfolding Outcome
     own_outcome c₀ l₀ r c l o =
         unless_same (trees_of g (start_entries b) w) (reading_by b w) own_trees (refusal b w c₀) c₀ l₀ r c l

@@ -164,7 +164,7 @@ readings_are_flat b bytes e w t =
 -- ---- demand 3
 
 -- what a text and a chart that are not refused give, whatever the trees
-parsed_exactly : (s : Parsing) (chart₀ l₀ : List ℕ) (r : Answer) (chart l : List ℕ) → Parsed s chart₀ l₀ r chart l → ReadExactly s chart₀ l₀ r chart l
+parsed_exactly : (s : Parsing) (chart₀ l₀ : List ℕ) (r : Answer Refusal) (chart l : List ℕ) → Parsed s chart₀ l₀ r chart l → ReadExactly s chart₀ l₀ r chart l
 unfolding room
 parsed_exactly s chart₀ l₀ r chart l parsed =
     let P = s.parse in
@@ -424,7 +424,7 @@ pub two_readings_part : ReadingsPart
 two_readings_part = readings_part
 
 pub several_readings_part : SeveralPart
-several_readings_part b w chart₀ l₀ r chart l o e = several_part b w chart₀ l₀ chart l (subst (λ (a : Answer). Outcome b w chart₀ l₀ a chart l) e o)
+several_readings_part b w chart₀ l₀ r chart l o e = several_part b w chart₀ l₀ chart l (subst (λ (a : Answer Refusal). Outcome b w chart₀ l₀ a chart l) e o)
 
 pub twins_refused : TwinsRefused
 twins_refused b bytes place e = refused_twins b bytes (refused_first b e)

@@ -137,19 +137,19 @@ pub record FlatExactly (b out₀ : List ℕ) : Type 0 where
   pub unwritten : (x : Refusal) (text : List ℕ) → buffer_after (Err x) text out₀ ≡ out₀
 
 -- Reading a text is refused with 1 to 9, 10 and 20 exactly so, and by these refusals nothing is changed.
-pub record ReadingRefused (b w chart₀ l₀ : List ℕ) (r : Answer) (chart l : List ℕ) : Type 0 where
+pub record ReadingRefused (b w chart₀ l₀ : List ℕ) (r : Answer Refusal) (chart l : List ℕ) : Type 0 where
   pub grammar : (x : Refusal) → number_of x.fault ≤ 9 → (r ≡ NotRead x) ↔ (checked b ≡ Err x)
   pub ten : (k : ℕ) → (r ≡ NotRead (refusal LongText k)) ↔ ((checked b ≡ accepted) × (text_limit < length w) × (k ≡ length w))
   pub twenty : (k : ℕ) → (r ≡ NotRead (refusal ShortChart k)) ↔ ((checked b ≡ accepted) × (length w ≤ text_limit) × (k ≡ needed b (length w)) × (length chart₀ < k))
   pub unchanged : (x : Refusal) → (number_of x.fault ≡ 22 → ⊥) → r ≡ NotRead x → (chart ≡ chart₀) × (l ≡ l₀)
 
 abbrev pub Refuses : Type 0
-Refuses = (b w chart₀ l₀ : List ℕ) (r : Answer) (chart l : List ℕ) → Outcome b w chart₀ l₀ r chart l → ReadingRefused b w chart₀ l₀ r chart l
+Refuses = (b w chart₀ l₀ : List ℕ) (r : Answer Refusal) (chart l : List ℕ) → Outcome b w chart₀ l₀ r chart l → ReadingRefused b w chart₀ l₀ r chart l
 
 -- What was lent determines the answer and every byte afterwards.
 abbrev pub OneOutcome : Type 0
 OneOutcome =
-    (b w chart₀ l₀ : List ℕ) (r r' : Answer) (chart chart' l l' : List ℕ)
+    (b w chart₀ l₀ : List ℕ) (r r' : Answer Refusal) (chart chart' l l' : List ℕ)
     → Outcome b w chart₀ l₀ r chart l → Outcome b w chart₀ l₀ r' chart' l' → (r ≡ r') × (chart ≡ chart') × (l ≡ l')
 
 -- A listing is found right exactly if it is that of a reading and nothing is refused; the refusals come exactly so. For every w and l, and every b of bytes.
@@ -204,7 +204,7 @@ ReadingsAreFlat =
 
 -- A `Parsing` (engine/specs/Outcome) says which trees are the readings of a text of `size` characters, and which lists of trees each entry of the chart counts, for `count`
 -- productions with so many arguments each: for a grammar `reading_by b w`, with `Reading b w` and `EntryList b w`; for a flat text `trees_of` (request 7).
-pub record ReadExactly (s : Parsing) (chart₀ l₀ : List ℕ) (r : Answer) (chart l : List ℕ) : Type 0 where
+pub record ReadExactly (s : Parsing) (chart₀ l₀ : List ℕ) (r : Answer Refusal) (chart l : List ℕ) : Type 0 where
   pub none : (r ≡ None) ↔ ((t : Tree) → s.parse t → ⊥)
   pub several : (r ≡ Several) ↔ Two s.parse
   pub one : (n : ℕ) → (r ≡ One n) ↔ ((t : Tree) × Only s.parse t × (n ≡ length (listing t)) × (2 * n ≤ length l₀))
@@ -220,7 +220,7 @@ pub record ReadExactly (s : Parsing) (chart₀ l₀ : List ℕ) (r : Answer) (ch
 
 abbrev pub Read : Type 0
 Read =
-    (b w chart₀ l₀ : List ℕ) (r : Answer) (chart l : List ℕ) → Outcome b w chart₀ l₀ r chart l
+    (b w chart₀ l₀ : List ℕ) (r : Answer Refusal) (chart l : List ℕ) → Outcome b w chart₀ l₀ r chart l
     → checked b ≡ accepted → length w ≤ text_limit → needed b (length w) ≤ length chart₀ → ReadExactly (reading_by b w) chart₀ l₀ r chart l
 
 -- ---- "I need it over trees and not over a search, because what comes next is lodging flat books without our software, and a later reader must find what we found."
@@ -373,7 +373,7 @@ pub record TurnedSame (b c : List ℕ) : Type 0 where
   pub flat : flat_grammar c ≡ flat_grammar b
   pub written : (room : ℕ) → flat_answer c room ≡ flat_answer b room
   pub reading : (w : List ℕ) (t : Tree) → Reading c w t ↔ Reading b w t
-  pub outcome : (w chart₀ l₀ : List ℕ) (r : Answer) (chart l : List ℕ) → Outcome c w chart₀ l₀ r chart l ↔ Outcome b w chart₀ l₀ r chart l
+  pub outcome : (w chart₀ l₀ : List ℕ) (r : Answer Refusal) (chart l : List ℕ) → Outcome c w chart₀ l₀ r chart l ↔ Outcome b w chart₀ l₀ r chart l
   pub listing : (w l : List ℕ) → listing_answer c w l ≡ listing_answer b w l
   pub compare : (w l m : List ℕ) (r : CompareAnswer) → Compared c w l m r ↔ Compared b w l m r
   pub page : (w l page₀ : List ℕ) (r : Result ℕ Refusal) (page : List ℕ) → PageOutcome c w l page₀ r page ↔ PageOutcome b w l page₀ r page
@@ -424,7 +424,7 @@ pub record NeverSix (b : List ℕ) (k : ℕ) : Type 0 where
   pub check : RefusedBy (checked b) 6 k → ⊥
   pub question : (p i q : ℕ) → RefusedBy (conflict_answer b p i q) 6 k → ⊥
   pub flat : (room : ℕ) → RefusedBy (flat_answer b room) 6 k → ⊥
-  pub reading : (w chart₀ l₀ : List ℕ) (r : Answer) (chart l : List ℕ) → Outcome b w chart₀ l₀ r chart l → (x : Refusal) → r ≡ NotRead x → number_of x.fault ≡ 6 → ⊥
+  pub reading : (w chart₀ l₀ : List ℕ) (r : Answer Refusal) (chart l : List ℕ) → Outcome b w chart₀ l₀ r chart l → (x : Refusal) → r ≡ NotRead x → number_of x.fault ≡ 6 → ⊥
   pub listing : (w l : List ℕ) → RefusedBy (listing_answer b w l) 6 k → ⊥
   pub compare : (w l m : List ℕ) (r : CompareAnswer) → Compared b w l m r → RefusedBy r 6 k → ⊥
   pub page : (w l : List ℕ) (room : ℕ) → RefusedBy (page_answer b w l room) 6 k → ⊥
@@ -464,7 +464,7 @@ Sheets = (b s chart₀ m₀ : List ℕ) (r : Result ℕ Refusal) (chart m : List
 
 -- "0 none, 1 one, 2 several, 3 refused. Only refusals 10 and 20 can fall on a line": a line's byte is that of the answer of reading it alone, whatever buffer is lent for
 -- a listing (`byte_of`, sheet/specs/Outcome; one whose listing doesn't fit there, 22, is one), and its chart is that reading's.
-pub record LineAlone (v : ℕ) (chart : List ℕ) (r : Answer) (chart' : List ℕ) : Type 0 where
+pub record LineAlone (v : ℕ) (chart : List ℕ) (r : Answer Refusal) (chart' : List ℕ) : Type 0 where
   pub byte : v ≡ byte_of r
   pub chart_same : chart ≡ chart'
   pub numbers : (x : Refusal) → r ≡ NotRead x → (number_of x.fault ≡ 10) ⊎ ((number_of x.fault ≡ 20) ⊎ (number_of x.fault ≡ 22))
@@ -472,7 +472,7 @@ pub record LineAlone (v : ℕ) (chart : List ℕ) (r : Answer) (chart' : List �
 abbrev pub LinesAlone : Type 0
 LinesAlone =
     (b : List ℕ) → checked b ≡ accepted → (w chart₀ : List ℕ) (v : ℕ) (chart : List ℕ) → LineBy b w chart₀ v chart
-    → (l₀ : List ℕ) (r : Answer) (chart' l : List ℕ) → Outcome b w chart₀ l₀ r chart' l → LineAlone v chart r chart'
+    → (l₀ : List ℕ) (r : Answer Refusal) (chart' l : List ℕ) → Outcome b w chart₀ l₀ r chart' l → LineAlone v chart r chart'
 
 -- "No line is left once the start is at or past the sheet's end; a start inside a line takes its rest as the line; refused for the book or by 25, it stays where it is."
 -- A step is refused, or gives no line, exactly so, and then the walker stays where it is and the chart as it was. Otherwise the line from the start on is read, and the
@@ -529,7 +529,7 @@ ReadingsPart = (b : List ℕ) → checked b ≡ accepted → (w : List ℕ) (t u
 -- So whoever gets "several" has two readings whose listings part so.
 abbrev pub SeveralPart : Type 0
 SeveralPart =
-    (b w chart₀ l₀ : List ℕ) (r : Answer) (chart l : List ℕ) → Outcome b w chart₀ l₀ r chart l → r ≡ Several
+    (b w chart₀ l₀ : List ℕ) (r : Answer Refusal) (chart l : List ℕ) → Outcome b w chart₀ l₀ r chart l → r ≡ Several
     → (t : Tree) × (u : Tree) × Reading b w t × Reading b w u × Part b (listing t) (listing u)
 
 -- Refusal 8 names a production p with an earlier one q that takes a line in no other way: over the same arguments f there is a tree with p exactly if there is one with q.
@@ -640,7 +640,7 @@ abbrev pub ChecksFlat : Type 0
 ChecksFlat = (text : List ℕ) (r : Result ℕ Refusal) → Checked text r → CheckedExactly text r
 
 -- So are the refusals of reading, in order; "or the root …, else the lowest at the root". By none of them is anything changed.
-pub record FlatRefused (flat : List ℕ) (roots : List Bool) (w chart₀ l₀ : List ℕ) (r : Answer) (chart l : List ℕ) : Type 0 where
+pub record FlatRefused (flat : List ℕ) (roots : List Bool) (w chart₀ l₀ : List ℕ) (r : Answer Refusal) (chart l : List ℕ) : Type 0 where
   pub not_in_form : (k : ℕ) → (r ≡ NotRead (refusal Form k)) ↔ NotInForm flat k
   pub absent : (g : List Line) → Says flat g → (k : ℕ) → (r ≡ NotRead (refusal NoLine k)) ↔ (FirstNamed g k ⊎ (((p i q : ℕ) → Names g p i q → ⊥) × LowestRoot g roots k))
   pub ten : (g : List Line) → Says flat g → (k : ℕ) → (r ≡ NotRead (refusal LongText k)) ↔ (AllThere g roots × (text_limit < length w) × (k ≡ length w))
@@ -649,19 +649,19 @@ pub record FlatRefused (flat : List ℕ) (roots : List Bool) (w chart₀ l₀ : 
   pub unchanged : (x : Refusal) → (number_of x.fault ≡ 22 → ⊥) → r ≡ NotRead x → (chart ≡ chart₀) × (l ≡ l₀)
 
 abbrev pub RefusesFlat : Type 0
-RefusesFlat = (flat : List ℕ) (roots : List Bool) (w chart₀ l₀ : List ℕ) (r : Answer) (chart l : List ℕ) → FlatOutcome flat roots w chart₀ l₀ r chart l → FlatRefused flat roots w chart₀ l₀ r chart l
+RefusesFlat = (flat : List ℕ) (roots : List Bool) (w chart₀ l₀ : List ℕ) (r : Answer Refusal) (chart l : List ℕ) → FlatOutcome flat roots w chart₀ l₀ r chart l → FlatRefused flat roots w chart₀ l₀ r chart l
 
 -- Otherwise demand 3 holds of the trees of its lines (`Generated`, Definition 3.4) with an allowed line at the root (`trees_of`, archive/specs/Outcome).
 abbrev pub ReadFlat : Type 0
 ReadFlat =
-    (flat : List ℕ) (roots : List Bool) (w chart₀ l₀ : List ℕ) (r : Answer) (chart l : List ℕ) → FlatOutcome flat roots w chart₀ l₀ r chart l
+    (flat : List ℕ) (roots : List Bool) (w chart₀ l₀ : List ℕ) (r : Answer Refusal) (chart l : List ℕ) → FlatOutcome flat roots w chart₀ l₀ r chart l
     → (g : List Line) → Says flat g → AllThere g roots → length w ≤ text_limit → chart_bytes (line_arity g) (length g) (length w) ≤ length chart₀
     → ReadExactly (trees_of g roots w) chart₀ l₀ r chart l
 
 -- What was lent determines the answer and every byte afterwards.
 abbrev pub OneFlatOutcome : Type 0
 OneFlatOutcome =
-    (flat : List ℕ) (roots : List Bool) (w chart₀ l₀ : List ℕ) (r r' : Answer) (chart chart' l l' : List ℕ)
+    (flat : List ℕ) (roots : List Bool) (w chart₀ l₀ : List ℕ) (r r' : Answer Refusal) (chart chart' l l' : List ℕ)
     → FlatOutcome flat roots w chart₀ l₀ r chart l → FlatOutcome flat roots w chart₀ l₀ r' chart' l' → (r ≡ r') × (chart ≡ chart') × (l ≡ l')
 
 -- The entries for the root that are the numbers of the start sort's rules.
@@ -674,7 +674,7 @@ abbrev pub LodgedAndRead : Type 0
 LodgedAndRead =
     (b : List ℕ) → Bytes b → (out₀ : List ℕ) (n : ℕ) → flat_answer b (length out₀) ≡ Ok n
     → let lodged = take n (buffer_after (flat_answer b (length out₀)) (grammar_text (flat_grammar b)) out₀) in
-    (w chart₀ l₀ : List ℕ) (r r' : Answer) (chart chart' l l' : List ℕ)
+    (w chart₀ l₀ : List ℕ) (r r' : Answer Refusal) (chart chart' l l' : List ℕ)
     → Outcome b w chart₀ l₀ r chart l → FlatOutcome lodged (start_entries b) w chart₀ l₀ r' chart' l' → (r ≡ r') × (chart ≡ chart') × (l ≡ l')
 
 -- The places of 27 that are easily taken for others, each computed (form/specs/Corners); and a text of 64 lines stops at the first byte behind them.
