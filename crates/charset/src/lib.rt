@@ -53,8 +53,8 @@ impl<const W: usize> Bits<W> {
     }
 
     // Whether the number is in the set.
-    pub fn contains(self, c: usize) -> bool
-        ensures { result ≡ has self.entry.words c }
+    pub fn contains(&self, c: usize) -> bool
+        ensures { result ≡ has self.now.words c }
     {
         if W <= c / 64 {
             return false;

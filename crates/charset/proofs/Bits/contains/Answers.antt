@@ -10,7 +10,7 @@ use Rattle.charset.proofs.Bits.contains.Goals as goal
 pub returns-then-c : goal.returns-then-c
 unfolding has
 returns-then-c g c =
-    rw (get_or-eq_default c.args.self.words 0 {n = c.args.c / word_bits} (omega arith), bit_zero (c.args.c % word_bits)) refl
+    rw (get_or-eq_default c.args.self.now.words 0 {n = c.args.c / word_bits} (omega arith), bit_zero (c.args.c % word_bits)) refl
 
 pub returns : goal.returns
 unfolding has bit
