@@ -28,7 +28,7 @@ pub fn parse_flat(
     let mut tables = zero_tables();
     match load(flat, &mut tables) {
         Ok(_) => parse_loaded(&mut tables, roots, text, chart, listing),
-        Err(refusal) => Answer::Refused(refusal),
+        Err(flaw) => Answer::Refused(flaw),
     }
 }
 

@@ -479,7 +479,7 @@ LinesAlone =
 -- others start behind it. What was lent determines all of it.
 pub record StepExactly (b s : List ℕ) (start : ℕ) (chart₀ : List ℕ) (r : Step) (next : ℕ) (chart : List ℕ) : Type 0 where
   pub grammar : (x : Refusal) → number_of x.fault ≤ 9 → (r ≡ Err x) ↔ (checked b ≡ Err x)
-  pub too_long : TooLong b s r
+  pub too_long : (k : ℕ) → (r ≡ refused LongSheet k) ↔ ((checked b ≡ accepted) × (65535 < length s) × (k ≡ length s))
   pub no_other : (x : Refusal) → r ≡ Err x → (number_of x.fault ≤ 9) ⊎ (number_of x.fault ≡ 25)
   pub end : (r ≡ Ok Nothing) ↔ (((checked b ≡ accepted) × (length s ≤ 65535)) × (length s ≤ start))
   pub stays : ((v : ℕ) → r ≡ Ok (Some v) → ⊥) → (next ≡ start) × (chart ≡ chart₀)
