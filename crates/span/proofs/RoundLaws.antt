@@ -40,6 +40,21 @@ visited_join {j = j} {a = a} {b = b} v w =
     bit_or_lem false true = omega arith
     bit_or_lem false false = omega arith
 
+-- a production that is not pending is passed over
+pub visited_past : {s : Span} {i j : ℕ} {pending args x pending' args' x' : List ℕ} {rose : Bool}
+    → Visited s i j pending args x pending' args' x' rose → get_or pending' j 0 ≡ 0
+    → Visited s i (j + 1) pending args x pending' args' x' rose
+visited_past {j = j} v e =
+    record {
+      small = v.small;
+      agree = v.agree;
+      came = v.came;
+      rests = v.rests;
+      less = v.less;
+      calm = v.calm;
+      done = λ f p l m. by_cases (dec_lt p j) (λ n. v.done f p l n) (λ n. let g : p ≡ j = omega arith in rw g e);
+    }
+
 -- ---- a round
 
 -- the first row, and the first row of the next production

@@ -14,7 +14,7 @@ use Rattle.tables.specs.Layout.{arity_in, row_count}
 use Rattle.common.proofs.BelowLaws.{sum_bound}
 use Rattle.layout.specs.Limits.{production_limit}
 use Rattle.span.proofs.AdvanceLaws.{advanced_within}
-use Rattle.span.proofs.VisitLaws.{visited_idle, visited_same, visited_rose}
+use Rattle.span.proofs.VisitLaws.{visited_same, visited_rose}
 use Rattle.span.specs.Span.{whole, used_sum, argument_of, step_of}
 use Rattle.span.specs.Tables.{user_at, use_at, span_of, Links, Loads, Exact, Founded, step_in, advanced, Visited}
 use Rattle.common.specs.Bytes.{byte_values}
@@ -74,10 +74,6 @@ module _ {counts users uses inner front back args x : List ℕ} (q base : ℕ)
     unfolding step_in step_of span_of
     table_steps y r e = rw e refl
 
-    -- a visit ends at once if the production is not pending
-    pub table_idle : get_or pending q 0 ≡ 0 → Visited (span_of counts users inner front back bare) q (q + 1) pending args x pending args x false
-    table_idle e = visited_idle q (q + 1) founded.small agree (λ p l k. let f : p ≡ q = omega arith in rw f e)
-
     module _ (m n : ℕ) (y : List ℕ) (e : m ≡ arity_in counts q) (f : n ≡ arity_in counts q) (g : y ≡ advanced inner front back args base n x) where
       -- the cells, and the row of the count
       table_cells : y ≡ advanced inner front back args base (arity_in counts q) x
@@ -87,7 +83,7 @@ module _ {counts users uses inner front back args x : List ℕ} (q base : ℕ)
       unfolding whole row_of
       table_whole = omega (arith, place.1, e)
 
-      -- or when its count has stayed
+      -- a visit ends when the count of the production has stayed
       pub table_same : q < length pending → get_or y (base + m) 0 ≡ get_or x (base + m) 0
           → Visited (span_of counts users inner front back bare) q (q + 1) pending args x (set pending q 0) args y false
       unfolding span_of

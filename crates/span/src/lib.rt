@@ -87,7 +87,7 @@ fn mark(pending: &mut [u8], uses: &[u8])
     }
 }
 
-// Looks at production q, whose rows begin at `base`, if it is pending: true if its count rose.
+// Looks at production q, whose rows begin at `base`: true if its count rose.
 // `inner`, `front` and `back` are three slices: as one struct they take a quarter more time.
 fn visit(
     links: &LinkTables,
@@ -106,9 +106,6 @@ fn visit(
     requires q_in_bounds { (q < length links.now.counts.now) × (base ≡ row_of (arity_in links.now.counts.now) q 0) }
     ensures { (bare : ℕ → ℕ) → Exact (span_of links.now.counts.now links.now.users.now inner.now front.now back.now bare) cells.old args.old → Visited (span_of links.now.counts.now links.now.users.now inner.now front.now back.now bare) q (q + 1) pending.old args.old cells.old pending.new args.new cells.new result }
 {
-    if pending[q] == 0 {
-        return false;
-    }
     pending[q] = 0;
     let whole = base + wide(links.counts[q]);
     let before = cells[whole];
@@ -130,6 +127,7 @@ fn visit(
 }
 
 // Looks at every pending production once: true if a count rose.
+// Whether one is pending is asked here, once its rows are counted: in other forms this loop is slower at some addresses (docs/BENCHMARKS.md).
 fn round(
     links: &LinkTables,
     inner: &[u8],
@@ -147,8 +145,11 @@ fn round(
     let mut rose = false;
     let mut base = 0;
     for (q, count) in links.counts.iter().enumerate() {
-        rose |= visit(links, inner, front, back, pending, args, cells, q, base);
+        let first = base;
         base += wide(*count) + 1;
+        if pending[q] != 0 {
+            rose |= visit(links, inner, front, back, pending, args, cells, q, first);
+        }
     }
     rose
 }

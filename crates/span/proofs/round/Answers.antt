@@ -1,10 +1,11 @@
 -- `round` meets its contract: the productions before q have been looked at, and q's rows begin at `base`.
-use mathlib.Core.Path.{refl, ◌∙◌}
+use mathlib.Core.Path.{refl}
 use native.Mathlib.Omega.{arith}
 use Rattle.tables.specs.Layout.{arity_in}
-use Rattle.span.proofs.RoundLaws.{visited_join, base_first, base_next}
+use Rattle.span.proofs.RoundLaws.{visited_join, visited_past, base_first, base_next}
 use Rattle.span.proofs.TableLaws.{table_room}
 use Rattle.span.proofs.VisitLaws.{visited_idle}
+use Rattle.span.proofs.round.Goals.{then-pending-q-ne0, else-pending-q-ne0}
 use Rattle.span.proofs.round.Goals as goal
 
 pub loop-q-init : goal.loop-q-init
@@ -27,9 +28,12 @@ overflow_add-base-in-loop-q c =
 pub loop-q-preserved : goal.loop-q-preserved
 loop-q-preserved c =
     let h = c.loop-q in (
-      λ bare agree. let v = h.invariant.0 bare agree in visited_join v (c.visit-rose.ensures bare v.agree),
-      c.pending-1.given ∙ h.invariant.1,
-      c.args-1.given ∙ h.invariant.2,
-      c.cells-1.given ∙ h.invariant.3,
+      λ bare agree. let v = h.invariant.0 bare agree in elim c.if-pending-q-ne0.branch [
+        | then-pending-q-ne0 w ↦ rw (w.pending-is, w.args-is, w.cells-is, w.rose-is) (visited_join v (w.visit-rose.ensures bare v.agree))
+        | else-pending-q-ne0 w ↦ rw (w.pending-is, w.args-is, w.cells-is, w.rose-is) (visited_past v w.if-pending-q-ne0.false)
+      ],
+      search,
+      search,
+      search,
       base_next (arity_in c.args.links.now.counts.now) h.q h.base c.wide.result h.invariant.4 c.wide.ensures,
     )

@@ -1,14 +1,8 @@
--- `visit` meets its contract: each of its three ends is one of the laws of a visit.
+-- `visit` meets its contract: each of its two ends is one of the laws of a visit.
 use Prim.Native.Nat.{◌+◌}
 use native.Mathlib.Omega.{arith}
-use Rattle.span.proofs.TableLaws.{part_outside, table_room, table_within, table_fits, table_idle, table_same, table_rose}
+use Rattle.span.proofs.TableLaws.{part_outside, table_room, table_within, table_fits, table_same, table_rose}
 use Rattle.span.proofs.visit.Goals as goal
-
-pub returns-then-pending-q-eq0 : goal.returns-then-pending-q-eq0
-returns-then-pending-q-eq0 c bare agree =
-    let a = c.args in
-    let p = c.requires in
-    table_idle a.q a.base c.args.links.now.linked c.requires.loads c.requires.founded c.requires.q_in_bounds a.pending.now bare agree c.if-pending-q-eq0.true
 
 pub overflow_add-whole : goal.overflow_add-whole
 overflow_add-whole c =
