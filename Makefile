@@ -12,7 +12,7 @@ CASE_CRATES := grammar_cases conflict_cases flat_cases listing_cases page_cases 
 CASES := 100000
 MANY_CASES := 1000000
 
-.PHONY: run test lib programs viewer stack constants sizes unused second second-long faults examples check-examples bench books check-books cases store-cases check clean
+.PHONY: run test lib programs viewer stack constants sizes unused second second-long faults examples check-examples bench places books check-books cases store-cases check clean
 
 # the line 8/4*2 read by book T
 run:
@@ -141,6 +141,10 @@ bench: $(BUILD)/bench
 $(BUILD)/bench: tools/bench/*.rs $(LIBRARY)
 	mkdir -p $(BUILD)
 	$(RUSTC) -o $@ tools/bench/main.rs $(LINK)
+
+# the calls of OTHER, another archive of the library, beside this one's, each linked at four places: make places OTHER=FILE BOOK=FILE TEXT=FILE
+places: $(LIBRARY)
+	sh tests/places.sh $(BOOK) $(TEXT) $(OTHER) $(LIBRARY)
 
 # ---- stored cases
 
