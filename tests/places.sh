@@ -2,6 +2,10 @@
 # Times calls of two archives of the library or more, each linked behind 0, 16, 32 and 48 bytes: places.sh BOOK TEXT ARCHIVE...
 # An archive's functions may lie at any multiple of 16 bytes, and how long a loop takes can depend on that (docs/BENCHMARKS.md, "Where the code lies").
 set -e
+if [ $# -lt 3 ]; then
+    echo 'usage: places.sh BOOK TEXT ARCHIVE...' >&2
+    exit 2
+fi
 book=$1 text=$2
 shift 2
 folder=$(mktemp -d)

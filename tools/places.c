@@ -64,9 +64,9 @@ static uint64_t call(const struct library *l, size_t index)
     case 9: return l->sheet(book, book_length, sheet, sheet_length, chart, sizeof chart, summary, sizeof summary);
     case 10: return l->sheet_step(book, book_length, sheet, sheet_length, 0, chart, sizeof chart);
     case 11: return l->check_flat(flat, flat_length);
-    case 12: return l->read_flat(flat, flat_length, roots, book[1], text, text_length, chart, sizeof chart, out, sizeof listing);
+    case 12: return l->read_flat(flat, flat_length, roots, sizeof roots, text, text_length, chart, sizeof chart, out, sizeof listing);
     case 13: return l->read(book, book_length, text, 0, chart, sizeof chart, out, sizeof listing);
-    default: return l->read_flat(flat, flat_length, roots, book[1], text, 0, chart, sizeof chart, out, sizeof listing);
+    default: return l->read_flat(flat, flat_length, roots, sizeof roots, text, 0, chart, sizeof chart, out, sizeof listing);
     }
 }
 
@@ -156,6 +156,7 @@ int main(int count, char **words)
     for (size_t k = 0; k < n; k++) load(words[4 + k], &libraries[k]);
     uint64_t written = libraries[0].flat(book, book_length, flat, sizeof flat);
     flat_length = written % 4 == 1 ? written / 4 : 0;
+    memset(roots, 1, sizeof roots); /* each line is allowed at the root */
     for (int k = 0; k < LINES; k++) {
         memcpy(sheet + sheet_length, text, text_length);
         sheet_length += text_length;
